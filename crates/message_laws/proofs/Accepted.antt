@@ -1,0 +1,119 @@
+-- What the writer puts out, the reader accepts, with the fields' bytes in order. Assumes nothing.
+use mathlib.Core.Path.{_≡_, refl, ap, sym, _∙_}
+use mathlib.Core.List.{List, [], _∷_, _++_, append-nil}
+use Prim.Native.Nat.{ℕ, _+_, _^_, _<_, _≤_}
+use native.Mathlib.Omega.{arith}
+use lib.Dec.{ltb}
+use lib.ListN.{length, take, length-append}
+use lib.Seq.{take-at, drop-at, take-all}
+use borrow.Author.Tests.{ltb-false, le-ltb}
+use Rattle.wire.specs.Choice.{pick}
+use Rattle.wire.specs.Be.{bytesBe}
+use Rattle.wire.proofs.Numbers.{be-bytes, length-bytes}
+use Rattle.wire.proofs.Picks.{pick-case}
+use Rattle.layout.specs.Layout.{Layout, Known, known, unknown, layoutOf}
+use Rattle.message_read.specs.Reading.{read, fields, ending, body, messageOf, roomed, message}
+use Rattle.message_read.proofs.Whole.{Whole}
+use Rattle.message_write.specs.Writing.{Written, faulty, wrote, fieldsFrom, Put, refusedPut, putOut, whole, bodyFrom, written}
+use Rattle.message_laws.specs.Contents.{contents}
+use Rattle.message_laws.proofs.ReadBack.{Stands, Same, Reads, read-back}
+
+-- ---- what was put out
+
+-- a type byte, the length, and the body's bytes
+abbrev message-of : ℕ → List ℕ → List ℕ
+message-of t c = t ∷ bytesBe 4 (length c + 4) ++ c
+
+-- the body of the message b that was put out
+record Sent (t : ℕ) (w : Written) (b : List ℕ) : Type 0 where
+  bytes : List ℕ
+  outcome : w ≡ wrote bytes []
+  short : length bytes + 4 ≤ 65535
+  is : message-of t bytes ≡ b
+
+-- a refusal puts nothing out
+refuse : {A : Type 0} (n : ℕ) (b : List ℕ) → refusedPut n ≡ putOut b → A
+refuse n b e = let z : _≡_ {A = ℕ} 0 1 = cc in absurd (omega arith)
+
+sent : (t room : ℕ) (w : Written) (b : List ℕ) → whole t room w ≡ putOut b → Sent t w b
+unfolding whole
+sent t room faulty b = refuse 6 b
+sent t room (wrote c (w ∷ ws)) b = refuse 6 b
+sent t room (wrote c []) b =
+    let P : Put → Type 0 = λ x. x ≡ putOut b → Sent t (wrote c []) b in
+    pick-case P (ltb 65535 (length c + 4)) (refusedPut 2) _ (λ _. refuse 2 b)
+    (λ l. pick-case P (ltb room (length c + 5)) (refusedPut 32) (putOut (message-of t c)) (λ _. refuse 32 b)
+    (λ _ e. record { bytes = c; outcome = refl; short = ltb-false 65535 (length c + 4) l; is = cc }))
+
+known-sent : (k : Known) (t : ℕ) (ws src : List ℕ) (room : ℕ) (b : List ℕ) → bodyFrom k t ws src room ≡ putOut b → (l : Layout) × (k ≡ known l) × Sent t (fieldsFrom l src ws) b
+unfolding bodyFrom
+known-sent unknown t ws src room b e = refuse 3 b e
+known-sent (known l) t ws src room b e = (l, refl, sent t room (fieldsFrom l src ws) b e)
+
+-- ---- what is accepted
+
+-- a whole message is read, where its list has room: the other way round from what Whole.antt proves
+is-read : (side : ℕ) (s : List ℕ) (n u : ℕ) (ws : List ℕ) → Whole side s n u ws → (room : ℕ) → length ws ≤ room → message side s room ≡ read u ws
+unfolding message roomed messageOf body ending pick
+is-read side s n u ws w room h =
+    rw (
+      ← (w .size),
+      le-ltb (length s) 5 (w .long),
+      le-ltb n 4 (w .low),
+      le-ltb 65535 n (w .high),
+      le-ltb (length s) (n + 1) (w .fits),
+      w .kind,
+      w .body .outcome,
+      le-ltb u (length (take (n + 1) s)) (w .body .end),
+      le-ltb room (length ws) h,
+    )
+
+-- the message of a body c is whole, once its fields are read
+module _ (t : ℕ) (c : List ℕ) where
+  long : 5 + length c ≡ length (message-of t c)
+  long = simp (length-append, length-bytes) (omega arith)
+
+  stands : Stands (message-of t c) 5 c
+  stands =
+      record {
+        inside = omega (arith, long);
+        rest = [];
+        is = drop-at (bytesBe 4 (length c + 4)) c 4 (length-bytes 4 (length c + 4)) ∙ sym (append-nil c);
+      }
+
+  accepted : (side : ℕ) (l : Layout) (us : List ℕ) → length c + 4 ≤ 65535 → layoutOf side t ≡ known l → fields l (message-of t c) 5 ≡ read (5 + length c) us
+      → Whole side (message-of t c) (length c + 4) (length (message-of t c)) us
+  accepted side l us h k e =
+      record {
+        size =
+            rw (take-at (bytesBe 4 (length c + 4)) c 4 (length-bytes 4 (length c + 4)))
+            (sym (be-bytes 4 (length c + 4) (omega arith)));
+        long = omega (arith, long);
+        low = omega arith;
+        high = h;
+        fits = omega (arith, long);
+        layout = l;
+        kind = k;
+        body =
+            rw (take-all (length c + 4 + 1) (message-of t c) (omega (arith, long)))
+            (record { outcome = e ∙ ap (λ (n : ℕ). read n us) long; end = omega arith });
+      }
+
+-- What the writer puts out is read, and used whole; the list names the bytes that the writer's list named in the source.
+pub accepted-back : (side t : ℕ) (ws src : List ℕ) (room : ℕ) (b : List ℕ) → written side t ws src room ≡ putOut b → (room′ : ℕ) → length ws ≤ room′
+    → (us : List ℕ) × (message side b room′ ≡ read (length b) us) × (contents b us ≡ contents src ws) × (length us ≡ length ws)
+unfolding written contents
+accepted-back side t ws src room b e room′ h =
+    let (l, k, d) = known-sent (layoutOf side t) t ws src room b e in
+    let c = d .bytes in
+    let m = message-of t c in
+    let small : length m < 256 ^ 4 = omega (arith, long t c, d .short) in
+    let x : Reads m src (fields l m 5) (5 + length c) ws [] = (rw (d .outcome) at (read-back m small src l 5 ws)) (stands t c) in
+    let same : Same m (x .words) src ws = rw (append-nil (x .words)) at (x .carry [] (record { contents-are = refl; length-is = refl })) in
+    let w = accepted t c side l (x .words) (d .short) k (x .is) in
+    rw (← (d .is)) (
+      x .words,
+      is-read side m (length c + 4) (length m) (x .words) w room′ (omega (arith, same .length-is)),
+      same .contents-are,
+      same .length-is,
+    )

@@ -1,0 +1,5 @@
+pub mod Fields
+pub mod Walks
+pub mod Trusted
+pub mod Whole
+pub mod Ends

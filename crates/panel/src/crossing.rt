@@ -1,0 +1,58 @@
+// Words cross as bytes, four to a word, the highest first.
+ghost use mathlib.Core.Path.{_≡_};
+ghost use mathlib.Core.Bool.{Bool};
+ghost use Prim.Native.Nat.{ℕ, _*_, _≤_};
+ghost use lib.ListN.{length};
+ghost use lib.Seq.{sets};
+ghost use Rattle.panel.specs.Crossing.{wordsIn, bytesOut, crosses, wordRoom};
+
+// The most words that cross.
+pub const MOST: usize = 8192;
+
+// Calls with few words do with an array of this many, which is quicker to clear than one of MOST.
+pub const FEW: usize = 1024;
+
+// Whether n bytes are whole words, and not too many.
+pub fn whole_words(n: usize) -> bool
+    ensures { λ r. ⌜ r ≡ crosses n ⌝ }
+{
+    if n % 4 == 0 {
+        return n <= 32768;
+    }
+    false
+}
+
+// The room for words in n bytes.
+pub fn word_room(n: usize) -> usize
+    ensures { λ r. ⌜ r ≡ wordRoom n ⌝ }
+{
+    if n <= 32768 {
+        return n / 4;
+    }
+    MOST
+}
+
+// The words of the bytes, put at the start of `words`.
+pub fn take_words(bytes: &[u8], words: &mut [u32])
+    requires { ⌜ length (now bytes) ≤ 4 * length (now words) ⌝ }
+    ensures { λ _. ⌜ now (words .exit) ≡ sets (now (words .entry)) 0 (wordsIn (now (bytes .entry))) ⌝ }
+{
+    let n = bytes.len() / 4;
+    let mut i = 0;
+    while i < n {
+        words[i] = wire::be::u32_at(bytes, 4 * i);
+        i += 1;
+    }
+}
+
+// The bytes of the words, put at the start of `out`.
+pub fn put_words(words: &[u32], out: &mut [u8])
+    requires { ⌜ 4 * length (now words) ≤ length (now out) ⌝ }
+    ensures { λ _. ⌜ now (out .exit) ≡ sets (now (out .entry)) 0 (bytesOut (now (words .entry))) ⌝ }
+{
+    let mut i = 0;
+    while i < words.len() {
+        wire::be::put_u32(out, 4 * i, words[i]);
+        i += 1;
+    }
+}

@@ -1,0 +1,6 @@
+-- The laws that this crate's proofs cite, and other crates' too. Assumes nothing.
+pub mod Picks
+pub mod Tables
+pub mod Numbers
+pub mod Stores
+pub mod Sequences

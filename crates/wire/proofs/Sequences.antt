@@ -1,0 +1,200 @@
+-- The laws of well-formed UTF-8: a first byte by the table, a sequence a byte at a time, and runs of plain bytes. Assumes nothing.
+use mathlib.Core.Path.{_≡_, refl, ap, sym, _∙_}
+use mathlib.Core.Bool.{Bool, true, false}
+use mathlib.Core.List.{List, [], _∷_}
+use Prim.Native.Nat.{ℕ, zero, suc, _+_, _-_, _<_, _≤_}
+use native.Mathlib.Omega.{arith}
+use native.Mathlib.Nat.{add-zero, add-suc, suc-add, add-assoc, le-refl, not-suc-le-zero}
+use native.Mathlib.Numerals.{add-one, sub-one}
+use native.Mathlib.Decide.{decLt}
+use lib.Dec.{leb, ltb, eqb}
+use lib.ListN.{length, drop, getD, length-drop, drop-of-length-le}
+use lib.Seq.{drop-cons, drop-drop}
+use borrow.Author.Tests.{leb-true, lt-leb, lt-ltb, le-ltb, ltb-true, eqb-true}
+use Rattle.wire.specs.Choice.{pick}
+use Rattle.wire.specs.Utf8.{Range, _to_, within, table, after, goesOn, wellFormed, plainRun}
+use Rattle.wire.specs.Scan.{follower, followers, ahead, second, Begins, Sequence, plainEnd, Plain}
+use Rattle.wire.proofs.Picks.{pick-yes, pick-no, pick-case, both, clash}
+use Rattle.wire.proofs.Tables.{each, each-at}
+
+-- ---- a first byte: what the table says is computed at each byte
+
+abbrev pub same : List Range → List Range → Bool
+same [] [] = true
+same [] (r ∷ rs) = false
+same (q ∷ qs) [] = false
+same (q ∷ qs) (r ∷ rs) = pick (pick (eqb (q .low) (r .low)) (eqb (q .high) (r .high)) false) (same qs rs) false
+
+same-is : (qs rs : List Range) → same qs rs ≡ true → qs ≡ rs
+same-is [] [] t = refl
+same-is [] (r ∷ rs) t = clash t
+same-is (q ∷ qs) [] t = clash t
+same-is (q ∷ qs) (r ∷ rs) t =
+    let a = both (pick (eqb (q .low) (r .low)) (eqb (q .high) (r .high)) false) (same qs rs) t in
+    let b = both (eqb (q .low) (r .low)) (eqb (q .high) (r .high)) (a .0) in
+    let l : q .low ≡ r .low = eqb-true (q .low) (r .low) (b .0) in
+    let h : q .high ≡ r .high = eqb-true (q .high) (r .high) (b .1) in
+    let e = same-is qs rs (a .1) in
+    let f = ends (q .low) (r .low) (q .high) (r .high) l h in
+    cc
+  where
+    ends : (a b c d : ℕ) → a ≡ b → c ≡ d → a to c ≡ b to d
+    ends a b c d e f = cc
+
+-- what is said to follow a first byte is the table's at any of the n bytes from l, where that is so, by computation, at each of them
+pub row-is : (f : ℕ → List Range) (l n : ℕ) → each (λ b. same (f b) (after table b)) l n ≡ true → (b : ℕ) → l ≤ b → b < l + n → f b ≡ after table b
+row-is f l n t b p q = same-is (f b) (after table b) (each-at (λ b. same (f b) (after table b)) l n t b p q)
+
+-- ---- a sequence, a byte at a time
+
+-- the first k bytes at i begin a sequence of which n are yet to come, the first of them in r
+pub record Going (s : List ℕ) (i k n : ℕ) (r : Range) : Type 0 where
+  pub goes : goesOn [] (drop i s) ≡ goesOn (ahead n r) (drop (i + k) s)
+
+ahead-followers : (n : ℕ) → followers n ≡ ahead n follower
+unfolding followers ahead
+ahead-followers zero = refl
+ahead-followers (suc n) = refl
+
+length-followers : (n : ℕ) → length (followers n) ≡ n
+unfolding followers
+length-followers zero = refl
+length-followers (suc n) = ap suc (length-followers n)
+
+length-ahead : (n : ℕ) (r : Range) → length (ahead n r) ≡ n
+unfolding ahead
+length-ahead zero r = refl
+length-ahead (suc n) r = ap suc (length-followers n)
+
+-- a next byte
+next : (s : List ℕ) (j : ℕ) (r : Range) (n : ℕ) → 0 < n → j < length s → goesOn (ahead n r) (drop j s) ≡ pick (within r (getD s j 0)) (goesOn (ahead (n - 1) follower) (drop (j + 1) s)) false
+unfolding goesOn ahead
+next s j r zero p h = absurd (not-suc-le-zero p)
+next s j r (suc n) p h = rw (add-one, sub-one, drop-cons s j 0, ahead-followers n)
+
+-- too few bytes
+short : (rs : List Range) (l : List ℕ) → length l < length rs → goesOn rs l ≡ false
+unfolding goesOn pick
+short [] l h = absurd (not-suc-le-zero h)
+short (r ∷ rs) [] h = refl
+short (r ∷ rs) (b ∷ l) h = pick-case (λ (t : Bool). t ≡ false) (within r b) (goesOn rs l) false (λ _. short rs l (omega arith)) (λ _. refl)
+
+module _ (s : List ℕ) (i : ℕ) where
+  nothing : i ≤ length s → goesOn [] (drop i s) ≡ false → Sequence s i 0
+  unfolding pick
+  nothing h e = record { inside = omega arith; same = e }
+
+  pub begun : (n : ℕ) (r : Range) → i < length s → ahead n r ≡ after table (getD s i 0) → Going s i 1 n r
+  unfolding goesOn
+  begun n r h e = record { goes = rw (e, add-one, drop-cons s i 0) }
+
+  module _ (k n : ℕ) (r : Range) (g : Going s i k n r) where
+    pub passed : 0 < n → i + k < length s → within r (getD s (i + k) 0) ≡ true → Going s i (k + 1) (n - 1) follower
+    passed p h w =
+        record {
+          goes =
+              g .goes
+              ∙ next s (i + k) r n p h
+              ∙ pick-yes (within r (getD s (i + k) 0)) (goesOn (ahead (n - 1) follower) (drop (i + k + 1) s)) false w
+              ∙ rw add-assoc;
+        }
+
+    pub broken : 0 < n → i + k < length s → within r (getD s (i + k) 0) ≡ false → Sequence s i 0
+    broken p h w =
+        nothing (omega arith)
+        (g .goes
+        ∙ next s (i + k) r n p h
+        ∙ pick-no (within r (getD s (i + k) 0)) (goesOn (ahead (n - 1) follower) (drop (i + k + 1) s)) false w)
+
+    pub cut : i + k ≤ length s → length s < i + k + n → Sequence s i 0
+    cut p h = nothing (omega arith) (g .goes ∙ short (ahead n r) (drop (i + k) s) (simp (length-drop, length-ahead) (omega arith)))
+
+    pub whole : n ≡ 0 → 0 < k → i + k ≤ length s → Sequence s i k
+    unfolding ahead pick
+    whole e p h = record { inside = h; same = rw (lt-ltb 0 k p) (g .goes ∙ rw e) }
+
+-- the first byte at i is one of the m bytes from l
+module _ (s : List ℕ) (i l m : ℕ) where
+  -- n bytes follow it, which is computed at each of them
+  pub begins : (n : ℕ) → each (λ b. same (ahead n (second b)) (after table b)) l m ≡ true → i < length s → 0 < n → n < 4 → l ≤ getD s i 0 → getD s i 0 < l + m → Begins s i n
+  begins n t h p q f g =
+      record { inside = h; some = p; few = q; row = row-is (λ b. ahead n (second b)) l m t (getD s i 0) f g }
+
+  -- no row has it: then a range that no byte is in is to follow
+  pub stray : each (λ b. same ((1 to 0) ∷ []) (after table b)) l m ≡ true → i < length s → l ≤ getD s i 0 → getD s i 0 < l + m → Sequence s i 0
+  unfolding ahead followers within
+  stray t h f g =
+      let b = getD s (i + 1) 0 in
+      let o = begun s i 1 (1 to 0) h (row-is (λ _. (1 to 0) ∷ []) l m t (getD s i 0) f g) in
+      elim (decLt (i + 1) (length s)) [
+        | yes p ↦ broken s i 1 1 (1 to 0) o (omega arith) p (pick-case (λ (t : Bool). t ≡ false) (leb 1 b) (leb b 0) false (λ q. lt-leb b 0 (leb-true 1 b q)) (λ _. refl))
+        | no p ↦ cut s i 1 1 (1 to 0) o (omega arith) (omega arith)
+      ]
+
+-- what a sequence, or none, says of the text from i on
+module _ (s : List ℕ) (i n : ℕ) (q : Sequence s i n) where
+  pub sequence-none : n ≡ 0 → goesOn [] (drop i s) ≡ false
+  sequence-none e = q .same ∙ pick-no (ltb 0 n) (goesOn [] (drop (i + n) s)) false (le-ltb 0 n (omega arith))
+
+  pub sequence-on : (n ≡ 0 → ⊥) → goesOn [] (drop i s) ≡ goesOn [] (drop (i + n) s)
+  sequence-on e = q .same ∙ pick-yes (ltb 0 n) (goesOn [] (drop (i + n) s)) false (lt-ltb 0 n (omega (arith, e)))
+
+pub ended : (s : List ℕ) (i : ℕ) → length s ≤ i → goesOn [] (drop i s) ≡ true
+unfolding goesOn
+ended s i h = rw (drop-of-length-le s h)
+
+-- ---- runs of plain bytes
+
+module _ (s : List ℕ) (i : ℕ) where
+  pub plain-next : i < length s → getD s i 0 < 0x80 → plainEnd s i ≡ plainEnd s (i + 1)
+  unfolding plainRun pick
+  plain-next h p = rw (add-one, drop-cons s i 0, lt-ltb (getD s i 0) 0x80 p) (rw (add-suc, suc-add))
+
+  pub plain-stop : i < length s → 0x80 ≤ getD s i 0 → plainEnd s i ≡ i
+  unfolding plainRun pick
+  plain-stop h p = rw (drop-cons s i 0, le-ltb (getD s i 0) 0x80 p) (add-zero i)
+
+  pub plain-over : length s ≤ i → plainEnd s i ≡ i
+  unfolding plainRun
+  plain-over h = rw (drop-of-length-le s h) (add-zero i)
+
+-- a run that goes on to the end, or stops before it, ends there
+pub plain-ends : (s : List ℕ) (i r : ℕ) → Plain s i r → (r < length s → plainEnd s r ≡ r) → r ≡ plainEnd s i
+plain-ends s i r p f = sym (p .same ∙ elim (decLt r (length s)) [ yes l ↦ f l | no l ↦ plain-over s r (omega arith) ])
+
+pub plain-run : (s : List ℕ) (i n : ℕ) → i + n ≤ length s → ((k : ℕ) → k < n → getD s (i + k) 0 < 0x80) → plainEnd s i ≡ plainEnd s (i + n)
+plain-run s i zero h p = rw add-zero
+plain-run s i (suc n) h p =
+    plain-run s i n (omega arith) (λ k l. p k (omega arith))
+    ∙ plain-next s (i + n) (omega arith) (p n (omega arith))
+    ∙ rw (add-one, add-suc)
+
+plain-length : (l : List ℕ) → plainRun l ≤ length l
+unfolding plainRun
+plain-length [] = omega arith
+plain-length (b ∷ l) = pick-case (λ (n : ℕ). n ≤ suc (length l)) (ltb b 0x80) (suc (plainRun l)) 0 (λ _. let h = plain-length l in omega arith) (λ _. omega arith)
+
+plain-first : (b : ℕ) → b < 0x80 → after table b ≡ []
+unfolding after table within pick
+plain-first b h = sym (row-is (λ _. []) 0 0x80 refl b (omega arith) (omega arith))
+
+-- plain bytes are sequences
+plain-go : (l : List ℕ) → goesOn [] l ≡ goesOn [] (drop (plainRun l) l)
+unfolding plainRun goesOn pick
+plain-go [] = refl
+plain-go (b ∷ l) =
+    pick-case (λ (n : ℕ). goesOn (after table b) l ≡ goesOn [] (drop n (b ∷ l))) (ltb b 0x80) (suc (plainRun l)) 0
+    (λ e. ap (λ (r : List Range). goesOn r l) (plain-first b (ltb-true b 0x80 e)) ∙ plain-go l)
+    (λ _. refl)
+
+module _ (s : List ℕ) (i : ℕ) where
+  pub plain-inside : i ≤ length s → plainEnd s i ≤ length s
+  plain-inside h = let p = plain-length (drop i s) in omega (arith, length-drop i s)
+
+  pub plain-goes : goesOn [] (drop i s) ≡ goesOn [] (drop (plainEnd s i) s)
+  plain-goes = plain-go (drop i s) ∙ rw drop-drop
+
+-- text that is all plain
+pub plain-well : (s : List ℕ) → plainRun s ≡ length s → wellFormed s ≡ true
+unfolding wellFormed
+plain-well s e = plain-go s ∙ rw e (ended s (length s) (le-refl (length s)))

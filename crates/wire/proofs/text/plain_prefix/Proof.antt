@@ -1,0 +1,54 @@
+-- `wire::text::plain_prefix` meets its contract. The invariant: all bytes up to `i` are plain. Assumes nothing.
+use mathlib.Core.Path.{refl, _∙_}
+use Prim.Native.Nat.{_-_, _≤_}
+use native.Mathlib.Omega.{arith}
+use borrow.Author.Needs.{needs}
+use Rattle.wire.specs.Scan.{Plain}
+use Rattle.wire.proofs.Sequences.{plain-next, plain-stop}
+use Rattle.wire.proofs.text.plain_prefix.Statement.{statement}
+use Rattle.wire.proofs.text.plain_prefix.Tie as tie
+
+abbrev Inv-loop : tie.InvT-loop
+Inv-loop s from end i₀ i = (i ≤ end) × (Plain s from i)
+
+abbrev μ-loop : tie.MeasureT-loop
+μ-loop s from end i₀ i = end - i
+
+loop-holds : tie.Need-loop-holds Inv-loop μ-loop
+loop-holds c = (c .pre .0, record { onward = omega arith; inside = omega arith; same = refl })
+
+shared-slice-read-if1 : tie.Need-shared-slice-read-if1 Inv-loop μ-loop
+shared-slice-read-if1 c = search needs
+
+returns : tie.Need-returns Inv-loop μ-loop
+returns c =
+    record { plain = c .before .before .before .loop .inv .1; bound = omega arith; stops = λ h. plain-stop (c .before .before .before .before .args .s .now) (c .before .before .before .loop .i) (omega arith) (c .if1 .taken) }
+
+add-i : tie.Need-add-i Inv-loop μ-loop
+add-i c = search needs
+
+loop-less : tie.Need-loop-less Inv-loop μ-loop
+loop-less c = search needs
+
+loop-again : tie.Need-loop-again Inv-loop μ-loop
+loop-again c =
+    let p = c .before .before .before .loop .inv .1 in
+    (omega arith, record { onward = omega arith; inside = omega arith; same = p .same ∙ plain-next (c .before .before .before .before .args .s .now) (c .before .before .before .loop .i) (omega arith) (c .if1 .left) })
+
+returns-2 : tie.Need-returns-2 Inv-loop μ-loop
+returns-2 c =
+    record { plain = c .before .loop .inv .1; bound = omega arith; stops = λ h. absurd (omega arith) }
+
+pub plain-prefix-spec : {M : Type 1} → statement M
+plain-prefix-spec =
+    tie.close
+    (tie.spec
+    Inv-loop
+    μ-loop
+    loop-holds
+    shared-slice-read-if1
+    returns
+    add-i
+    loop-less
+    loop-again
+    returns-2)

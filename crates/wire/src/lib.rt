@@ -1,0 +1,4 @@
+// Numbers, text and copies of bytes, as EdgeDB's messages and values have them.
+pub mod be;
+pub mod copy;
+pub mod text;

@@ -1,0 +1,68 @@
+//! The calls as a C host makes them: numbers and lent bytes in, one answer and written bytes out.
+
+use crate::message;
+use crate::refusal::{self, Refusal};
+use crate::words;
+
+/// The four numbers that every call returns.
+#[derive(Clone, Copy, Debug, Default, PartialEq, Eq)]
+pub struct Answer {
+    pub number: u32,
+    pub place: u32,
+    pub first: u32,
+    pub second: u32,
+}
+
+impl Answer {
+    /// On success number and place are 0 (reading 1.1).
+    fn accepted(first: usize, second: usize) -> Answer {
+        Answer {
+            number: 0,
+            place: 0,
+            first: first as u32,
+            second: second as u32,
+        }
+    }
+
+    /// "A refusal returns number and place, all else zero".
+    fn refused(refusal: Refusal) -> Answer {
+        Answer {
+            number: refusal.number,
+            place: refusal.place,
+            first: 0,
+            second: 0,
+        }
+    }
+}
+
+/// `rembulfose_read_message`: first = bytes used, second = words written.
+pub fn read_message(side: u32, src: &[u8], list: &mut [u8]) -> Answer {
+    match message::read_message(side, src, words::room(list)) {
+        Ok(read) => {
+            words::put(&read.words, list);
+            Answer::accepted(read.used, read.words.len())
+        }
+        Err(refusal) => Answer::refused(refusal),
+    }
+}
+
+/// `rembulfose_write_message`: first = bytes written.
+pub fn write_message(side: u32, type_byte: u8, list: &[u8], src: &[u8], out: &mut [u8]) -> Answer {
+    match written(side, type_byte, list, src, out.len()) {
+        Ok(message) => {
+            out[..message.len()].copy_from_slice(&message);
+            Answer::accepted(message.len(), 0)
+        }
+        Err(number) => Answer::refused(Refusal::at_start(number)),
+    }
+}
+
+/// A list that cannot cross is 6 at 6's own turn, so an unknown type byte comes before it
+/// (reading 1.2).
+fn written(side: u32, type_byte: u8, list: &[u8], src: &[u8], room: usize) -> Result<Vec<u8>, u32> {
+    if message::layout(side, type_byte).is_none() {
+        return Err(refusal::UNKNOWN_TYPE);
+    }
+    let words = words::from_bytes(list).ok_or(refusal::BAD_FIELD)?;
+    message::write_message(side, type_byte, &words, src, room)
+}

@@ -1,0 +1,14 @@
+//! The independent second program. It is written from document 01 and the source documents alone,
+//! in the plainest Rust that says what they say, and never from the library's own code: where the
+//! two agree on many inputs, a mistake would have to have been made twice.
+//!
+//! * [`message`] reads and writes the ten messages on words and bytes.
+//! * [`refusal`] has the refusal numbers of both.
+//! * [`crossing`] is the same as a C host sees it: lists as bytes, and one [`crossing::Answer`].
+//!
+//! "01" in a comment is document 01, "reading" the project's paper on how it is read.
+
+pub mod crossing;
+pub mod message;
+pub mod refusal;
+mod words;

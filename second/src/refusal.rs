@@ -1,0 +1,39 @@
+//! Refusals: 01, "Refusal numbers".
+
+/// Message not whole yet.
+pub const NOT_WHOLE: u32 = 1;
+/// Length field under 4 or over 65,535.
+pub const BAD_LENGTH: u32 = 2;
+/// Type byte unknown for that side.
+pub const UNKNOWN_TYPE: u32 = 3;
+/// A field runs past the message's end.
+pub const FIELD_PAST_END: u32 = 4;
+/// Message bytes left over.
+pub const BYTES_LEFT: u32 = 5;
+/// Field content not permitted.
+pub const BAD_FIELD: u32 = 6;
+/// List room too small.
+pub const LIST_ROOM: u32 = 31;
+/// Output room too small.
+pub const OUTPUT_ROOM: u32 = 32;
+
+/// Why something was not accepted, and where.
+#[derive(Clone, Copy, Debug, PartialEq, Eq)]
+pub struct Refusal {
+    pub number: u32,
+    pub place: u32,
+}
+
+impl Refusal {
+    pub(crate) fn at(number: u32, place: usize) -> Refusal {
+        Refusal {
+            number,
+            place: place as u32,
+        }
+    }
+
+    /// A refusal whose place is 0 by the table.
+    pub(crate) fn at_start(number: u32) -> Refusal {
+        Refusal::at(number, 0)
+    }
+}

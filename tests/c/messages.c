@@ -1,0 +1,229 @@
+/* The message calls as a C host makes them, on cases worked out by hand.
+ *
+ *     cc -std=c11 -Wall -Wextra tests/c/messages.c target/staticlib/libpanel.a -o target/c-messages
+ *
+ * Bytes are written in hex, spaces for the eye only. Every room is filled before the call and looked
+ * at whole after it, with some bytes more on either side.
+ */
+#include "../../include/rembulfose.h"
+
+#include <stdio.h>
+#include <string.h>
+
+enum { CLIENT = 0, SERVER = 1 };
+enum { FILL = 0xa5, MARGIN = 16, MOST = 512 };
+
+static unsigned passed, failed;
+
+static rembulfose_answer accepted(uint32_t first, uint32_t second) {
+    return (rembulfose_answer){0, 0, first, second};
+}
+
+static rembulfose_answer refused(uint32_t number, uint32_t place) {
+    return (rembulfose_answer){number, place, 0, 0};
+}
+
+static void count(const char *name, int good) {
+    if (good) {
+        passed++;
+    } else {
+        failed++;
+        printf("failed: %s\n", name);
+    }
+}
+
+static int digit(char letter) {
+    return letter <= '9' ? letter - '0' : letter - 'a' + 10;
+}
+
+/* The bytes of a text in hex; how many is returned. */
+static size_t bytes_of(const char *hex, uint8_t *bytes) {
+    size_t length = 0;
+    while (*hex) {
+        if (*hex == ' ') {
+            hex++;
+        } else {
+            bytes[length++] = (uint8_t)(digit(hex[0]) << 4 | digit(hex[1]));
+            hex += 2;
+        }
+    }
+    return length;
+}
+
+static int same_answer(rembulfose_answer one, rembulfose_answer other) {
+    return one.number == other.number && one.place == other.place && one.first == other.first &&
+           one.second == other.second;
+}
+
+/* Whether memory with a margin on either side holds these bytes, and all else is as it was. */
+static int holds(const uint8_t *memory, const uint8_t *bytes, size_t length) {
+    uint8_t expected[MARGIN + MOST + MARGIN];
+    memset(expected, FILL, sizeof expected);
+    memcpy(expected + MARGIN, bytes, length);
+    return memcmp(memory, expected, sizeof expected) == 0;
+}
+
+/* Reads `source`; the room of so many bytes must then start with `list`. */
+static void reading(const char *name, uint32_t side, const char *source, size_t room,
+                    rembulfose_answer expected, const char *list) {
+    uint8_t src[MOST], words[MOST], memory[MARGIN + MOST + MARGIN];
+    size_t src_length = bytes_of(source, src), words_length = bytes_of(list, words);
+    memset(memory, FILL, sizeof memory);
+    rembulfose_answer answer = rembulfose_read_message(side, src, src_length, memory + MARGIN, room);
+    count(name, same_answer(answer, expected) && holds(memory, words, words_length));
+}
+
+/* Writes from `list` and `source`; the room of so many bytes must then start with `message`. */
+static void writing(const char *name, uint32_t side, uint8_t type, const char *list,
+                    const char *source, size_t room, rembulfose_answer expected,
+                    const char *message) {
+    uint8_t words[MOST], src[MOST], bytes[MOST], memory[MARGIN + MOST + MARGIN];
+    size_t words_length = bytes_of(list, words), src_length = bytes_of(source, src);
+    size_t length = bytes_of(message, bytes);
+    memset(memory, FILL, sizeof memory);
+    rembulfose_answer answer = rembulfose_write_message(side, type, words, words_length, src,
+                                                        src_length, memory + MARGIN, room);
+    count(name, same_answer(answer, expected) && holds(memory, bytes, length));
+}
+
+/* A good message and its list: read with a byte after it, and written again. */
+static void good(const char *name, uint32_t side, const char *message, const char *list) {
+    uint8_t bytes[MOST], words[MOST];
+    char followed[2 * MOST];
+    uint32_t length = (uint32_t)bytes_of(message, bytes);
+    uint32_t words_length = (uint32_t)bytes_of(list, words);
+    snprintf(followed, sizeof followed, "%s ff", message);
+    reading(name, side, followed, words_length, accepted(length, words_length / 4), list);
+    writing(name, side, bytes[0], list, message, length, accepted(length, 0), message);
+}
+
+#define UUID "00112233 44556677 8899aabb ccddeeff"
+
+static void good_messages(void) {
+    good("E", SERVER, "45 00000018 78 00000001 00000002 6162 0001 0001 00000001 7f",
+         "00000005 00000001 00000006 00000004 0000000e 00000002"
+         "00000010 00000002 00000012 00000002 00000018 00000001");
+    good("L", SERVER, "4c 00000019 14 00000000 00000000 0001 00000001 6b 00000001 76",
+         "00000005 00000001 00000006 00000004 0000000e 00000000"
+         "0000000e 00000002 00000014 00000001 00000019 00000001");
+    good("Z", SERVER, "5a 00000007 0000 49", "00000005 00000002 00000007 00000001");
+    good("C", SERVER, "43 00000028 0000 0000000000000001 00000002 4f4b" UUID "00000000",
+         "00000005 00000002 00000007 00000008 00000013 00000002"
+         "00000015 00000010 00000029 00000000");
+    good("T", SERVER,
+         "54 00000038 0000 ffffffffffffffff 41" UUID "00000001 80" UUID "00000000",
+         "00000005 00000002 00000007 00000008 0000000f 00000001 00000010 00000010"
+         "00000024 00000001 00000025 00000010 00000039 00000000");
+    good("s", SERVER, "73 0000001a" UUID "00000002 c328", "00000005 00000010 00000019 00000002");
+    good("D", SERVER, "44 0000000d 0001 00000003 010203", "00000005 00000002 0000000b 00000003");
+    good("S of the server", SERVER, "53 0000000d 00000001 ff 00000000",
+         "00000009 00000001 0000000e 00000000");
+    good("S of the client", CLIENT, "53 00000004", "");
+    good("V", CLIENT, "56 0000001c 0001 0000 0001 00000001 61 00000000 0001 00000001 78 0000",
+         "00000005 00000002 00000007 00000002 00000009 00000002 0000000f 00000001"
+         "00000014 00000000 00000014 00000002 0000001a 00000001 0000001b 00000002");
+}
+
+static void reader_refusals(void) {
+    reading("no bytes", CLIENT, "", 8, refused(1, 0), "");
+    reading("four bytes", CLIENT, "53 000000", 8, refused(1, 0), "");
+    reading("length 3, type unknown", CLIENT, "00 00000003", 8, refused(2, 0), "");
+    reading("length 65,536", CLIENT, "53 00010000", 8, refused(2, 0), "");
+    reading("length of 2^31", CLIENT, "53 80000004", 8, refused(2, 0), "");
+    reading("not whole, type unknown", CLIENT, "00 00000005", 8, refused(1, 0), "");
+    reading("V from the server", SERVER, "56 00000004", 8, refused(3, 0), "");
+    reading("side 2", 2, "53 00000004", 8, refused(3, 0), "");
+    reading("S of the server without fields", SERVER, "53 00000004", 8, refused(4, 5), "");
+    reading("bytes past the end", SERVER, "53 0000000d 00000001 ff 00000001", 16, refused(4, 10),
+            "");
+    reading("length of bytes that wraps", SERVER, "53 0000000d 00000001 ff ffffffff", 16,
+            refused(4, 10), "");
+    reading("count without items", SERVER, "5a 00000006 ffff", 16, refused(4, 7), "");
+    reading("bytes left over", SERVER, "5a 00000009 0000 49 0000", 16, refused(5, 8), "");
+    reading("unknown state", SERVER, "5a 00000007 0000 48", 16, refused(6, 7), "");
+    reading("D's number 2", SERVER, "44 00000006 0002", 16, refused(6, 5), "");
+    reading("second text of an annotation not UTF-8", SERVER,
+            "5a 00000012 0001 00000001 6b 00000002 c080 49", 64, refused(6, 12), "");
+    reading("room a byte short", SERVER, "5a 00000007 0000 49", 15, refused(31, 0), "");
+    reading("odd room", SERVER, "5a 00000007 0000 49", 19, accepted(8, 4),
+            "00000005 00000002 00000007 00000001");
+}
+
+static void writer_refusals(void) {
+    const char *z = "00000000 00000002 00000002 00000001";
+    writing("Z", SERVER, 0x5a, z, "0000 54", 9, accepted(8, 0), "5a 00000007 0000 54");
+    writing("room a byte short", SERVER, 0x5a, z, "0000 54", 7, refused(32, 0), "");
+    writing("no room", SERVER, 0x5a, z, "0000 54", 0, refused(32, 0), "");
+    writing("unknown type, list of 5 bytes", SERVER, 0x56, "00000000 00", "", 9, refused(3, 0), "");
+    writing("side 2", 2, 0x5a, z, "0000 54", 9, refused(3, 0), "");
+    writing("list of 5 bytes", CLIENT, 0x53, "00000000 00", "", 9, refused(6, 0), "");
+    writing("a word too many", CLIENT, 0x53, "00000000", "", 9, refused(6, 0), "");
+    writing("a pair too few", SERVER, 0x5a, "00000000 00000002", "0000 54", 9, refused(6, 0), "");
+    writing("a pair too many", CLIENT, 0x53, "00000000 00000000", "", 9, refused(6, 0), "");
+    writing("unknown state", SERVER, 0x5a, z, "0000 55", 0, refused(6, 0), "");
+    writing("count of another width", SERVER, 0x5a, "00000000 00000001 00000002 00000001",
+            "0000 54", 9, refused(6, 0), "");
+    writing("start past 32 bits", SERVER, 0x53, "00000000 00000001 ffffffff 00000001", "07", 20,
+            refused(6, 0), "");
+    writing("empty pair at the source's end", SERVER, 0x53, "00000000 00000001 00000001 00000000",
+            "07", 14, accepted(14, 0), "53 0000000d 00000001 07 00000000");
+    writing("empty pair past the source's end", SERVER, 0x53,
+            "00000000 00000001 00000002 00000000", "07", 14, refused(6, 0), "");
+}
+
+static void put_word(uint8_t *at, uint32_t word) {
+    for (int i = 0; i < 4; i++)
+        at[i] = (uint8_t)(word >> (24 - 8 * i));
+}
+
+/* D from a source of 0001 and letters, with so many of them. */
+static rembulfose_answer write_data(uint32_t length, uint8_t *out, size_t room) {
+    static uint8_t src[70002] = {0, 1};
+    uint8_t list[16] = {0};
+    memset(src + 2, 'a', sizeof src - 2);
+    put_word(list + 4, 2);
+    put_word(list + 8, 2);
+    put_word(list + 12, length);
+    return rembulfose_write_message(SERVER, 0x44, list, sizeof list, src, sizeof src, out, room);
+}
+
+static void large(void) {
+    static uint8_t list[32772], out[65537];
+    rembulfose_answer six = refused(6, 0);
+    count("list of 32,772 bytes", same_answer(rembulfose_write_message(CLIENT, 0x53, list, 32772,
+                                                                       NULL, 0, out, 5), six));
+    count("list of 32,769 bytes", same_answer(rembulfose_write_message(CLIENT, 0x53, list, 32769,
+                                                                       NULL, 0, out, 5), six));
+    count("length 65,535", same_answer(write_data(65525, out, 65537), accepted(65536, 0)) &&
+                               out[0] == 0x44 && out[3] == 0xff && out[4] == 0xff &&
+                               out[65535] == 'a' && out[65536] == 0);
+    count("length 65,535, read", same_answer(rembulfose_read_message(SERVER, out, 65537, list, 16),
+                                             accepted(65536, 4)));
+    count("length 65,536", same_answer(write_data(65526, out, 0), refused(2, 0)));
+}
+
+/* A null pointer may be lent with length 0. */
+static void null_pointers(void) {
+    const uint8_t sync[5] = {0x53, 0, 0, 0, 4};
+    uint8_t out[5] = {0};
+    count("no list room", same_answer(rembulfose_read_message(CLIENT, sync, 5, NULL, 0),
+                                      accepted(5, 0)));
+    count("no source", same_answer(rembulfose_read_message(CLIENT, NULL, 0, NULL, 0),
+                                   refused(1, 0)));
+    count("no list and no source",
+          same_answer(rembulfose_write_message(CLIENT, 0x53, NULL, 0, NULL, 0, out, 5),
+                      accepted(5, 0)) && memcmp(out, sync, 5) == 0);
+    count("no output room",
+          same_answer(rembulfose_write_message(CLIENT, 0x53, NULL, 0, NULL, 0, NULL, 0),
+                      refused(32, 0)));
+}
+
+int main(void) {
+    good_messages();
+    reader_refusals();
+    writer_refusals();
+    large();
+    null_pointers();
+    printf("%u passed, %u failed\n", passed, failed);
+    return failed != 0;
+}

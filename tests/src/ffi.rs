@@ -1,0 +1,68 @@
+//! The C calls of the static library, as include/rembulfose.h declares them, and a safe function
+//! for each. Nothing checks these declarations against the header: keep them side by side.
+
+use second::crossing::Answer;
+
+/// `rembulfose_answer`.
+#[repr(C)]
+struct RawAnswer {
+    number: u32,
+    place: u32,
+    first: u32,
+    second: u32,
+}
+
+extern "C" {
+    fn rembulfose_read_message(
+        side: u32,
+        src: *const u8,
+        src_len: usize,
+        list: *mut u8,
+        list_len: usize,
+    ) -> RawAnswer;
+
+    fn rembulfose_write_message(
+        side: u32,
+        type_byte: u8,
+        list: *const u8,
+        list_len: usize,
+        src: *const u8,
+        src_len: usize,
+        out: *mut u8,
+        out_len: usize,
+    ) -> RawAnswer;
+}
+
+impl From<RawAnswer> for Answer {
+    fn from(raw: RawAnswer) -> Answer {
+        Answer {
+            number: raw.number,
+            place: raw.place,
+            first: raw.first,
+            second: raw.second,
+        }
+    }
+}
+
+pub fn read_message(side: u32, src: &[u8], list: &mut [u8]) -> Answer {
+    // SAFETY: each pointer and length come from one slice, and `list` overlaps nothing.
+    unsafe { rembulfose_read_message(side, src.as_ptr(), src.len(), list.as_mut_ptr(), list.len()) }
+        .into()
+}
+
+pub fn write_message(side: u32, type_byte: u8, list: &[u8], src: &[u8], out: &mut [u8]) -> Answer {
+    // SAFETY: each pointer and length come from one slice, and `out` overlaps nothing.
+    unsafe {
+        rembulfose_write_message(
+            side,
+            type_byte,
+            list.as_ptr(),
+            list.len(),
+            src.as_ptr(),
+            src.len(),
+            out.as_mut_ptr(),
+            out.len(),
+        )
+    }
+    .into()
+}

@@ -1,0 +1,171 @@
+//! Makes each call twice, on the library and on the second program, and compares all that can be
+//! seen of it: the four numbers of the answer and every byte of the room. The bytes that a call
+//! reads are lent where it cannot write.
+
+use super::case::{Call, Case, Lending, ReadCall, WriteCall, FILLS};
+use crate::fence::{Input, Room};
+use crate::ffi;
+use crate::rng::Rng;
+use second::crossing::{self, Answer};
+use std::fmt::Display;
+
+/// The largest run that a case lends.
+const CAPACITY: usize = 262_144;
+
+pub struct Judge {
+    list: Input,
+    src: Input,
+    room: Room,
+    /// What rooms hold before a call.
+    pattern: Vec<u8>,
+    /// The room as the second program leaves it.
+    left: Vec<u8>,
+}
+
+impl Judge {
+    pub fn new(seed: u64) -> Judge {
+        Judge {
+            list: Input::new(CAPACITY),
+            src: Input::new(CAPACITY),
+            room: Room::new(CAPACITY),
+            pattern: Rng::new(seed).bytes(CAPACITY + FILLS),
+            left: Vec::new(),
+        }
+    }
+
+    /// The answer of a case in which nothing differs, or else a report of what does.
+    pub fn judge(&mut self, case: &Case) -> Result<Answer, String> {
+        let answer = match &case.call {
+            Call::Read(call) => self.read(call, case.lending)?,
+            Call::Write(call) => self.write(call, case.lending)?,
+        };
+        match case.expected {
+            Some(expected) if answer != expected => {
+                let what = "both programs differ from the answer worked out by hand";
+                let answers = [("both", answer), ("by hand", expected)];
+                Err(report(what, &case.call, &answers))
+            }
+            _ => Ok(answer),
+        }
+    }
+
+    /// Compares a reading; an accepted message, written from its list, must come back.
+    fn read(&mut self, call: &ReadCall, lending: Lending) -> Result<Answer, String> {
+        let answer = self.compare_read(call, lending)?;
+        if answer.number != 0 {
+            return Ok(answer);
+        }
+        let message = &call.src[..answer.first as usize];
+        let back = WriteCall {
+            side: call.side,
+            type_byte: message[0],
+            list: self.left[..4 * answer.second as usize].to_vec(),
+            src: call.src.clone(),
+            room: message.len(),
+        };
+        let written = self.compare_write(&back, lending)?;
+        if written.number != 0 || self.left != message {
+            let what = "an accepted message does not come back from its list";
+            return Err(report(what, &back, &[("both", written)]));
+        }
+        Ok(answer)
+    }
+
+    /// Compares a writing; a written message must be accepted and hold the named bytes in order.
+    fn write(&mut self, call: &WriteCall, lending: Lending) -> Result<Answer, String> {
+        let answer = self.compare_write(call, lending)?;
+        if answer.number != 0 {
+            return Ok(answer);
+        }
+        let back = ReadCall {
+            side: call.side,
+            src: self.left[..answer.first as usize].to_vec(),
+            room: call.list.len(),
+        };
+        let read = self.compare_read(&back, lending)?;
+        let whole = read.number == 0 && read.first == answer.first;
+        if !whole || !same_fields((&call.list, &call.src), (&self.left, &back.src)) {
+            let what = "a written message is not read back as it was asked for";
+            return Err(report(what, &back, &[("both", read)]));
+        }
+        Ok(answer)
+    }
+
+    fn compare_read(&mut self, call: &ReadCall, lending: Lending) -> Result<Answer, String> {
+        let before = &self.pattern[lending.fill..][..call.room];
+        self.left.clear();
+        self.left.extend(before);
+        let second = crossing::read_message(call.side, &call.src, &mut self.left);
+        let src = self.src.lend(&call.src, lending.edge);
+        let room = self.room.lend(call.room, lending.edge);
+        room.copy_from_slice(before);
+        let library = ffi::read_message(call.side, src, room);
+        compare(call, (library, room), (second, &self.left))
+    }
+
+    fn compare_write(&mut self, call: &WriteCall, lending: Lending) -> Result<Answer, String> {
+        let WriteCall {
+            side,
+            type_byte,
+            list,
+            src,
+            room,
+        } = call;
+        let before = &self.pattern[lending.fill..][..*room];
+        self.left.clear();
+        self.left.extend(before);
+        let second = crossing::write_message(*side, *type_byte, list, src, &mut self.left);
+        let list = self.list.lend(list, lending.edge);
+        let src = self.src.lend(src, lending.edge);
+        let room = self.room.lend(*room, lending.edge);
+        room.copy_from_slice(before);
+        let library = ffi::write_message(*side, *type_byte, list, src, room);
+        compare(call, (library, room), (second, &self.left))
+    }
+}
+
+/// Two outcomes: the answer, and the room after the call.
+fn compare(
+    call: &impl Display,
+    (library, room): (Answer, &[u8]),
+    (second, left): (Answer, &[u8]),
+) -> Result<Answer, String> {
+    if library == second && room == left {
+        return Ok(library);
+    }
+    let answers = [("library", library), ("second program", second)];
+    let what = match room.iter().zip(left).position(|(one, other)| one != other) {
+        None => "the answers differ".to_string(),
+        Some(at) => format!(
+            "byte {at} of the room differs: library {:02x}, second program {:02x}",
+            room[at], left[at]
+        ),
+    };
+    Err(report(&what, call, &answers))
+}
+
+/// Whether two lists name the same bytes, pair by pair, each in its own source.
+fn same_fields(one: (&[u8], &[u8]), other: (&[u8], &[u8])) -> bool {
+    one.0.len() == other.0.len() && fields(one.0, one.1).eq(fields(other.0, other.1))
+}
+
+/// The bytes that the pairs of a list, known to be inside the source, name.
+fn fields<'a>(list: &'a [u8], src: &'a [u8]) -> impl Iterator<Item = &'a [u8]> {
+    let word = |bytes: &[u8]| {
+        bytes
+            .iter()
+            .fold(0, |sum, &byte| sum << 8 | usize::from(byte))
+    };
+    list.chunks_exact(8).map(move |pair| {
+        let (start, length) = (word(&pair[..4]), word(&pair[4..]));
+        &src[start..start + length]
+    })
+}
+
+fn report(what: &str, call: &impl Display, answers: &[(&str, Answer)]) -> String {
+    let mut report = format!("{what}\n{call}");
+    for (whose, answer) in answers {
+        report += &format!("\n  {whose}: {answer:?}");
+    }
+    report
+}
