@@ -7,6 +7,8 @@
  * Lists cross as bytes: four to a word, big-endian, at most 8,192 words. Room for a list counts in whole words,
  * 8,192 at most. Sizes of input messages, sources and output rooms are not limited.
  *
+ * A call uses at most 40 KiB of stack (measured, not proved): lend a thread that calls it 48 KiB or more.
+ *
  * Outside the promises: a null pointer with a length above 0, and lent runs that overlap each other.
  */
 #ifndef REMBULFOSE_H
