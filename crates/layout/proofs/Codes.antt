@@ -9,10 +9,10 @@ use native.Mathlib.Decide.{decLt}
 use lib.Dec.{leb, ltb}
 use lib.ListN.{length, getD, drop}
 use lib.Seq.{getD-drop}
-use borrow.Author.Tests.{le-leb, le-ltb, leb-true, lt-ltb, ltb-true, ne-eqb}
+use borrow.Author.Tests.{le-leb, le-ltb, lt-ltb, ltb-true, ne-eqb}
 use Rattle.wire.specs.Choice.{pick}
 use Rattle.wire.proofs.Tables.{each-below, where-below}
-use Rattle.layout.specs.Layout.{Layout, done, one, run, u16, Message, lookup}
+use Rattle.layout.specs.Layout.{done, one, run, u16, Message, lookup}
 use Rattle.layout.specs.Tables.{codes, fieldOf, entry, layouts, layoutAt, CodeOf, knownAt, widthOf, valuesOf, widths, firsts, values, allowedOf}
 
 pub lt-or-ge : (a b : ℕ) → (a < b) ⊎ (b ≤ a)

@@ -1,7 +1,7 @@
 -- How a reading ends: what a walk's answer says of the outcome, and the laws of the tests before and after the fields. Assumes nothing.
 use mathlib.Core.Path.{_≡_, refl, ap, sym, _∙_}
 use mathlib.Core.Bool.{false}
-use mathlib.Core.List.{List, [], _++_}
+use mathlib.Core.List.{List, _++_}
 use Prim.Native.Nat.{ℕ, _+_, _<_, _≤_}
 use native.Mathlib.Omega.{arith}
 use native.Mathlib.Nat.{zero-add}
@@ -15,7 +15,7 @@ use Rattle.layout.specs.Judged.{judgedAll}
 use Rattle.layout.specs.Tables.{layoutAt, knownAt}
 use Rattle.message_read.specs.Reading.{Outcome, refused, read, fields, ending, body, messageOf, roomed, message, wordsOf, listAfter}
 use Rattle.message_read.specs.Answers.{answerOf, Stored, Checks, Gives, Accepted}
-use Rattle.message_read.specs.Scan.{Walk, stopped, reached, outcomeOf, led}
+use Rattle.message_read.specs.Scan.{stopped, reached, outcomeOf, led}
 use Rattle.message_read.specs.declared.Step.{Step}
 use Rattle.message_read.specs.declared.Step.the-variants.{Refused, Reached}
 use Rattle.message_read.specs.declared.Answer.{Answer}

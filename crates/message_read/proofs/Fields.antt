@@ -10,7 +10,7 @@ use borrow.Author.Tests.{le-leb, lt-leb}
 use Rattle.wire.specs.Choice.{pick}
 use Rattle.wire.specs.Be.{be}
 use Rattle.wire.specs.Utf8.{wellFormed}
-use Rattle.layout.specs.Layout.{Field, text, bytes, permits}
+use Rattle.layout.specs.Layout.{text, bytes, permits}
 use Rattle.layout.specs.Judged.{judged}
 use Rattle.layout.specs.Tables.{fieldOf, widthOf, valuesOf}
 use Rattle.layout.proofs.Rules.{text-code, bytes-code, number-code}

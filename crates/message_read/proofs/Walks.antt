@@ -1,7 +1,7 @@
 -- The laws of the walk over a table of codes: what is left of a layout leads to the same place. Assumes nothing.
-use mathlib.Core.Path.{_≡_, refl, ap, sym, _∙_}
+use mathlib.Core.Path.{_≡_, refl, _∙_}
 use mathlib.Core.Bool.{Bool}
-use mathlib.Core.List.{List, [], _∷_}
+use mathlib.Core.List.{List}
 use mathlib.Core.Logic.{⊎-elim}
 use Prim.Native.Nat.{ℕ, zero, suc, _+_, _-_, _<_, _≤_}
 use native.Mathlib.Omega.{arith}
@@ -13,13 +13,12 @@ use borrow.Author.Tests.{lt-ltb, le-ltb, lt-leb}
 use Rattle.wire.specs.Choice.{pick}
 use Rattle.wire.specs.Be.{be}
 use Rattle.wire.proofs.Stores.{sets-append}
-use Rattle.layout.specs.Layout.{done, one, run, u16}
 use Rattle.layout.specs.Judged.{judged, judgedAll}
 use Rattle.layout.specs.Tables.{codes, fieldOf, layoutAt}
 use Rattle.layout.proofs.Codes.{lt-or-ge, at-end, at-field, at-run, count-code}
 use Rattle.layout.proofs.Judged.{judged-done, judged-one, judged-run, judged-count}
 use Rattle.message_read.specs.Reading.{fieldAt, Outcome, refused, read, prefixed, andThen, outcome, times, fields}
-use Rattle.message_read.specs.Scan.{Walk, stopped, reached, outcomeOf, put, led, itemOf}
+use Rattle.message_read.specs.Scan.{stopped, reached, outcomeOf, put, led, itemOf}
 use Rattle.message_read.specs.declared.Found.{Found}
 use Rattle.message_read.specs.declared.Found.the-variants.{At}
 use Rattle.message_read.specs.declared.Step.{Step}

@@ -1,5 +1,5 @@
 -- What an accepted message is made of. Assumes nothing.
-use mathlib.Core.Path.{_≡_, refl, sym, _∙_}
+use mathlib.Core.Path.{_≡_, refl, _∙_}
 use mathlib.Core.Bool.{Bool, true, false}
 use mathlib.Core.List.{List}
 use Prim.Native.Nat.{ℕ, _+_, _<_, _≤_}
@@ -11,7 +11,7 @@ use Rattle.wire.specs.Choice.{pick}
 use Rattle.wire.specs.Be.{be}
 use Rattle.layout.specs.Layout.{Layout, Known, known, unknown, layoutOf}
 use Rattle.layout.specs.Tables.{layoutAt, knownAt}
-use Rattle.message_read.specs.Reading.{Outcome, refused, read, fields, ending, body, messageOf, roomed, message}
+use Rattle.message_read.specs.Reading.{Outcome, refused, read, fields, ending, body, messageOf, roomed}
 
 -- a test whose refusal was not given
 past : (b : Bool) (n p : ℕ) (o : Outcome) (u : ℕ) (ws : List ℕ) → pick b (refused n p) o ≡ read u ws → (b ≡ false) × (o ≡ read u ws)

@@ -1,7 +1,7 @@
 -- The laws of a writing that goes on from where it stands. Assumes nothing.
 use mathlib.Core.Path.{_≡_, refl, ap, sym, _∙_}
 use mathlib.Core.Bool.{Bool, true, false}
-use mathlib.Core.List.{List, [], _∷_, _++_}
+use mathlib.Core.List.{List, [], _∷_}
 use mathlib.Core.Logic.{⊎-elim}
 use Prim.Native.Nat.{ℕ, zero, suc, _+_, _-_, _<_, _≤_}
 use native.Mathlib.Omega.{arith}
@@ -14,7 +14,7 @@ use borrow.Author.Tests.{eqb-true, leb-true, le-leb, lt-leb, lt-ltb, le-ltb}
 use Rattle.wire.specs.Choice.{pick}
 use Rattle.wire.specs.Be.{be}
 use Rattle.wire.proofs.Stores.{sets-append}
-use Rattle.layout.specs.Layout.{Field, one, run, u16, permits}
+use Rattle.layout.specs.Layout.{Field, u16, permits}
 use Rattle.layout.specs.Judged.{judged, judgedAll}
 use Rattle.layout.specs.Tables.{codes, fieldOf, layoutAt}
 use Rattle.layout.proofs.Codes.{lt-or-ge, at-end, at-field, at-run, count-code}

@@ -3,22 +3,22 @@ use mathlib.Core.Path.{_≡_, refl, ap, sym, _∙_}
 use mathlib.Core.Bool.{false}
 use mathlib.Core.List.{List, [], _∷_, _++_, append-nil}
 use mathlib.Core.Logic.{⊎-elim}
-use Prim.Native.Nat.{ℕ, zero, suc, _+_, _-_, _<_, _≤_}
+use Prim.Native.Nat.{ℕ, suc, _+_, _-_, _<_, _≤_}
 use native.Mathlib.Omega.{arith}
 use native.Mathlib.Nat.{zero-add}
 use lib.ListN.{length, take, drop, set, length-append, length-take, drop-of-length-le}
 use lib.Seq.{sets, sets-eq, take-set-lt, drop-set-lt}
 use borrow.Author.Tests.{lt-ltb, le-ltb}
 use Rattle.wire.specs.Choice.{pick}
-use Rattle.wire.specs.Be.{be, bytesBe}
+use Rattle.wire.specs.Be.{bytesBe}
 use Rattle.wire.proofs.Numbers.{length-bytes}
 use Rattle.wire.proofs.Stores.{sets-append}
-use Rattle.layout.specs.Layout.{Layout, Known, known, unknown, layoutOf}
+use Rattle.layout.specs.Layout.{layoutOf}
 use Rattle.layout.specs.Judged.{judgedAll}
 use Rattle.layout.specs.Tables.{layoutAt, knownAt}
 use Rattle.layout.proofs.Codes.{lt-or-ge}
-use Rattle.message_write.specs.Writing.{Written, faulty, wrote, fieldsFrom, Put, refusedPut, putOut, whole, bodyFrom, written, outputAfter}
-use Rattle.message_write.specs.Emitting.{cap, Stand, broken, stands, put-at, standOf}
+use Rattle.message_write.specs.Writing.{Written, faulty, wrote, fieldsFrom, whole, bodyFrom, written, outputAfter}
+use Rattle.message_write.specs.Emitting.{cap, broken, stands, put-at, standOf}
 use Rattle.message_write.specs.Answers.{Puts, wroteOf}
 use Rattle.message_write.specs.declared.Wrote.the-variants.{Refused, Whole}
 use Rattle.message_write.specs.declared.Emit.{Emit}

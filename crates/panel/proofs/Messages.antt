@@ -1,20 +1,18 @@
 -- The laws of the two message calls on bytes. Assumes nothing.
 use mathlib.Core.Path.{_≡_, refl, ap, sym, _∙_}
-use mathlib.Core.Bool.{Bool, true, false}
-use mathlib.Core.List.{List, [], _∷_, _++_}
-use mathlib.Core.Logic.{⊎-elim}
-use Prim.Native.Nat.{ℕ, zero, suc, _+_, _*_, _/_, _%_, _<_, _≤_}
+use mathlib.Core.Bool.{true, false}
+use mathlib.Core.List.{List, _++_}
+use Prim.Native.Nat.{ℕ, _+_, _*_, _/_, _%_, _<_, _≤_}
 use native.Mathlib.Omega.{arith}
-use native.Mathlib.Nat.{zero-add}
 use lib.Dec.{leb, eqb}
-use lib.ListN.{length, take, drop, length-append}
+use lib.ListN.{length, take, drop}
 use lib.Seq.{sets, sets-eq, take-at}
-use borrow.Author.Tests.{lt-ltb, le-ltb, leb-true, leb-false, eqb-true}
+use borrow.Author.Tests.{lt-ltb, le-ltb, leb-true, leb-false}
 use Rattle.wire.specs.Choice.{pick}
 use Rattle.wire.proofs.Picks.{pick-case, both}
 use Rattle.layout.specs.Layout.{Known, known, unknown, layoutOf}
-use Rattle.layout.specs.Tables.{layoutAt, knownAt}
-use Rattle.message_read.specs.Reading.{Outcome, refused, read, messageOf, roomed, message, wordsOf}
+use Rattle.layout.specs.Tables.{knownAt}
+use Rattle.message_read.specs.Reading.{messageOf, roomed, message, wordsOf}
 use Rattle.message_read.specs.Answers.{Checks}
 use Rattle.message_write.specs.Writing.{Put, refusedPut, putOut, written, outputAfter}
 use Rattle.message_write.specs.Answers.{wroteOf, Puts}

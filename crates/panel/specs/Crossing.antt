@@ -1,10 +1,9 @@
 -- How words cross to the C host: "plans, lists and paths cross as bytes, four to a word, at most 8,192 words each (more, or bytes left
 -- over: plan 33, supply 34, path 35, message list 6; room counts in whole words, 8,192 at most)". Assumes nothing: these are definitions.
 use Prim.Native.Nat.{ℕ, _/_, _%_}
-use mathlib.Core.Bool.{Bool, true, false}
+use mathlib.Core.Bool.{Bool, false}
 use mathlib.Core.List.{List, [], _∷_, _++_}
 use lib.Dec.{leb, eqb}
-use lib.ListN.{length}
 use Rattle.wire.specs.Choice.{pick}
 use Rattle.wire.specs.Be.{be, bytesBe}
 

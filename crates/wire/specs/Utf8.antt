@@ -1,5 +1,5 @@
 -- Text (document 01: "text is well-formed UTF-8 (Unicode Standard, Table 3-7)"). Assumes nothing: these are definitions.
-use Prim.Native.Nat.{ℕ, zero, suc}
+use Prim.Native.Nat.{ℕ, suc}
 use mathlib.Core.Bool.{Bool, true, false}
 use mathlib.Core.List.{List, [], _∷_}
 use lib.Dec.{leb, ltb}

@@ -1,6 +1,6 @@
 use Rattle.layout.proofs.Rules.{values-at, values-none}
 use native.Mathlib.Omega.{arith}
-use mathlib.Core.Path.{_≡_, ap, sym, _∙_}
+use mathlib.Core.Path.{_∙_}
 use borrow.Author.Needs.{needs}
 use borrow.Author.Needs.{needs}
 use Rattle.layout.proofs.admits.Statement.{statement}

@@ -1,9 +1,8 @@
-use mathlib.Core.Path.{_≡_, ap, sym}
+use mathlib.Core.Path.{ap}
 use lib.ListN.{length}
 use native.Mathlib.Omega.{arith}
 use Rattle.layout.proofs.Codes.{code-sound}
 use Rattle.layout.specs.Tables.{codes}
-use borrow.Author.Needs.{needs}
 use Rattle.layout.proofs.code_at.Statement.{statement}
 use Rattle.layout.proofs.code_at.Tie as tie
 

@@ -1,7 +1,7 @@
 use Rattle.layout.proofs.Rules.{permits-some, member-here, member-next, permits-end}
 use Rattle.layout.specs.Tables.{values, allowedOf}
-use Rattle.layout.specs.Layout.{member, permits}
-use Prim.Native.Nat.{_+_, _-_, _≤_, _<_}
+use Rattle.layout.specs.Layout.{member}
+use Prim.Native.Nat.{_-_, _≤_, _<_}
 use mathlib.Core.Path.{_≡_, refl, sym, _∙_}
 use native.Mathlib.Omega.{arith}
 use borrow.Author.Needs.{needs}

@@ -1,6 +1,5 @@
 use mathlib.Core.Path.{refl}
 use Rattle.layout.specs.Tables.{codes}
-use borrow.Author.Needs.{needs}
 use Rattle.layout.proofs.table.Statement.{statement}
 use Rattle.layout.proofs.table.Tie as tie
 

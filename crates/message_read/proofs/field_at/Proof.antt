@@ -1,4 +1,4 @@
-use mathlib.Core.Path.{_≡_, sym, ap, _∙_}
+use mathlib.Core.Path.{ap, _∙_}
 use Rattle.message_read.specs.Reading.{textual}
 use Rattle.message_read.proofs.Fields.{bytes-are, text-judged, text-taken, textual-inside, inside-zero}
 use borrow.Author.Needs.{needs}

@@ -1,4 +1,4 @@
-use mathlib.Core.Path.{_≡_, sym, ap, _∙_}
+use mathlib.Core.Path.{ap}
 use native.Mathlib.Omega.{arith}
 use Rattle.message_read.specs.Reading.{outcome}
 use Rattle.message_read.specs.Scan.{outcomeOf, Inside, Within}

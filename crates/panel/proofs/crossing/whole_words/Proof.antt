@@ -1,7 +1,6 @@
 use borrow.Author.Tests.{eq-eqb, ne-eqb}
 use Rattle.wire.specs.Choice.{pick}
 use Rattle.panel.specs.Crossing.{crosses}
-use borrow.Author.Needs.{needs}
 use Rattle.panel.proofs.crossing.whole_words.Statement.{statement}
 use Rattle.panel.proofs.crossing.whole_words.Tie as tie
 

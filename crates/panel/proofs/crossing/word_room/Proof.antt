@@ -1,8 +1,6 @@
-use mathlib.Core.Path.{sym}
 use borrow.Author.Tests.{le-leb, lt-leb}
 use Rattle.wire.specs.Choice.{pick}
 use Rattle.panel.specs.Crossing.{wordRoom}
-use borrow.Author.Needs.{needs}
 use Rattle.panel.proofs.crossing.word_room.Statement.{statement}
 use Rattle.panel.proofs.crossing.word_room.Tie as tie
 

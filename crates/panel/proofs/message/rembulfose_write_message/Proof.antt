@@ -1,4 +1,4 @@
-use mathlib.Core.Path.{_≡_, sym, _∙_}
+use mathlib.Core.Path.{sym, _∙_}
 use Rattle.panel.proofs.Messages.{uncrossed-is}
 use borrow.Author.Needs.{needs}
 use borrow.Author.Needs.{needs}
