@@ -1,13 +1,14 @@
-/* Rembulfose: reading and writing the messages of a batch tracker's database (EdgeDB's binary protocol).
+/* Rembulfose: the messages and values of a batch tracker's database (EdgeDB's binary protocol).
  *
  * Every call ends, stays inside its buffers, and answers for any bytes and any lengths. A refusal returns its
  * number and place, with all else zero, and changes no lent byte. On success number and place are 0, and room
  * past what was written keeps its contents.
  *
- * Lists cross as bytes: four to a word, big-endian, at most 8,192 words. Room for a list counts in whole words,
- * 8,192 at most. Sizes of input messages, sources and output rooms are not limited.
+ * Plans and lists cross as bytes: four to a word, big-endian, at most 8,192 words. Room for a list counts in whole
+ * words, 8,192 at most. Sizes of input messages, sources and output rooms are not limited.
  *
- * A call uses at most 40 KiB of stack (measured, not proved): lend a thread that calls it 48 KiB or more.
+ * Stack use does not grow with the number of elements, only with nesting, which is at most 32. It is measured and not
+ * proved: give a thread that makes these calls REMBULFOSE_STACK bytes or more.
  *
  * Outside the promises: a null pointer with a length above 0, and lent runs that overlap each other.
  */
@@ -21,6 +22,8 @@
 extern "C" {
 #endif
 
+#define REMBULFOSE_STACK 262144
+
 typedef struct {
     uint32_t number, place, first, second;
 } rembulfose_answer;
@@ -33,8 +36,18 @@ enum {
     REMBULFOSE_FIELD_PAST_END = 4, /* field runs past the message's end; place: the field's start */
     REMBULFOSE_BYTES_LEFT = 5,     /* message bytes left over; place: the first of them */
     REMBULFOSE_BAD_FIELD = 6,      /* field content not permitted; place: the field's start */
+    REMBULFOSE_CONTAINER_END = 20, /* container ends inside a head, or an element passes its end; place: container */
+    REMBULFOSE_VALUE_LEFT = 21,    /* bytes left over in a container; place: container */
+    REMBULFOSE_BAD_HEAD = 22,      /* head field not permitted; place: container */
+    REMBULFOSE_BAD_SIZE = 23,      /* length below -1, or -1 in a set, array, tuple or range; place: container */
+    REMBULFOSE_BAD_SCALAR = 24,    /* scalar or enumeration content not permitted; place: that value */
+    REMBULFOSE_INDEX_OUTSIDE = 25, /* sparse index outside the shape; place: container */
+    REMBULFOSE_INDEX_TWICE = 26,   /* sparse index given twice; place: container */
+    REMBULFOSE_REQUIRED = 27,      /* required index not given, or required element of length -1; place: container */
+    REMBULFOSE_VALUE_SIZE = 28,    /* value over 65,535 bytes; place 0 */
     REMBULFOSE_LIST_ROOM = 31,     /* list room too small; place 0 */
-    REMBULFOSE_OUTPUT_ROOM = 32    /* output room too small; place 0 */
+    REMBULFOSE_OUTPUT_ROOM = 32,   /* output room too small; place 0 */
+    REMBULFOSE_BAD_PLAN = 33       /* plan not well formed; place 0 */
 };
 
 /* Reads the message at the start of src. side: 0 client, 1 server. Bytes after the message are not looked at.
@@ -53,6 +66,14 @@ rembulfose_answer rembulfose_write_message(uint32_t side, uint8_t type,
                                            const uint8_t *list, size_t list_len,
                                            const uint8_t *src, size_t src_len,
                                            uint8_t *out, size_t out_len);
+
+/* Checks a value by a plan and lists it. The list has five words an entry: node, index in its parent, start, length
+ * (ffffffff hex if absent), number of entries directly below; a container first, then each element with all below it.
+ * Places of 20 to 27 are byte offsets in the value.
+ * first = words written. Order: 33 (also for a plan that is no whole number of words or has over 8,192), 28, the
+ * value's faults from left to right and each element before the next, 31. */
+rembulfose_answer rembulfose_run(const uint8_t *plan, size_t plan_len, const uint8_t *value, size_t value_len,
+                                 uint8_t *list, size_t list_len);
 
 #ifdef __cplusplus
 }

@@ -3,7 +3,9 @@
 
 mod messages;
 mod race;
+mod table;
 mod texts;
+mod values;
 
 fn main() {
     let rounds = race::ROUNDS;
@@ -15,4 +17,6 @@ fn main() {
     texts::print();
     println!();
     messages::print();
+    println!();
+    values::print();
 }

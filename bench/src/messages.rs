@@ -2,16 +2,14 @@
 //! what a C call has to, and its inner functions on words without one.
 
 use crate::race::race;
+use crate::table;
 use compare::ffi;
 use second::crossing;
 use second::message::{self, CLIENT, SERVER};
 use std::hint::black_box;
 
 pub fn print() {
-    println!(
-        "{:<40}{:>10}{:>10}{:>8}{:>10}{:>8}",
-        "Message", "library", "crossing", "ratio", "inner", "ratio"
-    );
+    table::head("Message");
     rows("V, 400 texts of 20 letters", CLIENT, &handshake());
     rows("T, a descriptor of 20,000 bytes", SERVER, &description());
 }
@@ -55,17 +53,10 @@ fn rows(name: &str, side: u32, message: &[u8]) {
     let read = message::read_message(side, message, 8_192).expect("a good message");
     let mut list = vec![0; 4 * read.words.len()];
     assert_eq!(crossing::read_message(side, message, &mut list).number, 0);
-    row(&format!("{name}, read"), read_times(side, message));
-    row(
+    table::row(&format!("{name}, read"), read_times(side, message));
+    table::row(
         &format!("{name}, written"),
         write_times(side, message, &list, &read.words),
-    );
-}
-
-fn row(name: &str, [library, crossing, inner]: [f64; 3]) {
-    let (to_crossing, to_inner) = (crossing / library, inner / library);
-    println!(
-        "{name:<40}{library:>10.2}{crossing:>10.2}{to_crossing:>8.2}{inner:>10.2}{to_inner:>8.2}"
     );
 }
 

@@ -2,6 +2,7 @@
 
 use crate::message;
 use crate::refusal::{self, Refusal};
+use crate::value;
 use crate::words;
 
 /// The four numbers that every call returns.
@@ -65,4 +66,23 @@ fn written(side: u32, type_byte: u8, list: &[u8], src: &[u8], room: usize) -> Re
     }
     let words = words::from_bytes(list).ok_or(refusal::BAD_FIELD)?;
     message::write_message(side, type_byte, &words, src, room)
+}
+
+/// `rembulfose_run`: first = words written.
+pub fn run(plan: &[u8], value: &[u8], list: &mut [u8]) -> Answer {
+    match listed(plan, value, words::room(list)) {
+        Ok(entries) => {
+            words::put(&entries, list);
+            Answer::accepted(entries.len(), 0)
+        }
+        Err(refusal) => Answer::refused(refusal),
+    }
+}
+
+/// A plan that cannot cross is 33, which comes first anyway (reading 1.2).
+fn listed(plan: &[u8], value: &[u8], room_words: usize) -> Result<Vec<u32>, Refusal> {
+    match words::from_bytes(plan) {
+        Some(plan) => value::run(&plan, value, room_words),
+        None => Err(Refusal::at_start(refusal::BAD_PLAN)),
+    }
 }

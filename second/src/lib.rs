@@ -3,12 +3,17 @@
 //! two agree on many inputs, a mistake would have to have been made twice.
 //!
 //! * [`message`] reads and writes the ten messages on words and bytes.
-//! * [`refusal`] has the refusal numbers of both.
+//! * [`plan`] reads a plan, [`scalar`] has the twenty formats, and [`value`] checks and lists a
+//!   value.
+//! * [`refusal`] has the refusal numbers of all.
 //! * [`crossing`] is the same as a C host sees it: lists as bytes, and one [`crossing::Answer`].
 //!
 //! "01" in a comment is document 01, "reading" the project's paper on how it is read.
 
 pub mod crossing;
 pub mod message;
+pub mod plan;
 pub mod refusal;
+pub mod scalar;
+pub mod value;
 mod words;

@@ -12,10 +12,30 @@ pub const FIELD_PAST_END: u32 = 4;
 pub const BYTES_LEFT: u32 = 5;
 /// Field content not permitted.
 pub const BAD_FIELD: u32 = 6;
+/// Container ends inside a head, or an element passes its end.
+pub const CUT_CONTAINER: u32 = 20;
+/// Bytes left over in a container.
+pub const BYTES_OVER: u32 = 21;
+/// Head field not permitted.
+pub const BAD_HEAD: u32 = 22;
+/// Length below -1, or -1 in a set, array, tuple or range.
+pub const BAD_ELEMENT_LENGTH: u32 = 23;
+/// Scalar or enumeration content not permitted.
+pub const BAD_SCALAR: u32 = 24;
+/// Sparse index outside the shape.
+pub const INDEX_OUTSIDE: u32 = 25;
+/// Sparse index given twice.
+pub const INDEX_TWICE: u32 = 26;
+/// Required index not given, or required element of length -1.
+pub const REQUIRED: u32 = 27;
+/// Value over 65,535 bytes.
+pub const VALUE_SIZE: u32 = 28;
 /// List room too small.
 pub const LIST_ROOM: u32 = 31;
 /// Output room too small.
 pub const OUTPUT_ROOM: u32 = 32;
+/// Plan not well formed.
+pub const BAD_PLAN: u32 = 33;
 
 /// Why something was not accepted, and where.
 #[derive(Clone, Copy, Debug, PartialEq, Eq)]

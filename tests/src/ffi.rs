@@ -31,6 +31,15 @@ extern "C" {
         out: *mut u8,
         out_len: usize,
     ) -> RawAnswer;
+
+    fn rembulfose_run(
+        plan: *const u8,
+        plan_len: usize,
+        value: *const u8,
+        value_len: usize,
+        list: *mut u8,
+        list_len: usize,
+    ) -> RawAnswer;
 }
 
 impl From<RawAnswer> for Answer {
@@ -62,6 +71,21 @@ pub fn write_message(side: u32, type_byte: u8, list: &[u8], src: &[u8], out: &mu
             src.len(),
             out.as_mut_ptr(),
             out.len(),
+        )
+    }
+    .into()
+}
+
+pub fn run(plan: &[u8], value: &[u8], list: &mut [u8]) -> Answer {
+    // SAFETY: each pointer and length come from one slice, and `list` overlaps nothing.
+    unsafe {
+        rembulfose_run(
+            plan.as_ptr(),
+            plan.len(),
+            value.as_ptr(),
+            value.len(),
+            list.as_mut_ptr(),
+            list.len(),
         )
     }
     .into()

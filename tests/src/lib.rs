@@ -1,14 +1,23 @@
 //! What the comparisons of the static library with the second program share.
 //!
+//! * [`program`] is what their programs have in common.
 //! * [`ffi`] has the C calls, and nothing else does.
 //! * [`fence`] lends memory that faults when touched outside of its ends; [`fault`] tells of it.
-//! * [`rng`] and [`text`] make input; [`tally`] counts answers.
+//!   [`lending`] says how a case is lent its memory.
+//! * [`rng`] and [`text`] make input, and [`crossed`] words as bytes.
+//! * [`tally`] counts answers, and [`report`] tells how two differ.
 //! * [`message`] makes, damages and compares messages, for the program `messages`.
+//! * `value` does so with plans and values, for the program `values`.
 
+pub mod crossed;
 pub mod fault;
 pub mod fence;
 pub mod ffi;
+pub mod lending;
 pub mod message;
+pub mod program;
+pub mod report;
 pub mod rng;
 pub mod tally;
 pub mod text;
+pub mod value;

@@ -90,10 +90,10 @@ pub fn letters(count: usize) -> Vec<u8> {
     (b'a'..=b'z').cycle().take(count).collect()
 }
 
-/// Makes a well-formed text ill formed.
+/// Makes a well-formed text ill formed; another is changed somehow.
 pub fn spoil(rng: &mut Rng, text: &mut Vec<u8>) {
     let mut at = rng.below(text.len() + 1);
-    while text.get(at).is_some_and(|byte| byte & 0xc0 == 0x80) {
+    while at > 0 && text.get(at).is_some_and(|byte| byte & 0xc0 == 0x80) {
         at -= 1;
     }
     let bad = rng.pick(&BAD);

@@ -1,6 +1,10 @@
 // The calls of the panel's C host: numbers and byte runs, nothing but the crossing to the proved calls below.
 pub mod crossing;
 pub mod message;
+pub mod values;
+
+ghost use mathlib.Core.Path.{_≡_};
+ghost use Rattle.panel.specs.Messages.{refusal};
 
 // What a call answers: a refusal's number and place, or two results.
 #[repr(C)]
@@ -9,4 +13,15 @@ pub struct Answer {
     pub place: u32,
     pub first: u32,
     pub second: u32,
+}
+
+pub fn refused(number: u32, place: u32) -> Answer
+    ensures { λ r. ⌜ r ≡ refusal number place ⌝ }
+{
+    Answer {
+        number,
+        place,
+        first: 0,
+        second: 0,
+    }
 }

@@ -1,6 +1,7 @@
 // Reading and writing a message.
 use crate::Answer;
 use crate::crossing;
+use crate::refused;
 ghost use mathlib.Core.Path.{_≡_};
 ghost use mathlib.Core.Bool.{true, false};
 ghost use Prim.Native.Nat.{ℕ, _*_, _≤_};
@@ -9,18 +10,7 @@ ghost use lib.Seq.{sets};
 ghost use Rattle.layout.specs.Layout.{layoutOf};
 ghost use Rattle.message_read.specs.Reading.{messageOf, wordsOf};
 ghost use Rattle.panel.specs.Crossing.{bytesOut, crosses};
-ghost use Rattle.panel.specs.Messages.{refusal, writeAnswer, uncrossed, ReadsMessage, Listable, WritesMessage};
-
-fn refused(number: u32, place: u32) -> Answer
-    ensures { λ r. ⌜ r ≡ refusal number place ⌝ }
-{
-    Answer {
-        number,
-        place,
-        first: 0,
-        second: 0,
-    }
-}
+ghost use Rattle.panel.specs.Messages.{writeAnswer, uncrossed, ReadsMessage, Listable, WritesMessage};
 
 // The words of an accepted message that has many, put into the list as bytes.
 fn list_many(side: u32, src: &[u8], n: usize, list: &mut [u8])

@@ -1,4 +1,4 @@
-//! Messages and lists as bytes.
+//! Messages as bytes.
 
 /// A message of this type byte and body.
 pub fn whole(type_byte: u8, body: &[&[u8]]) -> Vec<u8> {
@@ -12,9 +12,4 @@ pub fn whole(type_byte: u8, body: &[&[u8]]) -> Vec<u8> {
 pub fn count_all(message: &mut [u8]) {
     let length = message.len() as u32 - 1;
     message[1..5].copy_from_slice(&length.to_be_bytes());
-}
-
-/// A list as it crosses: four bytes to a word, big-endian.
-pub fn list(words: &[u32]) -> Vec<u8> {
-    words.iter().flat_map(|word| word.to_be_bytes()).collect()
 }

@@ -1,6 +1,7 @@
 //! One case of the comparison: a call with all it is lent.
 
-use crate::fence::Edge;
+use crate::lending::Lending;
+use crate::report::Hex;
 use second::crossing::Answer;
 use std::fmt;
 
@@ -10,19 +11,6 @@ pub struct Case {
     /// The answer worked out by hand, where there is one.
     pub expected: Option<Answer>,
 }
-
-/// How the memory of a case is lent.
-#[derive(Clone, Copy, Debug)]
-pub struct Lending {
-    /// Which end of each run is fenced.
-    pub edge: Edge,
-    /// Which part of the judge's pattern the room holds before the call, under [`FILLS`].
-    pub fill: usize,
-}
-
-/// So many ways of filling a room: were there but one, a byte that is never written could happen to
-/// hold the right value each time.
-pub const FILLS: usize = 4_096;
 
 pub enum Call {
     Read(ReadCall),
@@ -45,6 +33,12 @@ pub struct WriteCall {
     pub src: Vec<u8>,
     /// Bytes of room for the message.
     pub room: usize,
+}
+
+impl fmt::Display for Case {
+    fn fmt(&self, f: &mut fmt::Formatter) -> fmt::Result {
+        write!(f, "{:?}\n{}", self.lending, self.call)
+    }
 }
 
 impl fmt::Display for Call {
@@ -74,13 +68,5 @@ impl fmt::Display for WriteCall {
         writeln!(f, "  list, {} bytes: {}", self.list.len(), Hex(&self.list))?;
         writeln!(f, "  source, {} bytes: {}", self.src.len(), Hex(&self.src))?;
         write!(f, "  output room, {} bytes", self.room)
-    }
-}
-
-struct Hex<'a>(&'a [u8]);
-
-impl fmt::Display for Hex<'_> {
-    fn fmt(&self, f: &mut fmt::Formatter) -> fmt::Result {
-        self.0.iter().try_for_each(|byte| write!(f, "{byte:02x}"))
     }
 }

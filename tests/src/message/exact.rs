@@ -1,9 +1,11 @@
 //! Cases by construction, at the exact sizes of 01, with answers worked out by hand. Each is run
 //! with either end of its buffers fenced.
 
-use super::bytes::{list, whole};
-use super::case::{Call, Case, Lending, ReadCall, WriteCall, FILLS};
+use super::bytes::whole;
+use super::case::{Call, Case, ReadCall, WriteCall};
+use crate::crossed::{accepted, list, refused};
 use crate::fence::Edge;
+use crate::lending::{Lending, FILLS};
 use crate::text;
 use second::crossing::Answer;
 use second::message::{CLIENT, SERVER};
@@ -186,24 +188,6 @@ impl Cases {
         pair(u32::MAX, 1, refused(6, 0));
         pair(1, u32::MAX, refused(6, 0));
         pair(0, 1, refused(32, 0));
-    }
-}
-
-fn accepted(first: u32, second: u32) -> Answer {
-    Answer {
-        number: 0,
-        place: 0,
-        first,
-        second,
-    }
-}
-
-fn refused(number: u32, place: u32) -> Answer {
-    Answer {
-        number,
-        place,
-        first: 0,
-        second: 0,
     }
 }
 

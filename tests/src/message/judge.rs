@@ -2,12 +2,13 @@
 //! seen of it: the four numbers of the answer and every byte of the room. The bytes that a call
 //! reads are lent where it cannot write.
 
-use super::case::{Call, Case, Lending, ReadCall, WriteCall, FILLS};
+use super::case::{Call, Case, ReadCall, WriteCall};
 use crate::fence::{Input, Room};
 use crate::ffi;
+use crate::lending::{Lending, FILLS};
+use crate::report::{compare, report};
 use crate::rng::Rng;
 use second::crossing::{self, Answer};
-use std::fmt::Display;
 
 /// The largest run that a case lends.
 const CAPACITY: usize = 262_144;
@@ -124,26 +125,6 @@ impl Judge {
     }
 }
 
-/// Two outcomes: the answer, and the room after the call.
-fn compare(
-    call: &impl Display,
-    (library, room): (Answer, &[u8]),
-    (second, left): (Answer, &[u8]),
-) -> Result<Answer, String> {
-    if library == second && room == left {
-        return Ok(library);
-    }
-    let answers = [("library", library), ("second program", second)];
-    let what = match room.iter().zip(left).position(|(one, other)| one != other) {
-        None => "the answers differ".to_string(),
-        Some(at) => format!(
-            "byte {at} of the room differs: library {:02x}, second program {:02x}",
-            room[at], left[at]
-        ),
-    };
-    Err(report(&what, call, &answers))
-}
-
 /// Whether two lists name the same bytes, pair by pair, each in its own source.
 fn same_fields(one: (&[u8], &[u8]), other: (&[u8], &[u8])) -> bool {
     one.0.len() == other.0.len() && fields(one.0, one.1).eq(fields(other.0, other.1))
@@ -160,12 +141,4 @@ fn fields<'a>(list: &'a [u8], src: &'a [u8]) -> impl Iterator<Item = &'a [u8]> {
         let (start, length) = (word(&pair[..4]), word(&pair[4..]));
         &src[start..start + length]
     })
-}
-
-fn report(what: &str, call: &impl Display, answers: &[(&str, Answer)]) -> String {
-    let mut report = format!("{what}\n{call}");
-    for (whose, answer) in answers {
-        report += &format!("\n  {whose}: {answer:?}");
-    }
-    report
 }

@@ -1,9 +1,11 @@
 //! Every value of what has few of them: type bytes, named bytes, D's number and the bytes of one
 //! letter of a text. Chance would leave some out.
 
-use super::bytes::{list, whole};
-use super::case::{Call, Case, Lending, ReadCall, WriteCall, FILLS};
+use super::bytes::whole;
+use super::case::{Call, Case, ReadCall, WriteCall};
+use crate::crossed::list;
 use crate::fence::Edge;
+use crate::lending::{Lending, FILLS};
 use second::message::{read_message, CLIENT, SERVER};
 
 /// Enough for the lists here.

@@ -1,9 +1,9 @@
 //! Cases for the writer: a list, and a source that it points into.
 
-use super::bytes::list;
 use super::case::WriteCall;
 use super::damage;
 use super::draft::Draft;
+use crate::crossed::list;
 use crate::rng::Rng;
 use crate::text;
 use second::message::{self, Field};

@@ -1,0 +1,10 @@
+-- The laws of plans, which this crate's proofs cite, and other crates' too. Assumes nothing.
+pub mod Looks
+pub mod Reading
+pub mod Nodes
+pub mod Refs
+pub mod Starts
+pub mod Sizes
+pub mod Heights
+pub mod Cases
+pub mod Scans

@@ -1,0 +1,37 @@
+-- The size of a node, by its kind. Assumes nothing.
+use mathlib.Core.Path.{_≡_, sym, _∙_}
+use mathlib.Core.Logic.{_⊎_, ⊎-elim}
+use Prim.Native.Nat.{ℕ, _+_, _*_, _≤_}
+use native.Mathlib.Omega.{arith}
+use lib.Dec.{eqb}
+use borrow.Author.Tests.{ne-eqb}
+use Rattle.wire.specs.Choice.{pick}
+use Rattle.wire.proofs.Picks.{pick-no, pick-case}
+use Rattle.plan.specs.Plan.{sizeOf}
+
+module _ (K n : ℕ) where
+  pub size-tuple : (m : ℕ) → K ≡ 4 → m ≡ n → 2 + m ≡ sizeOf K n
+  unfolding sizeOf pick
+  size-tuple m e q = rw (e, q)
+
+  pub size-pairs : (m : ℕ) → (K ≡ 5) ⊎ (K ≡ 6) → m ≡ n → 2 + 2 * m ≡ sizeOf K n
+  unfolding sizeOf pick
+  size-pairs m o q = ⊎-elim (λ (e : K ≡ 5). rw (e, q)) (λ (e : K ≡ 6). rw (e, q)) o
+
+  pub size-enum : K ≡ 8 → 1 ≡ sizeOf K n
+  unfolding sizeOf pick
+  size-enum e = rw e
+
+  pub size-other : (K ≡ 4 → ⊥) → (K ≡ 5 → ⊥) → (K ≡ 6 → ⊥) → (K ≡ 8 → ⊥) → 2 ≡ sizeOf K n
+  unfolding sizeOf
+  size-other a b c d =
+      sym (pick-no _ _ _ (ne-eqb K 4 a) ∙ pick-no _ _ _ (ne-eqb K 5 b) ∙ pick-no _ _ _ (ne-eqb K 6 c) ∙ pick-no _ _ _ (ne-eqb K 8 d))
+
+  -- a node is not larger than an object of as many elements
+  pub size-most : sizeOf K n ≤ 2 + 2 * n
+  unfolding sizeOf
+  size-most =
+      pick-case (λ m. m ≤ 2 + 2 * n) (eqb K 4) _ _ (λ _. omega arith)
+      (λ _. pick-case (λ m. m ≤ 2 + 2 * n) (eqb K 5) _ _ (λ _. omega arith)
+      (λ _. pick-case (λ m. m ≤ 2 + 2 * n) (eqb K 6) _ _ (λ _. omega arith)
+      (λ _. pick-case (λ m. m ≤ 2 + 2 * n) (eqb K 8) _ _ (λ _. omega arith) (λ _. omega arith))))

@@ -1,0 +1,9 @@
+-- The laws of the rules of values, over any description of nodes. Assumes nothing.
+pub mod Forests
+pub mod Outcomes
+pub mod Loops
+pub mod Relabel
+pub mod Fuel
+pub mod HeadSizes
+pub mod Bound
+pub mod Widths

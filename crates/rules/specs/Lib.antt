@@ -1,0 +1,4 @@
+pub mod Node
+pub mod Forest
+pub mod Values
+pub mod Renaming

@@ -1,0 +1,174 @@
+-- The laws of a run: the plan's root, the tests in their order, and what an answer says of the outcome. Assumes nothing.
+use mathlib.Core.Path.{_≡_, refl, ap, sym, _∙_}
+use mathlib.Core.Bool.{Bool, true, false}
+use mathlib.Core.List.{List, [], _∷_, _++_}
+use Prim.Native.Nat.{ℕ, zero, suc, _+_, _*_, _^_, _<_, _≤_}
+use native.Mathlib.Omega.{arith}
+use native.Mathlib.Nat.{zero-add}
+use lib.Dec.{eqb, leb}
+use lib.ListN.{length, getD, drop}
+use lib.Seq.{sets, sets-eq}
+use borrow.Author.Tests.{lt-ltb, le-ltb, eq-eqb, ne-eqb, eqb-true, leb-true}
+use Rattle.wire.specs.Choice.{pick}
+use Rattle.wire.proofs.Picks.{clash, both}
+use Rattle.rules.specs.Forest.{Forest, empty, words}
+use Rattle.rules.specs.Values.{Outcome, refused, listed, valueOf}
+use Rattle.plan.specs.Plan.{look, noType, nodesOf, startsIn, planFormed, At}
+use Rattle.plan.proofs.Nodes.{at-root, at-low}
+use Rattle.value.specs.Walk.{Walk, stopped, reached, walkOf, led, Within}
+use Rattle.value.specs.declared.Step as Step
+use Rattle.value.specs.declared.Step.the-variants.{Refused, Reached}
+use Rattle.run.specs.Run.{nothingIn, valueBy, checked, roomed, runOf, answerOf, listAfter, Gives, Stored, Checks}
+use Rattle.run.specs.declared.Answer.{Answer}
+use Rattle.run.specs.declared.Answer.the-variants.{Listed}
+
+-- ---- a well-formed plan's root
+
+none-two : (p : List ℕ) → noType p ≡ true → (length p ≡ 2) × (getD p 1 0 ≡ 0)
+unfolding noType
+none-two p e =
+    let a = both (eqb (length p) 2) (pick (eqb (getD p 0 0) 2) (eqb (getD p 1 0) 0) false) e in
+    let b = both (eqb (getD p 0 0) 2) (eqb (getD p 1 0) 0) (a .1) in
+    (eqb-true _ 2 (a .0), eqb-true _ 0 (b .1))
+
+module _ (p : List ℕ) (f : planFormed p ≡ true) where
+  pub two : 2 ≤ length p
+  unfolding planFormed pick
+  two = go (noType p) refl f
+    where
+      go : (b : Bool) → noType p ≡ b → pick b true (pick (leb 2 (length p)) (pick (eqb (getD p 0 0) (length p)) (startsIn (nodesOf p) (getD p 1 0)) false) false) ≡ true → 2 ≤ length p
+      go true e g = omega (arith, none-two p e .0)
+      go false e g = leb-true 2 (length p) (both (leb 2 (length p)) (pick (eqb (getD p 0 0) (length p)) (startsIn (nodesOf p) (getD p 1 0)) false) g .0)
+
+  pub root-none : getD p 1 0 ≡ 0 → ((j : ℕ) → getD p j 0 < 2 ^ 32) → noType p ≡ true
+  root-none e w = go (noType p) refl
+    where
+      go : (b : Bool) → noType p ≡ b → noType p ≡ true
+      go true g = g
+      go false g = absurd (omega (arith, at-low p (getD p 1 0) (at-root p f g w)))
+
+  pub root-some : (getD p 1 0 ≡ 0 → ⊥) → noType p ≡ false
+  root-some n = go (noType p) refl
+    where
+      go : (b : Bool) → noType p ≡ b → noType p ≡ false
+      go true g = absurd (n (none-two p g .1))
+      go false g = g
+
+-- ---- a value by a well-formed plan
+
+reached-is : (o : Outcome) (at : ℕ) (l l′ : List ℕ) → reached at l′ ≡ led o 0 l → (f : Forest) × (o ≡ listed f) × (at ≡ length (words f)) × (l′ ≡ sets l 0 (words f))
+unfolding led
+reached-is (refused n p) at l l′ e = let z : _≡_ {A = ℕ} 0 1 = cc in absurd (omega arith)
+reached-is (listed f) at l l′ e = let a : 0 + length (words f) ≡ at = cc in (f, refl, sym a ∙ zero-add (length (words f)), cc)
+
+stopped-is : (o : Outcome) (n p : ℕ) (l : List ℕ) → stopped n p ≡ led o 0 l → o ≡ refused n p
+unfolding led
+stopped-is (refused m q) n p l e = cc
+stopped-is (listed f) n p l e = let z : _≡_ {A = ℕ} 0 1 = cc in absurd (omega arith)
+
+-- a refusal says nothing of the scratch room
+refuses : (m : ℕ) (o : Outcome) (n p : ℕ) (l l′ : List ℕ) → o ≡ refused n p → Checks m o (Answer.Refused n p) l l′
+unfolding answerOf Stored
+refuses m o n p l l′ e = rw e (record { answer = refl; words = tt })
+
+module _ (p s : List ℕ) (f : planFormed p ≡ true) (l l′ : List ℕ) where
+  module _ (w : (j : ℕ) → getD p j 0 < 2 ^ 32) (r : ℕ) (er : r ≡ getD p 1 0) (z : r ≡ 0) where
+    nothing-is : valueBy p s ≡ nothingIn s
+    unfolding valueBy pick
+    nothing-is = rw (root-none p f (sym er ∙ z) w)
+
+    pub check-nothing : length s ≡ 0 → l′ ≡ l → Checks (length s) (valueBy p s) (Listed 0) l l′
+    unfolding nothingIn pick answerOf Stored words
+    check-nothing e g = rw (nothing-is, eq-eqb (length s) 0 e) (record { answer = refl; words = (g, omega arith) })
+
+    pub check-bytes : (length s ≡ 0 → ⊥) → Checks (length s) (valueBy p s) (Answer.Refused 21 0) l l′
+    unfolding nothingIn pick
+    check-bytes e = refuses _ _ 21 0 l l′ (nothing-is ∙ rw (ne-eqb (length s) 0 e))
+
+  module _ (r : ℕ) (er : r ≡ getD p 1 0) (nz : r ≡ 0 → ⊥) where
+    value-is : valueBy p s ≡ valueOf (look p) r 0 0 s
+    unfolding valueBy pick
+    value-is = rw (root-some p f (λ e. nz (er ∙ e)), er)
+
+    module _ (x : Step.Step) (q : walkOf x l′ ≡ led (valueOf (look p) r 0 0 s) 0 l) where
+      pub check-refused : (n m : ℕ) → x ≡ Refused n m → Checks (length s) (valueBy p s) (Answer.Refused n m) l l′
+      unfolding walkOf
+      check-refused n m e = refuses _ _ n m l l′ (value-is ∙ stopped-is _ n m l (rw e at q))
+
+      pub check-listed : (at : ℕ) → x ≡ Reached at → Within (0 + length s) x → Checks (length s) (valueBy p s) (Listed at) l l′
+      unfolding walkOf Within answerOf Stored
+      check-listed at e b =
+          let h = reached-is (valueOf (look p) r 0 0 s) at l l′ (rw e at q) in
+          let c = rw e at b in
+          rw (value-is, h .1) (record { answer = ap Listed (h .2); words = (h .3, omega (arith, h .2)) })
+
+-- ---- the tests, in their order
+
+module _ (p s l l′ : List ℕ) where
+  pub check-unformed : planFormed p ≡ false → Checks (length s) (checked p s) (Answer.Refused 33 0) l l′
+  unfolding checked pick
+  check-unformed e = refuses _ _ 33 0 l l′ (rw e)
+
+  module _ (f : planFormed p ≡ true) where
+    pub check-large : 65535 < length s → Checks (length s) (checked p s) (Answer.Refused 28 0) l l′
+    unfolding checked pick
+    check-large h = refuses _ _ 28 0 l l′ (rw (f, lt-ltb 65535 (length s) h))
+
+    pub check-small : length s ≤ 65535 → (r : Answer) → Checks (length s) (valueBy p s) r l l′ → Checks (length s) (checked p s) r l l′
+    unfolding checked pick
+    check-small h r c = rw (f, le-ltb 65535 (length s) h) c
+
+-- ---- what an answer says of the outcome
+
+-- an accepted value: its words, and that they are in the scratch room
+pub record Found (m : ℕ) (o : Outcome) (w : ℕ) (l l′ : List ℕ) : Type 0 where
+  pub forest : Forest
+  pub is : o ≡ listed forest
+  pub count : w ≡ length (words forest)
+  pub stored : l′ ≡ sets l 0 (words forest)
+  pub few : 4 * w ≤ 5 * m + 20
+
+found-in : (m : ℕ) (o : Outcome) (w : ℕ) (l l′ : List ℕ) → Listed w ≡ answerOf o → Stored m o l l′ → Found m o w l l′
+unfolding answerOf Stored
+found-in m (refused n p) w l l′ e s = let z : _≡_ {A = ℕ} 0 1 = cc in absurd (omega arith)
+found-in m (listed f) w l l′ e s = let c : w ≡ length (words f) = cc in record { forest = f; is = refl; count = c; stored = s .0; few = omega (arith, s .1) }
+
+refused-in : (o : Outcome) (n p : ℕ) → Answer.Refused n p ≡ answerOf o → o ≡ refused n p
+unfolding answerOf
+refused-in (refused m q) n p e = cc
+refused-in (listed f) n p e = let z : _≡_ {A = ℕ} 0 1 = cc in absurd (omega arith)
+
+module _ (m : ℕ) (o : Outcome) (a : Answer) (l l′ : List ℕ) (c : Checks m o a l l′) where
+  pub found : (w : ℕ) → a ≡ Listed w → Found m o w l l′
+  found w e = found-in m o w l l′ (sym e ∙ c .answer) (c .words)
+
+  pub turned-down : (n p : ℕ) → a ≡ Answer.Refused n p → o ≡ refused n p
+  turned-down n p e = refused-in o n p (sym e ∙ c .answer)
+
+-- ---- the call
+
+module _ (p s : List ℕ) (a : Answer) (k k′ : List ℕ) (c : Checks (length s) (checked p s) a k k′) (l : List ℕ) where
+  pub gives-refused : (n q : ℕ) → a ≡ Answer.Refused n q → Gives (runOf p s (length l)) a l l
+  unfolding runOf roomed answerOf listAfter
+  gives-refused n q e = let o = turned-down _ _ a k k′ c n q e in record { answer = e ∙ rw o; list = rw o }
+
+  module _ (w : ℕ) (e : a ≡ Listed w) where
+    f : Found (length s) (checked p s) w k k′
+    f = found _ _ a k k′ c w e
+
+    pub gives-full : length l < w → Gives (runOf p s (length l)) (Answer.Refused 31 0) l l
+    unfolding runOf roomed answerOf listAfter pick
+    gives-full h =
+        let h′ : length l < length (words (f .forest)) = omega (arith, f .count) in
+        rw (f .is, lt-ltb _ _ h′) (record { answer = refl; list = refl })
+
+    pub gives-listed : w ≤ length l → (a′ : Answer) (l′ : List ℕ) → Checks (length s) (checked p s) a′ l l′ → Gives (runOf p s (length l)) (Listed w) l l′
+    unfolding runOf roomed answerOf listAfter Stored pick
+    gives-listed h a′ l′ d =
+        let h′ : length (words (f .forest)) ≤ length l = omega (arith, f .count) in
+        let g = rw (f .is) at (d .words) in
+        rw (f .is, le-ltb _ _ h′)
+        (record {
+          answer = ap Listed (f .count);
+          list = g .0 ∙ sets-eq (words (f .forest)) l 0 (omega arith) ∙ ap (λ (n : ℕ). words (f .forest) ++ drop n l) (zero-add (length (words (f .forest))));
+        })

@@ -1,0 +1,15 @@
+use Rattle.scalars.proofs.Decimals.{sign-plus, sign-other}
+use borrow.Author.Needs.{needs}
+use Rattle.scalars.proofs.number.sign_ok.Statement.{statement}
+use Rattle.scalars.proofs.number.sign_ok.Tie as tie
+use Rattle.scalars.proofs.number.sign_ok.Reads as reads
+use Rattle.scalars.proofs.number.sign_ok.Lts as lts
+
+returns : tie.Need-returns
+returns c = sign-plus _ (c .if1 .taken)
+
+returns-2 : tie.Need-returns-2
+returns-2 c = sign-other _ (c .if1 .left)
+
+pub sign-ok-spec : {M : Type 1} → statement M
+sign-ok-spec = tie.close (tie.spec returns returns-2)

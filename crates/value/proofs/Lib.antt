@@ -1,0 +1,4 @@
+pub mod Entries
+pub mod Walks
+pub mod Nodes
+pub mod Members

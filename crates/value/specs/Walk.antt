@@ -1,0 +1,75 @@
+-- The rules of values as the code goes by them: the list by the number of its words so far. A refusal says nothing of the list.
+-- Assumes nothing: these are definitions.
+use mathlib.Core.Path.{_≡_}
+use Prim.Native.Nat.{ℕ, _+_, _*_, _^_, _<_, _≤_}
+use mathlib.Core.Bool.{Bool, true, false, not}
+use mathlib.Core.List.{List}
+use lib.ListN.{length, getD}
+use lib.Seq.{sets}
+use Rattle.rules.specs.Forest.{words}
+use Rattle.rules.specs.Values.{Outcome, refused, listed}
+use Rattle.rules.specs.Node.{Node, leaf, enum, row, arrays, tuple, object, sparse, range}
+use Rattle.wire.specs.Choice.{pick}
+use Rattle.heads.specs.Heads.{Inside, indexOf, endOf, requires}
+use Rattle.heads.specs.Bounds.{From}
+use Rattle.heads.specs.Faults.{headFault}
+use Rattle.heads.specs.declared.Head.{Head}
+use Rattle.plan.specs.Readers.{Refers}
+use Rattle.value.specs.declared.Step.{Step}
+use Rattle.value.specs.declared.Step.the-variants.{Refused, Reached}
+
+-- where a walk ends
+pub data Walk : Type 0 where
+  stopped : ℕ → ℕ → Walk
+  reached : ℕ → List ℕ → Walk
+
+unfoldable pub walkOf : Step → List ℕ → Walk
+walkOf (Refused n p) l = stopped n p
+walkOf (Reached at) l = reached at l
+
+-- where an outcome leads, from k words on: the list by `sets`, whose stores past the end do nothing
+unfoldable pub led : Outcome → ℕ → List ℕ → Walk
+led (refused n p) k l = stopped n p
+led (listed f) k l = reached (k + length (words f)) (sets l k (words f))
+
+-- by the byte at e, at most 1 + e / 4 entries of five words: each has at least four bytes of its own
+unfoldable pub Within : ℕ → Step → Type 0
+Within e (Refused q p) = Unit {0}
+Within e (Reached at) = 4 * at ≤ 5 * e + 20
+
+-- a container whose elements come in the order of their indexes
+unfoldable pub IsRow : Node → Type 0
+IsRow (leaf f) = ⊥
+IsRow enum = ⊥
+IsRow (row r) = Unit {0}
+IsRow (arrays r) = Unit {0}
+IsRow (tuple refs) = Unit {0}
+IsRow (object refs cards) = Unit {0}
+IsRow (sparse refs cards) = ⊥
+IsRow (range r) = Unit {0}
+
+-- the kind word of a container's node
+pub record Container (p : List ℕ) (k kind : ℕ) : Type 0 where
+  pub is : kind ≡ getD p k 0
+  pub low : 2 ≤ kind
+  pub high : kind ≤ 7
+
+-- every element below n has a node
+abbrev pub Holds : Node → ℕ → Type 0
+Holds v n = (i : ℕ) → i < n → Refers v i
+
+-- what holds of an element's head that was read at a position of n bytes, in a container of a node
+pub record HeadIn (v : Node) (n at : ℕ) (h : Head) : Type 0 where
+  pub inside : Inside n at h
+  pub from : From (at + 4) h
+  pub refers : headFault h ≡ 0 → Refers v (indexOf h)
+  pub small : indexOf h < 2 ^ 32
+
+-- the element with an index is required and was not given
+unfoldable pub lacks : List ℕ → List Bool → ℕ → Bool
+lacks cards marks i = pick (requires (getD cards i 0)) (not (getD marks i false)) false
+
+-- an element that was reached is no refusal, and its words are few enough for its end
+unfoldable pub WithinHead : ℕ → Head → Step → Type 0
+WithinHead base h (Refused q p) = Unit {0}
+WithinHead base h (Reached at) = (headFault h ≡ 0) × (4 * at ≤ 5 * (base + endOf h) + 20)

@@ -1,0 +1,91 @@
+// The heads of a node's values, by the node's kind.
+use heads::Head;
+use heads::Index;
+use heads::Opening;
+use heads::sparse::Seen;
+ghost use mathlib.Core.Path.{_≡_};
+ghost use Prim.Native.Nat.{ℕ, _+_, _<_, _≤_};
+ghost use lib.ListN.{length, getD};
+ghost use Rattle.heads.specs.Heads.{sparseHead, lacking};
+ghost use Rattle.rules.specs.Values.{openingOf, rowHead};
+ghost use Rattle.plan.specs.Plan.{look, cardsAt, At};
+ghost use Rattle.value.specs.Walk.{Container, lacks};
+
+// The head of a container.
+pub fn open_node(plan: &[u32], node: usize, kind: u32, part: &[u8]) -> Opening
+    requires { ⌜ (At (now plan) node) × (Container (now plan) node kind) ⌝ }
+    ensures { λ r. ⌜ r ≡ openingOf (look (now (plan .entry)) node) (now (part .entry)) ⌝ }
+{
+    if kind == 6 {
+        return heads::container::sparse_opening(part);
+    }
+    if kind == 7 {
+        return heads::container::range_opening(part);
+    }
+    if kind < 4 {
+        return heads::container::set_opening(part);
+    }
+    heads::container::count_opening(part, plan::node::second_at(plan, node))
+}
+
+// The head of the element with an index, in a container whose elements come in order.
+pub fn row_head(plan: &[u32], node: usize, kind: u32, part: &[u8], i: usize, at: usize) -> Head
+    requires { ⌜ (At (now plan) node) × (Container (now plan) node kind) × (kind ≡ 6 → ⊥) × (kind ≡ 5 → i < getD (now plan) (node + 1) 0) × (at ≤ length (now part)) ⌝ }
+    ensures { λ r. ⌜ r ≡ rowHead (look (now (plan .entry)) node) (now (part .entry)) i at ⌝ }
+{
+    if kind == 4 {
+        return heads::element::plain_head(part, 4, i, at);
+    }
+    if kind == 3 {
+        return heads::element::envelope_head(part, i, at);
+    }
+    if kind == 5 {
+        let required = heads::element::required(plan::node::card_of(plan, node, i));
+        return heads::element::object_head(part, required, i, at);
+    }
+    heads::element::plain_head(part, 0, i, at)
+}
+
+// The head of an element of a sparse object, with the indexes that were given before it.
+pub fn sparse_head(plan: &[u32], node: usize, part: &[u8], seen: Seen, at: usize) -> Head
+    requires { ⌜ (At (now plan) node) × (getD (now plan) node 0 ≡ 6) × (at ≤ length (now part)) ⌝ }
+    ensures { λ r. ⌜ r ≡ sparseHead (now (part .entry)) (cardsAt (now (plan .entry)) node) (seen .marks) at ⌝ }
+{
+    let n = plan::node::second_at(plan, node);
+    let index = heads::sparse::sparse_index(part, n, seen, at);
+    let Index::Known(i) = index else {
+        return Head::Fault(heads::parts::index_fault(index));
+    };
+    let required = heads::element::required(plan::node::card_of(plan, node, i));
+    heads::element::sparse_length(part, required, i, at)
+}
+
+// Whether the element with an index is required and was not given.
+fn is_lacking(plan: &[u32], node: usize, seen: Seen, i: usize) -> bool
+    requires { ⌜ (At (now plan) node) × (getD (now plan) node 0 ≡ 6) × (i < getD (now plan) (node + 1) 0) ⌝ }
+    ensures { λ b. ⌜ b ≡ lacks (cardsAt (now (plan .entry)) node) (seen .marks) i ⌝ }
+{
+    if heads::element::required(plan::node::card_of(plan, node, i)) {
+        if seen.has(i) {
+            return false;
+        }
+        return true;
+    }
+    false
+}
+
+// Whether any element of a sparse object is required and was not given.
+pub fn any_lacking(plan: &[u32], node: usize, seen: Seen) -> bool
+    requires { ⌜ (At (now plan) node) × (getD (now plan) node 0 ≡ 6) ⌝ }
+    ensures { λ b. ⌜ b ≡ lacking (cardsAt (now (plan .entry)) node) (seen .marks) (length (cardsAt (now (plan .entry)) node)) ⌝ }
+{
+    let n = plan::node::second_at(plan, node);
+    let mut i: usize = 0;
+    while i < n {
+        if is_lacking(plan, node, seen, i) {
+            return true;
+        }
+        i += 1;
+    }
+    false
+}

@@ -1,0 +1,144 @@
+//! What scalars and enumerations may hold: 01, "Values", the last paragraph, and source document
+//! 000 for the sizes.
+
+/// The twenty formats, in the order of their numbers 0 to 19: 01, "Descriptors", the last
+/// paragraph.
+#[derive(Clone, Copy, Debug, PartialEq, Eq)]
+pub enum Format {
+    Uuid,
+    Str,
+    Bytes,
+    Int16,
+    Int32,
+    Int64,
+    Float32,
+    Float64,
+    Decimal,
+    Bool,
+    Datetime,
+    LocalDatetime,
+    LocalDate,
+    LocalTime,
+    Duration,
+    Json,
+    Bigint,
+    RelativeDuration,
+    DateDuration,
+    Memory,
+}
+
+/// "digits to 9,999".
+const MOST_DIGIT: u16 = 9_999;
+
+impl Format {
+    pub const ALL: [Format; 20] = [
+        Format::Uuid,
+        Format::Str,
+        Format::Bytes,
+        Format::Int16,
+        Format::Int32,
+        Format::Int64,
+        Format::Float32,
+        Format::Float64,
+        Format::Decimal,
+        Format::Bool,
+        Format::Datetime,
+        Format::LocalDatetime,
+        Format::LocalDate,
+        Format::LocalTime,
+        Format::Duration,
+        Format::Json,
+        Format::Bigint,
+        Format::RelativeDuration,
+        Format::DateDuration,
+        Format::Memory,
+    ];
+
+    /// "Formats are numbered 0 to 19 in this order."
+    pub fn numbered(number: u32) -> Option<Format> {
+        Format::ALL.get(number as usize).copied()
+    }
+
+    /// Whether a scalar of this format may hold these bytes (else refusal 24).
+    pub fn permits(self, content: &[u8]) -> bool {
+        match self {
+            Format::Bytes => true,
+            Format::Str => is_text(content),
+            Format::Json => json(content),
+            Format::Bool => matches!(content, [0 | 1]),
+            Format::Decimal => decimal(content),
+            Format::Bigint => bigint(content),
+            Format::Duration => duration(content),
+            Format::Int16 => content.len() == 2,
+            Format::Int32 | Format::Float32 | Format::LocalDate => content.len() == 4,
+            // "Times take any integer."
+            Format::Int64
+            | Format::Float64
+            | Format::Datetime
+            | Format::LocalDatetime
+            | Format::LocalTime
+            | Format::Memory => content.len() == 8,
+            // date_duration's reserved field is "not looked at".
+            Format::Uuid | Format::RelativeDuration | Format::DateDuration => content.len() == 16,
+        }
+    }
+}
+
+/// "Enumeration values are any UTF-8 text."
+pub fn enumeration(content: &[u8]) -> bool {
+    is_text(content)
+}
+
+/// "well-formed UTF-8 (Unicode Standard, Table 3-7)".
+fn is_text(content: &[u8]) -> bool {
+    std::str::from_utf8(content).is_ok()
+}
+
+/// "json byte 1, then UTF-8", and no grammar (reading 5.12).
+fn json(content: &[u8]) -> bool {
+    match content.split_first() {
+        Some((1, text)) => is_text(text),
+        _ => false,
+    }
+}
+
+/// "duration's last 8 bytes zero".
+fn duration(content: &[u8]) -> bool {
+    content.len() == 16 && content[8..] == [0; 8]
+}
+
+/// The head that decimal and bigint share, once their common rule holds.
+struct Digits {
+    count: u16,
+    weight: i16,
+    /// decimal's display scale, bigint's reserved field.
+    fourth: u16,
+}
+
+/// "decimal exactly 8 + 2n bytes, sign 0 or 4000 hex, digits to 9,999".
+fn digits(content: &[u8]) -> Option<Digits> {
+    let word = |pair: &[u8]| u16::from_be_bytes([pair[0], pair[1]]);
+    let (head, rest) = content.split_at_checked(8)?;
+    let (count, sign) = (word(&head[..2]), word(&head[4..6]));
+    let whole = rest.len() == 2 * usize::from(count);
+    let permitted = rest.chunks_exact(2).all(|digit| word(digit) <= MOST_DIGIT);
+    (whole && matches!(sign, 0 | 0x4000) && permitted).then_some(Digits {
+        count,
+        weight: word(&head[2..4]) as i16,
+        fourth: word(&head[6..]),
+    })
+}
+
+/// Any weight and any display scale pass (reading 5.13).
+fn decimal(content: &[u8]) -> bool {
+    digits(content).is_some()
+}
+
+/// "bigint also reserved zero and, if n > 0, n at most weight + 1", in plain integers (reading
+/// 5.13).
+fn bigint(content: &[u8]) -> bool {
+    digits(content).is_some_and(|digits| {
+        let room = i32::from(digits.weight) + 1;
+        digits.fourth == 0 && (digits.count == 0 || i32::from(digits.count) <= room)
+    })
+}

@@ -1,0 +1,438 @@
+/* The call for values by plan as a C host makes it, on cases worked out by hand.
+ *
+ *     cc -std=c11 -Wall -Wextra -pthread tests/c/values.c target/staticlib/libpanel.a \
+ *         -o target/c-values
+ *
+ * Values are written in hex, spaces for the eye only; plans and lists as decimal words. Every room
+ * is filled before the call and looked at whole after it, with some bytes more on either side. The
+ * largest cases run on a thread with a small stack.
+ */
+#define _DEFAULT_SOURCE
+#include "../../include/rembulfose.h"
+
+#include <pthread.h>
+#include <stdio.h>
+#include <stdlib.h>
+#include <string.h>
+#include <sys/mman.h>
+
+/* Bytes of stack that must be enough for any call. */
+#ifdef REMBULFOSE_STACK
+enum { STACK = REMBULFOSE_STACK };
+#else
+enum { STACK = 262144 };
+#endif
+
+enum { FILL = 0xa5, MARGIN = 16, MOST = 1024 };
+enum { MOST_WORDS = 8192, MOST_VALUE = 65535 };
+enum { LEAF = 1, SET = 2, TUPLE = 4, OUTPUT = 5, INPUT = 6, ENUMERATION = 8 };
+enum { STR = 1, BYTES = 2, ONE = 65 };
+
+static unsigned passed, failed;
+
+static rembulfose_answer accepted(uint32_t words) {
+    return (rembulfose_answer){0, 0, words, 0};
+}
+
+static rembulfose_answer refused(uint32_t number, uint32_t place) {
+    return (rembulfose_answer){number, place, 0, 0};
+}
+
+static void count(const char *name, int good) {
+    if (good) {
+        passed++;
+    } else {
+        failed++;
+        printf("failed: %s\n", name);
+    }
+}
+
+static int digit(char letter) {
+    return letter <= '9' ? letter - '0' : letter - 'a' + 10;
+}
+
+/* The bytes of a text in hex; how many is returned. */
+static size_t bytes_of(const char *hex, uint8_t *bytes) {
+    size_t length = 0;
+    while (*hex) {
+        if (*hex == ' ') {
+            hex++;
+        } else {
+            bytes[length++] = (uint8_t)(digit(hex[0]) << 4 | digit(hex[1]));
+            hex += 2;
+        }
+    }
+    return length;
+}
+
+static void put_word(uint8_t *at, uint32_t word) {
+    for (int i = 0; i < 4; i++)
+        at[i] = (uint8_t)(word >> (24 - 8 * i));
+}
+
+/* The bytes of decimal words, four to a word; how many is returned. */
+static size_t words_of(const char *decimal, uint8_t *bytes) {
+    size_t length = 0;
+    char *end;
+    for (;;) {
+        unsigned long word = strtoul(decimal, &end, 10);
+        if (end == decimal)
+            return length;
+        put_word(bytes + length, (uint32_t)word);
+        length += 4;
+        decimal = end;
+    }
+}
+
+static int same_answer(rembulfose_answer one, rembulfose_answer other) {
+    return one.number == other.number && one.place == other.place && one.first == other.first &&
+           one.second == other.second;
+}
+
+/* Whether memory with a margin on either side holds these bytes, and all else is as it was. */
+static int holds(const uint8_t *memory, const uint8_t *bytes, size_t length) {
+    uint8_t expected[MARGIN + MOST + MARGIN];
+    memset(expected, FILL, sizeof expected);
+    memcpy(expected + MARGIN, bytes, length);
+    return memcmp(memory, expected, sizeof expected) == 0;
+}
+
+/* Runs a value; the room of so many bytes must then start with `list`, and plan and value must be
+ * as they were. */
+static void running(const char *name, const char *plan, const char *value, size_t room,
+                    rembulfose_answer expected, const char *list) {
+    uint8_t plan_bytes[MOST], plan_again[MOST], bytes[MOST], bytes_again[MOST], words[MOST];
+    uint8_t memory[MARGIN + MOST + MARGIN];
+    size_t plan_length = words_of(plan, plan_bytes), length = bytes_of(value, bytes);
+    size_t words_length = words_of(list, words);
+    memset(memory, FILL, sizeof memory);
+    rembulfose_answer answer =
+        rembulfose_run(plan_bytes, plan_length, bytes, length, memory + MARGIN, room);
+    words_of(plan, plan_again);
+    bytes_of(value, bytes_again);
+    count(name, same_answer(answer, expected) && holds(memory, words, words_length) &&
+                    memcmp(plan_bytes, plan_again, plan_length) == 0 &&
+                    memcmp(bytes, bytes_again, length) == 0);
+}
+
+/* A good value: with just enough room, with three bytes more, and with a byte less. */
+static void good(const char *name, const char *plan, const char *value, const char *list) {
+    uint8_t words[MOST];
+    size_t length = words_of(list, words);
+    running(name, plan, value, length, accepted((uint32_t)(length / 4)), list);
+    running(name, plan, value, length + 3, accepted((uint32_t)(length / 4)), list);
+    running(name, plan, value, length - 1, refused(31, 0), "");
+}
+
+static void bad(const char *name, const char *plan, const char *value, uint32_t number,
+                uint32_t place) {
+    running(name, plan, value, MOST, refused(number, place), "");
+}
+
+/* A set of int64, and an input object of one int64 that is required. */
+#define SET_PLAN "6 4 1 5 2 2"
+#define INPUT_PLAN "8 4 1 5 6 1 2 65"
+#define TWO                                                                                        \
+    "00000001 0000000000000000 00000002 00000001 00000008 0000000000000007"                        \
+    "00000008 ffffffffffffffff"
+#define ABSENT "4294967295"
+
+/* The cases of document 01 that have a value. */
+static void edges(void) {
+    good("case 2", SET_PLAN, TWO, "4 0 0 44 2  2 0 24 8 0  2 1 36 8 0");
+    good("case 3", SET_PLAN, "00000000 0000000000000000", "4 0 0 12 0");
+    bad("case 4", SET_PLAN, "00000001 0000000000000000 00000000 00000001", 22, 0);
+    bad("case 5", SET_PLAN,
+        "00000001 0000000000000000 00000002 00000001 00000008 0000000000000007"
+        "00000008 ffffffffffffff",
+        20, 0);
+    bad("case 6", SET_PLAN, TWO "00", 21, 0);
+    bad("case 7", SET_PLAN, "00000001 0000000000000000 00000001 00000001 00000007 00000000000000",
+        24, 24);
+    bad("case 10", INPUT_PLAN, "00000000", 27, 0);
+    bad("case 11", INPUT_PLAN,
+        "00000002 00000000 00000008 0000000000000001 00000000 00000008 0000000000000002", 26, 0);
+}
+
+static void good_values(void) {
+    good("set of arrays of bool", "8 6 1 9 2 2 3 4",
+         "00000001 0000000000000000 00000001 00000001 00000025 00000001 ffffffff 00000019"
+         "00000001 0000000000000000 00000001 00000001 00000001 01",
+         "6 0 0 61 1  4 0 36 25 1  2 0 60 1 0");
+    good("tuple of an int16 and an empty tuple", "10 6 1 3 4 0 4 2 2 4",
+         "00000002 ffffffff 00000002 8000 00000000 00000004 00000000",
+         "6 0 0 26 2  2 0 12 2 0  4 1 22 4 0");
+    good("output object with an absent element", "10 4 1 3 5 2 2 65 2 111",
+         "00000002 00000005 00000002 0007 80000000 ffffffff",
+         "4 0 0 22 2  2 0 12 2 0  2 1 22 " ABSENT " 0");
+    good("input object in another order", "11 5 1 9 8 6 2 2 65 4 111",
+         "00000002 00000001 00000002 6162 00000000 00000001 01",
+         "5 0 0 23 2  4 1 12 2 0  2 0 22 1 0");
+    good("range with an upper bound", "6 4 1 4 7 2", "0c 00000004 00000009",
+         "4 0 0 9 1  2 1 5 4 0");
+    good("empty range", "6 4 1 4 7 2", "01", "4 0 0 1 0");
+    good("reserved bytes of a set", SET_PLAN, "00000000 0123456789abcdef", "4 0 0 12 0");
+    good("decimal", "4 2 1 8", "0004 0001 4000 0007 0001 1388 186a 0000", "2 0 0 16 0");
+    good("bigint", "4 2 1 16", "0002 0001 4000 0000 0001 1388", "2 0 0 12 0");
+    good("json", "4 2 1 15", "01 7b7d", "2 0 0 3 0");
+    good("a node that the root does not reach", "5 2 8 1 5", "6162", "2 0 0 2 0");
+    running("no type", "2 0", "", 0, accepted(0), "");
+    running("no type with room", "2 0", "", MOST, accepted(0), "");
+}
+
+static void value_refusals(void) {
+    bad("ndims 2 and nothing else", SET_PLAN, "00000002", 22, 0);
+    bad("count of 7fffffff", SET_PLAN,
+        "00000001 0000000000000000 7fffffff 00000001 00000008 0000000000000007", 20, 0);
+    bad("the second element of length 7", SET_PLAN,
+        "00000001 0000000000000000 00000002 00000001 00000008 0000000000000007"
+        "00000007 00000000000000",
+        24, 36);
+    bad("-1 in a set", SET_PLAN, "00000001 0000000000000000 00000001 00000001 ffffffff", 23, 0);
+    bad("envelope not 12 more", "8 6 1 9 2 2 3 4",
+        "00000001 0000000000000000 00000001 00000001 00000019 00000001 00000000 0000000c"
+        "00000000 0000000000000000",
+        22, 0);
+    bad("bool of 2 in a tuple", "8 4 1 9 4 2 2 2",
+        "00000002 00000000 00000001 01 00000000 00000001 02", 24, 21);
+    bad("bytes left over in an inner tuple", "7 4 4 0 4 1 2",
+        "00000001 00000000 00000005 0000000000", 21, 12);
+    bad("required element absent", "8 4 1 5 5 1 2 77", "00000001 00000000 ffffffff", 27, 0);
+    bad("index outside", INPUT_PLAN, "00000001 00000001 fffffffe", 25, 0);
+    bad("index outside, then another twice", INPUT_PLAN,
+        "00000003 00000001 00000000 00000000 00000008 0000000000000001"
+        "00000000 00000008 0000000000000001",
+        25, 0);
+    bad("index twice, both absent", "8 4 1 5 6 1 2 111",
+        "00000002 00000000 ffffffff 00000000 ffffffff", 26, 0);
+    bad("a byte left over and a required index not given", INPUT_PLAN, "00000000 00", 21, 0);
+    bad("range flags 02 with 08", "6 4 1 4 7 2", "0a 00000004 00000009", 22, 0);
+    bad("range without flags", "6 4 1 4 7 2", "", 20, 0);
+    bad("no type with a byte", "2 0", "00", 21, 0);
+}
+
+static void plan_refusals(void) {
+    uint8_t plan[24], list[20];
+    bad("no words", "", "", 33, 0);
+    bad("root 2 without nodes", "2 2", "", 33, 0);
+    bad("a word left over", "7 4 1 5 2 2 1", "00000000 0000000000000000", 33, 0);
+    bad("total a word short", "5 4 1 5 2 2", "00000000 0000000000000000", 33, 0);
+    bad("root inside a node", "9 6 4 0 4 1 2 4 0", "00000000", 33, 0);
+    bad("format 20", "4 2 1 20", "", 33, 0);
+    bad("set of sets", "8 6 1 5 2 2 2 4", "00000000 0000000000000000", 33, 0);
+    bad("cardinality 1", "8 4 1 5 6 1 2 1", "00000000", 33, 0);
+    bad("node refers to itself", "4 2 2 2", "00000000 0000000000000000", 33, 0);
+    words_of(SET_PLAN, plan);
+    count("plan of 23 bytes",
+          same_answer(rembulfose_run(plan, 23, NULL, 0, list, sizeof list), refused(33, 0)));
+}
+
+/* A null pointer may be lent with length 0. */
+static void null_pointers(void) {
+    const uint8_t none[8] = {0, 0, 0, 2, 0, 0, 0, 0};
+    const uint8_t enumeration[12] = {0, 0, 0, 3, 0, 0, 0, 2, 0, 0, 0, 8};
+    count("no value and no list",
+          same_answer(rembulfose_run(none, 8, NULL, 0, NULL, 0), accepted(0)));
+    count("no plan", same_answer(rembulfose_run(NULL, 0, NULL, 0, NULL, 0), refused(33, 0)));
+    count("no list room",
+          same_answer(rembulfose_run(enumeration, 12, NULL, 0, NULL, 0), refused(31, 0)));
+}
+
+/* The large cases. */
+
+static uint8_t plan[4 * (MOST_WORDS + 1)], value[MOST_VALUE + 1], list[4 * MOST_WORDS + 4],
+    expected[4 * MOST_WORDS + 4];
+static uint32_t plan_words, value_bytes, list_words;
+
+static uint32_t add(uint32_t kind, uint32_t second) {
+    put_word(plan + 4 * plan_words, kind);
+    put_word(plan + 4 * plan_words + 4, second);
+    plan_words += 2;
+    return plan_words - 2;
+}
+
+static void add_word(uint32_t word) {
+    put_word(plan + 4 * plan_words++, word);
+}
+
+static void finish_plan(uint32_t root) {
+    put_word(plan, plan_words);
+    put_word(plan + 4, root);
+}
+
+static void put_value(uint32_t word) {
+    put_word(value + value_bytes, word);
+    value_bytes += 4;
+}
+
+/* Entries that no list from C can hold are left out. */
+static void expect_entry(uint32_t node, uint32_t index, uint32_t start, uint32_t length,
+                         uint32_t below) {
+    const uint32_t entry[5] = {node, index, start, length, below};
+    for (int i = 0; i < 5 && list_words < MOST_WORDS; i++)
+        put_word(expected + 4 * list_words++, entry[i]);
+}
+
+/* The kinds of the containers above the lowest node, in turn: no set is over a set. */
+static uint32_t kind_at(uint32_t level) {
+    static const uint32_t kinds[4] = {TUPLE, OUTPUT, INPUT, SET};
+    return kinds[level % 4];
+}
+
+/* Puts so many containers of one element over a node, all of whose values then have this length. */
+static void wrap(uint32_t containers, uint32_t lowest, uint32_t length) {
+    uint32_t nodes[33] = {lowest};
+    for (uint32_t level = 0; level < containers; level++) {
+        uint32_t kind = kind_at(level);
+        nodes[level + 1] = add(kind, kind == SET ? nodes[level] : 1);
+        if (kind != SET)
+            add_word(nodes[level]);
+        if (kind == OUTPUT || kind == INPUT)
+            add_word(ONE);
+    }
+    finish_plan(nodes[containers]);
+    for (uint32_t level = 0; level < containers; level++)
+        length += kind_at(level) == SET ? 24 : 12;
+    value_bytes = list_words = 0;
+    for (uint32_t level = containers; level-- > 0;) {
+        expect_entry(nodes[level + 1], 0, value_bytes, length, 1);
+        length -= kind_at(level) == SET ? 24 : 12;
+        put_value(1);
+        put_value(0);
+        if (kind_at(level) == SET) {
+            put_value(0);
+            put_value(1);
+            put_value(1);
+        }
+        put_value(length);
+    }
+}
+
+static rembulfose_answer run_large(size_t plan_length) {
+    memset(list, FILL, sizeof list);
+    return rembulfose_run(plan, plan_length, value, value_bytes, list, sizeof list);
+}
+
+/* Whether the list holds so many words of what is expected, and all else is as it was. */
+static int listed(uint32_t words) {
+    for (size_t at = 0; at < sizeof list; at++)
+        if (list[at] != (at < 4 * (size_t)words ? expected[at] : FILL))
+            return 0;
+    return 1;
+}
+
+static int accepts(void) {
+    return same_answer(run_large(4 * plan_words), accepted(list_words)) && listed(list_words);
+}
+
+static int refuses(uint32_t number, uint32_t place) {
+    return same_answer(run_large(4 * plan_words), refused(number, place)) && listed(0);
+}
+
+/* A byte string of this length under so many containers. */
+static void deep_leaf(uint32_t containers, uint32_t length) {
+    plan_words = 2;
+    wrap(containers, add(LEAF, BYTES), length);
+    expect_entry(2, 0, value_bytes, length, 0);
+    memset(value + value_bytes, 0xff, length);
+    value_bytes += length;
+}
+
+/* A set of so many empty texts under 30 containers. */
+static void deep_set(uint32_t elements) {
+    plan_words = 2;
+    wrap(30, add(SET, add(LEAF, STR)), 20 + 4 * elements);
+    uint32_t start = value_bytes;
+    const uint32_t head[5] = {1, 0, 0, elements, 1};
+    for (int i = 0; i < 5; i++)
+        put_value(head[i]);
+    expect_entry(4, 0, start, 20 + 4 * elements, elements);
+    for (uint32_t i = 0; i < elements; i++) {
+        put_value(0);
+        expect_entry(2, i, value_bytes, 0, 0);
+    }
+}
+
+/* So many words: an enumeration, and tuples of it with up to 512 elements. The root is the last. */
+static void long_plan(uint32_t words) {
+    uint32_t last = 0, elements = 0;
+    plan_words = 2;
+    add_word(ENUMERATION);
+    while (plan_words < words) {
+        elements = words - plan_words - 2 < 512 ? words - plan_words - 2 : 512;
+        last = add(TUPLE, elements);
+        for (uint32_t i = 0; i < elements; i++)
+            add_word(2);
+    }
+    finish_plan(last);
+    value_bytes = list_words = 0;
+    expect_entry(last, 0, 0, 4 + 8 * elements, elements);
+    put_value(elements);
+    for (uint32_t i = 0; i < elements; i++) {
+        put_value(i);
+        put_value(0);
+        expect_entry(2, i, value_bytes, 0, 0);
+    }
+}
+
+static void large(void) {
+    deep_leaf(31, 65079);
+    count("height 32, 65,535 bytes", value_bytes == MOST_VALUE && accepts());
+    count("a plan byte short", same_answer(run_large(4 * plan_words - 1), refused(33, 0)));
+    value_bytes++;
+    count("65,536 bytes", refuses(28, 0));
+    value_bytes--;
+    value[MOST_VALUE - 65079 - 1]++;
+    count("the lowest element passes its end", refuses(20, MOST_VALUE - 65079 - 12));
+    deep_leaf(32, 65055);
+    count("height 33", value_bytes == MOST_VALUE && refuses(33, 0));
+    deep_set(1600);
+    count("height 32, 1,600 elements", accepts());
+    value[value_bytes - 1] = 1;
+    count("the last element passes its end", refuses(20, value_bytes - 20 - 4 * 1600));
+    deep_set(16267);
+    count("height 32, 16,267 elements", value_bytes == 65532 && refuses(31, 0));
+    long_plan(MOST_WORDS);
+    count("plan of 8,192 words", plan_words == MOST_WORDS && accepts());
+    long_plan(MOST_WORDS + 1);
+    count("plan of 8,193 words", refuses(33, 0));
+}
+
+static void *on_thread(void *unused) {
+    large();
+    return unused;
+}
+
+/* Runs the large cases on a stack of so many bytes, with pages below it that may not be touched. */
+static void small_stack(void) {
+    enum { FENCE = 65536 };
+    pthread_attr_t attributes;
+    pthread_t thread;
+    uint8_t *memory = mmap(NULL, FENCE + STACK, PROT_READ | PROT_WRITE, MAP_PRIVATE | MAP_ANONYMOUS,
+                           -1, 0);
+    int good = memory != MAP_FAILED && mprotect(memory, FENCE, PROT_NONE) == 0;
+    if (good) {
+        memset(memory + FENCE, FILL, STACK);
+        good = pthread_attr_init(&attributes) == 0 &&
+               pthread_attr_setstack(&attributes, memory + FENCE, STACK) == 0 &&
+               pthread_create(&thread, &attributes, on_thread, NULL) == 0 &&
+               pthread_join(thread, NULL) == 0;
+    }
+    count("thread with a small stack", good);
+    size_t untouched = 0;
+    while (good && untouched < STACK && memory[FENCE + untouched] == FILL)
+        untouched++;
+    printf("stack: %zu of %d bytes were used, those of the thread itself included\n",
+           STACK - untouched, STACK);
+}
+
+int main(void) {
+    edges();
+    good_values();
+    value_refusals();
+    plan_refusals();
+    null_pointers();
+    small_stack();
+    printf("%u passed, %u failed\n", passed, failed);
+    return failed != 0;
+}

@@ -1,0 +1,107 @@
+//! What the comparing programs have in common. Each is called as `NAME [CASES [SEED [ONLY]]]` and
+//! runs so many random cases (1,000,000) of a seed (1) after the fixed ones. With ONLY it shows the
+//! case of that number and runs no other.
+
+use crate::fault;
+use crate::tally::{demand, Tally};
+use second::crossing::Answer;
+use std::fmt::Display;
+use std::process::ExitCode;
+use std::time::Instant;
+
+/// What a program compares.
+pub trait Comparison {
+    const NAME: &'static str;
+    type Case: Display;
+
+    fn new(seed: u64) -> Self;
+
+    /// The cases of every run: they have the first numbers.
+    fn fixed() -> Vec<Self::Case>;
+
+    /// The case of this number, made at random.
+    fn random(seed: u64, number: u64) -> Self::Case;
+
+    /// The answer of a case in which nothing differs, after it was counted, or else a report of
+    /// what differs.
+    fn judge(&mut self, case: &Self::Case) -> Result<Answer, String>;
+
+    fn tallies(&self) -> &[Tally];
+}
+
+pub fn main<C: Comparison>() -> ExitCode {
+    let arguments: Result<Vec<u64>, _> =
+        std::env::args().skip(1).map(|word| word.parse()).collect();
+    fault::watch();
+    match arguments.as_deref() {
+        Ok([]) => run::<C>(1_000_000, 1),
+        Ok([cases]) => run::<C>(*cases, 1),
+        Ok([cases, seed]) => run::<C>(*cases, *seed),
+        Ok([_, seed, only]) => run_only::<C>(*seed, *only),
+        _ => {
+            let name = C::NAME;
+            eprintln!("usage: {name} [CASES [SEED [ONLY]]], all of them numbers");
+            ExitCode::from(2)
+        }
+    }
+}
+
+fn run<C: Comparison>(cases: u64, seed: u64) -> ExitCode {
+    let began = Instant::now();
+    let fixed = C::fixed();
+    let total = fixed.len() as u64 + cases;
+    let made = (fixed.len() as u64..total).map(|number| C::random(seed, number));
+    let mut comparison = C::new(seed);
+    for (number, case) in (0..).zip(fixed.into_iter().chain(made)) {
+        fault::starting(number, number);
+        if let Err(report) = comparison.judge(&case) {
+            println!("case {number} of seed {seed}: {report}");
+            println!("to see it alone: {} 0 {seed} {number}", C::NAME);
+            println!("{number} passed, 1 failed");
+            return ExitCode::FAILURE;
+        }
+    }
+    for tally in comparison.tallies() {
+        print!("{tally}");
+    }
+    println!("seed {seed}, {:.1} s", began.elapsed().as_secs_f64());
+    finish(total, demand(cases), comparison.tallies())
+}
+
+/// Shows a case before it is run, since the call may fault.
+fn run_only<C: Comparison>(seed: u64, only: u64) -> ExitCode {
+    let case = C::fixed()
+        .into_iter()
+        .nth(only as usize)
+        .unwrap_or_else(|| C::random(seed, only));
+    println!("case {only} of seed {seed}, {case}");
+    fault::starting(only, 0);
+    match C::new(seed).judge(&case) {
+        Ok(answer) => {
+            println!("  both: {answer:?}");
+            println!("1 passed, 0 failed");
+            ExitCode::SUCCESS
+        }
+        Err(report) => {
+            println!("{report}");
+            println!("0 passed, 1 failed");
+            ExitCode::FAILURE
+        }
+    }
+}
+
+/// A run in which some refusal was hardly seen has not compared enough.
+fn finish(passed: u64, demand: u64, tallies: &[Tally]) -> ExitCode {
+    let mut enough = true;
+    for tally in tallies {
+        for number in tally.scarce(demand) {
+            println!(
+                "{}: refusal {number} was given fewer than {demand} times",
+                tally.call()
+            );
+            enough = false;
+        }
+    }
+    println!("{passed} passed, {} failed", u8::from(!enough));
+    ExitCode::from(u8::from(!enough))
+}

@@ -1,0 +1,48 @@
+//! Telling how two programs differ.
+
+use second::crossing::Answer;
+use std::fmt::{self, Display};
+
+/// Compares two outcomes: the answer, and the room after the call.
+pub fn compare(
+    call: &impl Display,
+    (library, room): (Answer, &[u8]),
+    (second, left): (Answer, &[u8]),
+) -> Result<Answer, String> {
+    if library == second && room == left {
+        return Ok(library);
+    }
+    let answers = [("library", library), ("second program", second)];
+    let what = match room.iter().zip(left).position(|(one, other)| one != other) {
+        None => "the answers differ".to_string(),
+        Some(at) => format!(
+            "byte {at} of the room differs: library {:02x}, second program {:02x}",
+            room[at], left[at]
+        ),
+    };
+    Err(report(&what, call, &answers))
+}
+
+pub fn report(what: &str, call: &impl Display, answers: &[(&str, Answer)]) -> String {
+    let mut report = format!("{what}\n{call}");
+    for (whose, answer) in answers {
+        report += &format!("\n  {whose}: {answer:?}");
+    }
+    report
+}
+
+/// Bytes in hex, the first few thousand of them.
+pub struct Hex<'a>(pub &'a [u8]);
+
+const SHOWN: usize = 4_096;
+
+impl Display for Hex<'_> {
+    fn fmt(&self, f: &mut fmt::Formatter) -> fmt::Result {
+        let shown = &self.0[..self.0.len().min(SHOWN)];
+        shown.iter().try_for_each(|byte| write!(f, "{byte:02x}"))?;
+        match self.0.len() - shown.len() {
+            0 => Ok(()),
+            more => write!(f, " and {more} more"),
+        }
+    }
+}

@@ -1,0 +1,52 @@
+//! One case of the comparison: a call with all it is lent.
+
+use crate::lending::Lending;
+use crate::report::Hex;
+use std::fmt;
+
+pub struct Case {
+    pub call: RunCall,
+    pub lending: Lending,
+    pub expected: Expected,
+}
+
+/// `rembulfose_run`.
+pub struct RunCall {
+    pub plan: Vec<u8>,
+    pub value: Vec<u8>,
+    /// Bytes of room for the list.
+    pub room: usize,
+}
+
+/// What is known of the answer without either program: by hand, or by how the value was made.
+pub enum Expected {
+    Unknown,
+    /// The number and place of a refusal.
+    Refused(u32, u32),
+    /// The words of the list.
+    Listed(Vec<u32>),
+}
+
+impl fmt::Display for Case {
+    fn fmt(&self, f: &mut fmt::Formatter) -> fmt::Result {
+        write!(f, "{:?}\n{}", self.lending, self.call)
+    }
+}
+
+impl fmt::Display for RunCall {
+    fn fmt(&self, f: &mut fmt::Formatter) -> fmt::Result {
+        writeln!(
+            f,
+            "  run, plan, {} bytes: {}",
+            self.plan.len(),
+            Hex(&self.plan)
+        )?;
+        writeln!(
+            f,
+            "  value, {} bytes: {}",
+            self.value.len(),
+            Hex(&self.value)
+        )?;
+        write!(f, "  list room, {} bytes", self.room)
+    }
+}
