@@ -1,0 +1,2 @@
+pub mod OffDescriptor
+pub mod Cases

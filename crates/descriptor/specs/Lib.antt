@@ -1,0 +1,4 @@
+pub mod Layouts
+pub mod Fields
+pub mod Blocks
+pub mod Descriptor
