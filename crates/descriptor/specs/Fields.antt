@@ -56,10 +56,14 @@ extent d c at =
 
 -- ---- the rules; 0 is no fault
 
+-- one of a list passes a test
+unfoldable pub any : {A : Type 0} → (A → Bool) → List A → Bool
+any f [] = false
+any f (x ∷ xs) = pick (f x) true (any f xs)
+
 -- 15 "block id zero, or equal to an earlier one"
 unfoldable pub taken : List ℕ → List Known → ℕ → Bool
-taken d [] i = false
-taken d (k ∷ ks) i = pick (eqb (idAt d (k .start + 1)) i) true (taken d ks i)
+taken d known i = any (λ k. eqb (idAt d (k .start + 1)) i) known
 
 unfoldable pub idFault : List ℕ → List Known → ℕ → ℕ
 idFault d known i = pick (eqb i 0) 15 (pick (taken d known i) 15 0)
@@ -73,8 +77,7 @@ sameBytes (x ∷ xs) (y ∷ ys) = pick (eqb x y) (sameBytes xs ys) false
 
 -- 16 "name twice in an input shape or named tuple"
 unfoldable pub named : List ℕ → List Element → ℕ → Bool
-named d [] at = false
-named d (e ∷ es) at = pick (sameBytes (textAt d (e .name)) (textAt d at)) true (named d es at)
+named d es at = any (λ e. sameBytes (textAt d (e .name)) (textAt d at)) es
 
 unfoldable pub textFault : List ℕ → List Element → ℕ → ℕ → ℕ
 textFault d es c at = pick (wellFormed (textAt d at)) (pick (eqb c NAME) (pick (named d es at) 16 0) 0) 12
