@@ -1,0 +1,4 @@
+-- The laws of descriptors, which other crates' proofs cite. Assumes nothing.
+pub mod Tags
+pub mod Readings
+pub mod Elements
