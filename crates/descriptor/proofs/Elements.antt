@@ -19,7 +19,7 @@ use Rattle.descriptor.specs.Fields.{Known, Element, noBlock, numberAt, p
 use Rattle.descriptor.specs.Blocks.{Item, next, counting, field, fields, items, section, blockFrom}
 use Rattle.descriptor.specs.declared.Draft.{Draft}
 use Rattle.descriptor.proofs.Tags.{elementKind, suited, carded, orderly, elementsIn, total, Orderly, all-orderly}
-use Rattle.descriptor.proofs.Readings.{Between, between, Step, fields-keep, items-keep}
+use Rattle.descriptor.proofs.Readings.{no-fault, fault-no, Between, between, Step, fields-keep, items-keep}
 
 abbrev pub noElement : Element
 noElement = record { name = 0; ref = 0; card = 0 }
@@ -53,17 +53,6 @@ pub record Held (known : List Known) (tag n : ℕ) (x : Draft) (es : List Elemen
   pub few : x .left ≤ 512
 
 -- ---- one field
-
--- a choice without a fault is 0
-no-fault : (t : Bool) (a b : ℕ) → pick t a (suc b) ≡ 0 → (t ≡ true) × (a ≡ 0)
-unfolding pick
-no-fault true a b e = (refl, e)
-no-fault false a b e = absurd (omega arith)
-
-fault-no : (t : Bool) (a b : ℕ) → pick t (suc a) b ≡ 0 → (t ≡ false) × (b ≡ 0)
-unfolding pick
-fault-no true a b e = absurd (omega arith)
-fault-no false a b e = (refl, e)
 
 module _ (d : List ℕ) (known : List Known) (tag c : ℕ) (x : Draft) (es : List Element) (fine : fault d known tag c x es ≡ 0) where
   -- a cardinality is one of the five

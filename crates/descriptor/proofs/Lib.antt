@@ -2,3 +2,5 @@
 pub mod Tags
 pub mod Readings
 pub mod Elements
+pub mod ScalarFormats
+pub mod Sound

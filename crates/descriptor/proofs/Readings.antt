@@ -1,6 +1,7 @@
 -- What holds from field to field holds from a block's start to its end. Assumes nothing.
 use mathlib.Core.Path.{_≡_, refl}
 use mathlib.Core.Logic.{⊎-elim}
+use mathlib.Core.Bool.{Bool, true, false}
 use mathlib.Core.List.{List, [], _∷_, _++_}
 use Prim.Native.Nat.{ℕ, zero, suc, _+_, _≤_}
 use native.Mathlib.Omega.{arith}
@@ -12,6 +13,17 @@ use Rattle.wire.proofs.Picks.{pick-split}
 use Rattle.descriptor.specs.Fields.{Known, Element, extent, fault, kept, grown}
 use Rattle.descriptor.specs.Blocks.{Item, Reading, stop, next, noted, andThen, counting, field, fields, items}
 use Rattle.descriptor.specs.declared.Draft.{Draft}
+
+-- a choice without a fault is 0
+pub no-fault : (t : Bool) (a b : ℕ) → pick t a (suc b) ≡ 0 → (t ≡ true) × (a ≡ 0)
+unfolding pick
+no-fault true a b e = (refl, e)
+no-fault false a b e = absurd (omega arith)
+
+pub fault-no : (t : Bool) (a b : ℕ) → pick t (suc a) b ≡ 0 → (t ≡ false) × (b ≡ 0)
+unfolding pick
+fault-no true a b e = absurd (omega arith)
+fault-no false a b e = (refl, e)
 
 -- ---- two readings, one after the other
 
