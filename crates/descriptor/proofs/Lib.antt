@@ -4,3 +4,4 @@ pub mod Readings
 pub mod Elements
 pub mod ScalarFormats
 pub mod Sound
+pub mod Accepted
