@@ -1,1 +1,2 @@
 pub mod CaseTable
+pub mod Words
