@@ -1,2 +1,4 @@
+-- The laws of compiled plans: demand 3. Assumes nothing.
 pub mod CaseTable
 pub mod Words
+pub mod Shapes

@@ -49,6 +49,14 @@ known-cases P p0 p1 p3 p4 p5 p6 p7 p8 p9 p10 p11 p13 p127 tag k =
         let e : tag ≡ 127 = eqb-true tag 127 t in
         rw e p127
 
+-- and of a tag with an index and values
+pub valued-cases : (P : ℕ → Type 0) → P 0 → P 1 → P 3 → P 4 → P 5 → P 6 → P 7 → P 8 → P 9 → (tag : ℕ) → knownTag tag ≡ true → indexed tag ≡ true → valued tag ≡ true → P tag
+unfolding indexed valued pick
+valued-cases P p0 p1 p3 p4 p5 p6 p7 p8 p9 =
+    known-cases (λ tag. indexed tag ≡ true → valued tag ≡ true → P tag)
+    (λ i v. p0) (λ i v. p1) (λ i v. p3) (λ i v. p4) (λ i v. p5) (λ i v. p6) (λ i v. p7) (λ i v. p8) (λ i v. p9) (λ i v. clash v) (λ i v. clash v) (λ i v. clash v)
+    (λ i v. clash i)
+
 -- ---- the elements of a block with a tag
 
 -- the kind of field that refers to one

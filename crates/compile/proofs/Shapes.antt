@@ -1,0 +1,151 @@
+-- The node of a sound block: its references are those of the block's elements, it obeys the rules of plans, and its references go to nodes
+-- of kinds that they may go to. Assumes nothing.
+use mathlib.Core.Path.{_≡_, refl, ap, sym, _∙_}
+use mathlib.Core.Bool.{Bool, true, false, not}
+use mathlib.Core.List.{List, [], _∷_}
+use Prim.Native.Nat.{ℕ, zero, suc, _+_, _≤_, _<_}
+use native.Mathlib.Omega.{arith}
+use lib.Dec.{eqb}
+use lib.ListN.{length, getD, length-map, List·getD-map}
+use borrow.Author.Tests.{eqb-true, eqb-false, eq-eqb, ne-eqb}
+use Rattle.wire.specs.Choice.{pick}
+use Rattle.wire.proofs.Picks.{clash, both, pick-yes, pick-no, pick-case}
+use Rattle.rules.specs.Node.{Node, leaf, enum, row, arrays, tuple, object, sparse, range}
+use Rattle.plan.specs.Plan.{mayRefer, cardinality}
+use Rattle.descriptor.specs.Layouts.{knownTag, indexed, valued}
+use Rattle.descriptor.specs.Fields.{Known, Element, noBlock}
+use Rattle.descriptor.specs.Descriptor.{refs, cards, onlyRef, nodeOf}
+use Rattle.descriptor.specs.declared.Draft.{Draft}
+use Rattle.descriptor.proofs.Tags.{valued-cases, elementKind, suited, carded, single, bare}
+use Rattle.descriptor.proofs.Elements.{noElement, target, Refers}
+use Rattle.descriptor.proofs.Sound.{Sound}
+use Rattle.compile.proofs.Words.{kindOf, refsOf, Paired, Proper}
+
+-- ---- lists of elements
+
+only-refs : (es : List Element) → length es ≡ 1 → onlyRef es ∷ [] ≡ refs es
+unfolding onlyRef
+only-refs [] h = absurd (omega arith)
+only-refs (e ∷ []) h = refl
+only-refs (e ∷ f ∷ es) h = absurd (omega arith)
+
+only-first : (es : List Element) (j : ℕ) → length es ≡ 1 → j < length es → onlyRef es ≡ getD es j noElement .ref
+unfolding onlyRef
+only-first [] j h l = absurd (omega arith)
+only-first (e ∷ es) zero h l = refl
+only-first (e ∷ es) (suc j) h l = absurd (omega arith)
+
+no-refs : (es : List Element) → length es ≡ 0 → [] ≡ refs es
+no-refs [] h = refl
+no-refs (e ∷ es) h = absurd (omega arith)
+
+pub ref-of : (es : List Element) (j : ℕ) → getD (refs es) j 0 ≡ getD es j noElement .ref
+ref-of es j = List·getD-map (λ (e : Element). e .ref) es j noElement
+
+card-of : (es : List Element) (j : ℕ) → getD (cards es) j 0 ≡ getD es j noElement .card
+card-of es j = List·getD-map (λ (e : Element). e .card) es j noElement
+
+-- a choice that passes though its first part does not
+picked : (t b : Bool) → pick t false b ≡ true → (t ≡ false) × (b ≡ true)
+unfolding pick
+picked true b e = clash e
+picked false b e = (refl, e)
+
+-- ---- what a node's kind says of its block's tag
+
+pub record Kinded (tag kind : ℕ) : Type 0 where
+  pub array : tag ≡ 6 → kind ≡ 2
+  pub scalar : tag ≡ 3 → kind ≡ 1
+  pub single : (tag ≡ 0 → ⊥) → (tag ≡ 6 → ⊥) → (kind ≡ 2 → ⊥) × (kind ≡ 3 → ⊥)
+
+module _ (known : List Known) (es : List Element) (tag : ℕ) (k : knownTag tag ≡ true) (i : indexed tag ≡ true) (v : valued tag ≡ true) where
+  module _ (f : ℕ) where
+    pub kinded : Kinded tag (kindOf (nodeOf known tag f es))
+    unfolding nodeOf kindOf pick
+    kinded =
+        valued-cases (λ tag. Kinded tag (kindOf (nodeOf known tag f es)))
+        (record { array = λ e. absurd (omega arith); scalar = λ e. absurd (omega arith); single = λ a b. absurd (a refl) })
+        (record { array = λ e. absurd (omega arith); scalar = λ e. absurd (omega arith); single = λ a b. (λ e. omega arith, λ e. omega arith) })
+        (record { array = λ e. absurd (omega arith); scalar = λ e. refl; single = λ a b. (λ e. omega arith, λ e. omega arith) })
+        (record { array = λ e. absurd (omega arith); scalar = λ e. absurd (omega arith); single = λ a b. (λ e. omega arith, λ e. omega arith) })
+        (record { array = λ e. absurd (omega arith); scalar = λ e. absurd (omega arith); single = λ a b. (λ e. omega arith, λ e. omega arith) })
+        (record { array = λ e. refl; scalar = λ e. absurd (omega arith); single = λ a b. absurd (b refl) })
+        (record { array = λ e. absurd (omega arith); scalar = λ e. absurd (omega arith); single = λ a b. (λ e. omega arith, λ e. omega arith) })
+        (record { array = λ e. absurd (omega arith); scalar = λ e. absurd (omega arith); single = λ a b. (λ e. omega arith, λ e. omega arith) })
+        (record { array = λ e. absurd (omega arith); scalar = λ e. absurd (omega arith); single = λ a b. (λ e. omega arith, λ e. omega arith) })
+        tag k i v
+
+  -- ---- the node itself
+
+  module _ (x : Draft) (s : Sound known tag x es) where
+    pub shape-refs : refsOf (nodeOf known tag (x .format) es) ≡ refs es
+    unfolding nodeOf refsOf single bare pick
+    shape-refs =
+        valued-cases (λ tag. Sound known tag x es → refsOf (nodeOf known tag (x .format) es) ≡ refs es)
+        (λ s. pick-case (λ v. refsOf v ≡ refs es) (eqb (getD known (onlyRef es) noBlock .tag) 6) _ _ (λ _. only-refs es (s .one refl)) (λ _. only-refs es (s .one refl)))
+        (λ s. refl)
+        (λ s. no-refs es (s .none refl))
+        (λ s. refl)
+        (λ s. refl)
+        (λ s. only-refs es (s .one refl))
+        (λ s. no-refs es (s .none refl))
+        (λ s. refl)
+        (λ s. only-refs es (s .one refl))
+        tag k i v s
+
+    pub shape-proper : Proper (nodeOf known tag (x .format) es)
+    unfolding nodeOf Proper carded pick
+    shape-proper =
+        valued-cases (λ tag. Sound known tag x es → Proper (nodeOf known tag (x .format) es))
+        (λ s. pick-case Proper (eqb (getD known (onlyRef es) noBlock .tag) 6) _ _ (λ _. tt) (λ _. tt))
+        (λ s. paired (s .few) (λ j l. s .each j l .card refl))
+        (λ s. s .format refl)
+        (λ s. many (s .few))
+        (λ s. many (s .few))
+        (λ s. tt)
+        (λ s. tt)
+        (λ s. paired (s .few) (λ j l. s .each j l .card refl))
+        (λ s. tt)
+        tag k i v s
+      where
+        many : length es ≤ 512 → length (refs es) ≤ 512
+        many l = rw length-map l
+
+        paired : length es ≤ 512 → ((j : ℕ) → j < length es → cardinality (getD es j noElement .card) ≡ true) → Paired (refs es) (cards es)
+        paired l f =
+            record {
+              same = simp length-map;
+              few = many l;
+              cards = λ j m. ap cardinality (card-of es j) ∙ f j (rw length-map at m);
+            }
+
+    -- "for 2 neither a 2 nor a 3, for 3 a 2, for 7 a 1, else any"
+    pub shape-refers : (j kind : ℕ) → j < length es → Kinded (target known (getD es j noElement) .tag) kind → mayRefer (kindOf (nodeOf known tag (x .format) es)) kind ≡ true
+    unfolding nodeOf kindOf mayRefer elementKind suited single pick
+    shape-refers j kind l q =
+        valued-cases (λ tag. Sound known tag x es → mayRefer (kindOf (nodeOf known tag (x .format) es)) kind ≡ true)
+        (λ s.
+        let w : onlyRef es ≡ getD es j noElement .ref = only-first es j (s .one refl) l in
+        let a : pick (eqb other 0) false (valued other) ≡ true = s .each j l .suits in
+        pick-case (λ v. mayRefer (kindOf v) kind ≡ true) (eqb (getD known (onlyRef es) noBlock .tag) 6) (arrays (onlyRef es)) (row (onlyRef es))
+        (λ t. eq-eqb kind 2 (q .array (eqb-true _ _ (rw w at t))))
+        (λ t. plain (eqb-false _ _ (picked (eqb other 0) (valued other) a .0)) (eqb-false _ _ (rw w at t))))
+        (λ s. refl)
+        (λ s. refl)
+        (λ s. refl)
+        (λ s. refl)
+        (λ s.
+        let a : pick (eqb other 0) false (pick (eqb other 6) false (valued other)) ≡ true = s .each j l .suits in
+        let b = picked (eqb other 0) _ a in
+        let c = picked (eqb other 6) (valued other) (b .1) in
+        plain (eqb-false _ _ (b .0)) (eqb-false _ _ (c .0)))
+        (λ s. refl)
+        (λ s. refl)
+        (λ s. let a : eqb other 3 ≡ true = s .each j l .suits in eq-eqb kind 1 (q .scalar (eqb-true _ _ a)))
+        tag k i v s
+      where
+        other : ℕ
+        other = target known (getD es j noElement) .tag
+
+        plain : (other ≡ 0 → ⊥) → (other ≡ 6 → ⊥) → not (pick (eqb kind 2) true (eqb kind 3)) ≡ true
+        plain a b = let n = q .single a b in rw (ne-eqb kind 2 (n .0), ne-eqb kind 3 (n .1))
