@@ -2,3 +2,4 @@
 pub mod CaseTable
 pub mod Words
 pub mod Shapes
+pub mod Places

@@ -21,8 +21,9 @@ use Rattle.descriptor.specs.Descriptor.{Block, summaries, blockOf, Block
 use Rattle.descriptor.specs.declared.Draft.{Draft}
 use Rattle.descriptor.proofs.Sound.{Sound, block-sound}
 
+-- in the place of a block that is not there
 abbrev pub missing : Block
-missing = record { start = 0; tag = 10; format = 0; height = 0; elements = []; items = []; shape = enum; node = 0; words = [] }
+missing = record { start = 0; tag = 0; format = 0; height = 0; elements = []; items = []; shape = enum; node = 0; words = [] }
 
 -- a block made from those before it
 pub record Made (before : List Block) (b : Block) : Type 0 where
