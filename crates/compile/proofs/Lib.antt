@@ -3,3 +3,5 @@ pub mod CaseTable
 pub mod Words
 pub mod Shapes
 pub mod Places
+pub mod Renames
+pub mod Formed

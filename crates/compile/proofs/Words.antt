@@ -214,3 +214,22 @@ module _ (pre rest : List ℕ) where
     height-node (object rs cs) h = rw (kind-word (object rs cs), word-at (object rs cs) 1) (pairs-climb (object rs cs) 5 rs cs refl h)
     height-node (sparse rs cs) h = rw (kind-word (sparse rs cs), word-at (sparse rs cs) 1) (pairs-climb (sparse rs cs) 6 rs cs refl h)
     height-node (range r) h = rw (kind-word (range r), word-at (range r) 1)
+
+-- a node whose words stand at a place of a plan
+pub record Stands (p : List ℕ) (at : ℕ) (v : Node) : Type 0 where
+  pub kind : getD p at 0 ≡ kindOf v
+  pub looks : look p at ≡ v
+  pub size : sizeOf (getD p at 0) (getD p (at + 1) 0) ≡ length (nodeWords v)
+  pub inside : at + length (nodeWords v) ≤ length p
+  pub height : (seen : List Known) → heightOf p at seen (getD p at 0) (getD p (at + 1) 0) ≡ referAll seen (kindOf v) (λ k. getD (refsOf v) k 0) (length (refsOf v))
+
+pub stands : (pre : List ℕ) (v : Node) (rest p : List ℕ) (at : ℕ) → Proper v → p ≡ around pre v rest → at ≡ length pre → Stands p at v
+stands pre v rest p at h e l =
+    rw (e, l)
+    (record {
+      kind = kind-word pre rest v;
+      looks = look-node pre rest v h;
+      size = size-node pre rest v h;
+      inside = omega (arith, length-append pre (nodeWords v ++ rest), length-append (nodeWords v) rest);
+      height = λ seen. height-node pre rest seen v h;
+    })
