@@ -4,4 +4,5 @@ pub mod Words
 pub mod Shapes
 pub mod Places
 pub mod Renames
-pub mod Formed
+pub mod Climbs
+pub mod Blocks

@@ -33,7 +33,7 @@ pub node-at : (bs : List Block) (r : ℕ) → nodeAt (summaries bs) r ≡ getD b
 unfolding nodeAt summary
 node-at bs r = ap (λ (k : Known). k .node) (summary-at bs r)
 
-all-append : (xs ys : List Block) → allWords (xs ++ ys) ≡ allWords xs ++ allWords ys
+pub all-append : (xs ys : List Block) → allWords (xs ++ ys) ≡ allWords xs ++ allWords ys
 unfolding allWords
 all-append [] ys = refl
 all-append (x ∷ xs) ys = rw (all-append xs ys) (sym (append-assoc (x .words) (allWords xs) (allWords ys)))
@@ -86,19 +86,19 @@ find-after (x ∷ xs) ys k = go (find-after xs ys k) (eqb (x .start) k)
 
 -- ---- the blocks of an accepted descriptor
 
-module _ (bs : List Block) (a : Accepted bs) where
-  abbrev pub block : ℕ → Block
-  block i = getD bs i missing
+-- the word after the nodes of the first i blocks
+unfoldable pub place : List Block → ℕ → ℕ
+place bs i = 2 + length (allWords (take i bs))
 
-  -- the word after the nodes of the first i blocks
-  unfoldable pub place : ℕ → ℕ
-  place i = 2 + length (allWords (take i bs))
+module _ (bs : List Block) (a : Accepted bs) where
+  abbrev block : ℕ → Block
+  block i = getD bs i missing
 
   module _ (i : ℕ) (l : i < length bs) where
     made : Made (take i bs) (block i)
     made = a .made i l
 
-    pub node-is : block i .node ≡ place i
+    pub node-is : block i .node ≡ place bs i
     unfolding place blockOf
     node-is = ap (λ (b : Block). b .node) (made .is)
 
@@ -120,7 +120,7 @@ module _ (bs : List Block) (a : Accepted bs) where
         rw (take-suc bs i missing l)
         (all-append (take i bs) (block i ∷ []) ∙ ap (λ (ws : List ℕ). allWords (take i bs) ++ ws) (append-nil (block i .words)))
 
-    pub place-next : place (suc i) ≡ place i + length (block i .words)
+    pub place-next : place bs (suc i) ≡ place bs i + length (block i .words)
     unfolding place
     place-next = omega (arith, ap length all-next, length-append (allWords (take i bs)) (block i .words))
 
@@ -131,7 +131,7 @@ module _ (bs : List Block) (a : Accepted bs) where
   -- ---- what is found
 
   -- no node of the first i blocks starts after them
-  find-low : (i k : ℕ) → i ≤ length bs → place i ≤ k → find (seenOf (take i bs)) k ≡ nothing
+  find-low : (i k : ℕ) → i ≤ length bs → place bs i ≤ k → find (seenOf (take i bs)) k ≡ nothing
   unfolding seenOf find knownOf
   find-low zero k l h = refl
   find-low (suc i) k l h =
@@ -156,7 +156,7 @@ module _ (bs : List Block) (a : Accepted bs) where
       rw (seen-next i m)
       (⊎-elim
       (λ (e : r ≡ i).
-      let z : place i ≤ block r .node = omega (arith, node-is i m, ap (λ (k : ℕ). block k .node) e) in
+      let z : place bs i ≤ block r .node = omega (arith, node-is i m, ap (λ (k : ℕ). block k .node) e) in
       find-after (seenOf (take i bs)) _ (block r .node) (find-low i (block r .node) (omega arith) z)
       ∙ ap (λ (k : ℕ). find (pick (valued (block k .tag)) (knownOf (block k) ∷ []) []) (block r .node)) (sym e)
       ∙ ap (λ (l : List plan.Known). find l (block r .node)) (pick-yes (valued (block r .tag)) (knownOf (block r) ∷ []) [] v)

@@ -9,7 +9,7 @@ use native.Mathlib.Omega.{arith}
 use lib.Dec.{leb, ltb, eqb}
 use borrow.Author.Tests.{le-ltb, lt-leb, ne-eqb, eqb-true}
 use Rattle.wire.specs.Choice.{pick}
-use Rattle.wire.proofs.Picks.{clash, pick-no, same-or-not}
+use Rattle.wire.proofs.Picks.{clash, pick-no, pick-case, same-or-not}
 use Rattle.descriptor.specs.Layouts.{CARDINALITY, ELEMENT, layout, knownTag, indexed, valued}
 
 -- ---- the tags
@@ -69,6 +69,20 @@ suited c kind =
     pick (eqb c 17) (valued kind)
     (pick (eqb c 18) (pick (eqb kind 0) false (valued kind))
     (pick (eqb c 19) (pick (eqb kind 0) false (pick (eqb kind 6) false (valued kind))) (eqb kind 3)))
+
+-- it has values then
+pub suited-valued : (c kind : ℕ) → suited c kind ≡ true → valued kind ≡ true
+unfolding suited valued pick
+suited-valued c kind =
+    let P : Bool → Type 0 = λ b. b ≡ true → valued kind ≡ true in
+    pick-case P (eqb c 17) _ _ (λ _ e. e)
+    (λ _. pick-case P (eqb c 18) _ _ (λ _ e. last (eqb kind 0) (valued kind) e)
+    (λ _. pick-case P (eqb c 19) _ _ (λ _ e. last (eqb kind 6) (valued kind) (last (eqb kind 0) _ e))
+    (λ _ e. let q : kind ≡ 3 = eqb-true kind 3 e in rw q)))
+  where
+    last : (t b : Bool) → pick t false b ≡ true → b ≡ true
+    last true b e = clash e
+    last false b e = e
 
 -- each has a cardinality
 unfoldable pub carded : ℕ → Bool
