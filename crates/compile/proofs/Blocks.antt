@@ -91,10 +91,10 @@ module _ (bs : List Block) (a : Accepted bs) where
         }
 
     -- the references of its node are those of its elements
-    refs-count : length (refsOf (getD bs i missing .shape)) ≡ length (facts .list)
+    pub refs-count : length (refsOf (getD bs i missing .shape)) ≡ length (facts .list)
     refs-count = ap length (facts .same-refs) ∙ length-map (facts .list) (λ (e : Element). e .ref)
 
-    refs-at : (j : ℕ) → getD (refsOf (getD bs i missing .shape)) j 0 ≡ getD (facts .list) j noElement .ref
+    pub refs-at : (j : ℕ) → getD (refsOf (getD bs i missing .shape)) j 0 ≡ getD (facts .list) j noElement .ref
     refs-at j = ap (λ (l : List ℕ). getD l j 0) (facts .same-refs) ∙ ref-of (facts .list) j
 
     pub closed : (k r : ℕ) → refAt (blockAt bs i) k ≡ some r → Valued bs r × (r < i)

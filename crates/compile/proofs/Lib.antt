@@ -6,3 +6,4 @@ pub mod Places
 pub mod Renames
 pub mod Climbs
 pub mod Blocks
+pub mod Formed

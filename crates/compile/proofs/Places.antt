@@ -124,7 +124,7 @@ module _ (bs : List Block) (a : Accepted bs) where
     unfolding place
     place-next = omega (arith, ap length all-next, length-append (allWords (take i bs)) (block i .words))
 
-    seen-next : seenOf (take (suc i) bs) ≡ seenOf (take i bs) ++ pick (valued (block i .tag)) (knownOf (block i) ∷ []) []
+    pub seen-next : seenOf (take (suc i) bs) ≡ seenOf (take i bs) ++ pick (valued (block i .tag)) (knownOf (block i) ∷ []) []
     unfolding seenOf
     seen-next = rw (take-suc bs i missing l) (seen-append (take i bs) (block i ∷ []))
 
