@@ -7,3 +7,4 @@ pub mod Renames
 pub mod Climbs
 pub mod Blocks
 pub mod Formed
+pub mod Demand3
