@@ -8,3 +8,4 @@ pub mod Climbs
 pub mod Blocks
 pub mod Formed
 pub mod Demand3
+pub mod EntryBound
