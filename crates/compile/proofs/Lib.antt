@@ -7,5 +7,6 @@ pub mod Renames
 pub mod Climbs
 pub mod Blocks
 pub mod Formed
+pub mod PlanSize
 pub mod Demand3
 pub mod EntryBound

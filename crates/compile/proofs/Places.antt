@@ -114,7 +114,7 @@ module _ (bs : List Block) (a : Accepted bs) where
         ap (λ (b : Block). b .words) (made .is) ∙ pick-yes _ _ _ (ap (λ (b : Block). valued (b .tag)) (sym (made .is)) ∙ e)
         ∙ ap (λ (b : Block). nodeWords (rename (nodeAt (summaries (take i bs))) (b .shape))) (sym (made .is))
 
-    all-next : allWords (take (suc i) bs) ≡ allWords (take i bs) ++ block i .words
+    pub all-next : allWords (take (suc i) bs) ≡ allWords (take i bs) ++ block i .words
     unfolding allWords
     all-next =
         rw (take-suc bs i missing l)

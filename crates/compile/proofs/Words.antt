@@ -61,7 +61,7 @@ Proper (range r) = Unit {0}
 -- ---- lists
 
 -- pairs, one by one
-pairs-length : (rs cs : List ℕ) → length cs ≡ length rs → length (pairs rs cs) ≡ 2 * length rs
+pub pairs-length : (rs cs : List ℕ) → length cs ≡ length rs → length (pairs rs cs) ≡ 2 * length rs
 unfolding pairs
 pairs-length [] cs e = refl
 pairs-length (r ∷ rs) [] e = absurd (omega arith)
