@@ -1,10 +1,10 @@
 -- What is known of a block with values among those of an accepted descriptor: its references go to earlier blocks with values, and its
 -- node stands in the plan. Assumes nothing.
 use mathlib.Core.Path.{_≡_, refl, ap, sym, _∙_}
-use mathlib.Core.Bool.{Bool, true, false}
+use mathlib.Core.Bool.{true}
 use mathlib.Core.List.{List, [], _∷_, _++_}
 use mathlib.Core.Option.{some}
-use Prim.Native.Nat.{ℕ, zero, suc, _+_, _≤_, _<_}
+use Prim.Native.Nat.{ℕ, zero, suc, _+_, _<_}
 use native.Mathlib.Omega.{arith}
 use lib.ListN.{length, getD, take, drop, length-take, length-map}
 use lib.Seq.{getD-take, split-at}
@@ -12,7 +12,7 @@ use Rattle.rules.specs.Node.{Node, refAt}
 use Rattle.rules.specs.Renaming.{rename}
 use Rattle.plan.specs.Plan.{mayRefer}
 use Rattle.descriptor.specs.Layouts.{valued}
-use Rattle.descriptor.specs.Fields.{Known, Element, noBlock}
+use Rattle.descriptor.specs.Fields.{Known, Element}
 use Rattle.descriptor.specs.Descriptor.{refs, nodeWords, nodeAt, Block, summary, summaries, allWords, blockOf, planWords}
 use Rattle.descriptor.proofs.Tags.{suited-valued, elementKind}
 use Rattle.descriptor.proofs.Elements.{noElement, target, raisedBy, Refers}

@@ -1,23 +1,20 @@
 -- Demand 3: running the plan that a descriptor compiles to gives what the rules read off the descriptor give, for every value and room;
 -- that plan is well formed; and a list has at most one entry and one more for every four bytes. Assumes nothing.
-use mathlib.Core.Path.{_≡_, refl, ap, sym, _∙_}
-use mathlib.Core.Bool.{Bool, true, false}
+use mathlib.Core.Path.{_≡_, refl, ap, _∙_}
+use mathlib.Core.Bool.{true}
 use mathlib.Core.List.{List, [], _∷_}
-use Prim.Native.Nat.{ℕ, zero, suc, _+_, _*_, _^_, _≤_, _<_}
+use Prim.Native.Nat.{ℕ}
 use native.Mathlib.Omega.{arith}
 use lib.Dec.{ltb}
-use lib.ListN.{length, getD}
+use lib.ListN.{length}
 use Rattle.wire.specs.Choice.{pick}
-use Rattle.wire.proofs.Picks.{pick-yes, pick-no, pick-case, pick-split}
-use Rattle.rules.specs.Renaming.{renamed}
-use Rattle.rules.specs.Forest.{Forest, empty, count}
-use Rattle.rules.specs.Values.{Outcome, refused, listed, valueOf}
+use Rattle.wire.proofs.Picks.{pick-yes, pick-no}
+use Rattle.rules.specs.Values.{Outcome, refused, valueOf}
 use Rattle.rules.proofs.Relabel.{relabel-value}
-use Rattle.rules.proofs.Bound.{entries-bound}
 use Rattle.plan.specs.Plan as plan
 use Rattle.plan.specs.Plan.{look, planFormed}
-use Rattle.run.specs.Run.{nothingIn, valueBy, checked, roomed, runOf}
-use Rattle.descriptor.specs.Descriptor.{nodeAt, Block, summaries, Description, refusedBy, noType, described, descriptionOf, planWords, Compiled, refusedPlan, planOf}
+use Rattle.run.specs.Run.{valueBy, checked, roomed, runOf}
+use Rattle.descriptor.specs.Descriptor.{nodeAt, Block, summaries, Description, refusedBy, noType, described, descriptionOf, planWords, planOf}
 use Rattle.descriptor.specs.Descriptor as descriptor
 use Rattle.descriptor.proofs.Accepted.{Accepted, Valued, described-is}
 use Rattle.compile.specs.OffDescriptor.{blockAt, valueIn, judged, rulesOf}

@@ -3,7 +3,6 @@
 use mathlib.Core.Path.{_≡_, refl, ap}
 use mathlib.Core.List.{List, [], _∷_}
 use Prim.Native.Nat.{ℕ, _+_, _*_, _≤_, zero-le}
-use lib.Dec.{ltb}
 use lib.ListN.{length}
 use Rattle.wire.proofs.Picks.{pick-case}
 use Rattle.rules.specs.Forest.{Forest, count}

@@ -3,23 +3,21 @@
 use mathlib.Core.Path.{_≡_, refl, ap, ap₂, sym, _∙_}
 use mathlib.Core.Bool.{Bool, true, false}
 use mathlib.Core.List.{List, [], _∷_, _++_, append-nil}
-use Prim.Native.Nat.{ℕ, zero, suc, _+_, _^_, _≤_, _<_}
+use Prim.Native.Nat.{ℕ, zero, suc, _+_, _≤_, _<_}
 use native.Mathlib.Nat.{add-zero}
 use native.Mathlib.Omega.{arith}
-use lib.Dec.{leb, ltb, eqb}
 use lib.ListN.{length, getD, take, length-take, length-map}
 use lib.Seq.{take-length}
 use borrow.Author.Tests.{le-leb, lt-ltb, eq-eqb, ne-eqb}
-use Rattle.wire.specs.Choice.{pick}
-use Rattle.wire.proofs.Picks.{clash, pick-yes, pick-no}
+use Rattle.wire.proofs.Picks.{pick-yes, pick-no}
 use Rattle.rules.specs.Node.{Node}
 use Rattle.rules.specs.Renaming.{rename}
 use Rattle.plan.specs.Plan as plan
-use Rattle.plan.specs.Plan.{here, find, look, referAll, sizeOf, heightOf, Read, faulty, nodes, readNode, andRead, readNodes, nodesOf, isHere, startsIn, noType, planFormed}
+use Rattle.plan.specs.Plan.{find, look, referAll, sizeOf, heightOf, Read, nodes, readNode, andRead, readNodes, nodesOf, isHere, startsIn, noType, planFormed}
 use Rattle.descriptor.specs.Layouts.{valued}
 use Rattle.descriptor.specs.Fields.{Known, Element}
 use Rattle.descriptor.specs.Descriptor.{nodeWords, nodeAt, Block, summary, summaries, allWords, planWords}
-use Rattle.descriptor.proofs.Elements.{noElement, target, raisedBy}
+use Rattle.descriptor.proofs.Elements.{noElement}
 use Rattle.descriptor.proofs.Sound.{raised-least}
 use Rattle.descriptor.proofs.Accepted.{missing, Accepted, Valued}
 use Rattle.compile.specs.OffDescriptor.{blockAt}
@@ -28,7 +26,7 @@ use Rattle.compile.proofs.Shapes.{Kinded}
 use Rattle.compile.proofs.Places.{node-at, words-some, knownOf, seenOf, seen-few, place, node-is, words-none, words-are, place-next, seen-next, find-block}
 use Rattle.compile.proofs.Renames.{map-at, rename-kind, rename-refs}
 use Rattle.compile.proofs.Climbs.{Reached, climb-all}
-use Rattle.compile.proofs.Blocks.{shape-at, facts, Earlier, earlier, refs-count, refs-at, renames-same, stands-block}
+use Rattle.compile.proofs.Blocks.{shape-at, facts, earlier, refs-count, refs-at, renames-same, stands-block}
 
 -- a node that is whole, with its kind and its height
 read-gives : (p : List ℕ) (at : ℕ) (seen : List plan.Known) (k h : ℕ) → at + sizeOf (getD p at 0) (getD p (at + 1) 0) ≤ length p → getD p at 0 ≡ k
@@ -85,8 +83,8 @@ module _ (bs : List Block) (a : Accepted bs) (root : ℕ) where
           node = knownOf (block r);
           found = rw (plan-ref k l) (find-block bs a i r (omega (arith, v .inside)) (h .less) (h .has .values));
           may =
-            rw (rename-kind (nodeAt (summaries bs)) (block i .shape))
-            (facts bs a i v .may k (kindOf (block r .shape)) l (rw (h .is) o));
+              rw (rename-kind (nodeAt (summaries bs)) (block i .shape))
+              (facts bs a i v .may k (kindOf (block r .shape)) l (rw (h .is) o));
           same = ap (λ (k : Known). k .height) (sym (h .is));
           low = facts bs a i v .each k l .low;
         }

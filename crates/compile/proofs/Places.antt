@@ -1,26 +1,26 @@
 -- Where the nodes of an accepted descriptor's blocks stand in its plan, and what finding them among the nodes read gives. Assumes nothing.
 use mathlib.Core.Path.{_≡_, refl, ap, sym, _∙_}
-use mathlib.Core.Logic.{_⊎_, inl, inr, ⊎-elim}
+use mathlib.Core.Logic.{⊎-elim}
 use mathlib.Core.Bool.{Bool, true, false}
 use mathlib.Core.List.{List, [], _∷_, _++_, append-assoc, append-nil}
 use Prim.Native.Nat.{ℕ, zero, suc, _+_, _≤_, _<_}
 use native.Mathlib.Nat.{eq-or-lt-of-le, le-of-suc-le-suc}
 use native.Mathlib.Omega.{arith}
 use lib.Dec.{eqb}
-use lib.ListN.{length, getD, take, drop, length-append, length-take, length-map, List·getD-map}
-use lib.Seq.{take-suc, take-all, split-at, getD-take}
+use lib.ListN.{length, getD, take, length-append, List·getD-map}
+use lib.Seq.{take-suc}
 use borrow.Author.Tests.{eq-eqb, ne-eqb}
 use Rattle.wire.specs.Choice.{pick}
-use Rattle.wire.proofs.Picks.{clash, pick-yes, pick-no, pick-case}
+use Rattle.wire.proofs.Picks.{pick-yes, pick-no, pick-case}
 use Rattle.rules.specs.Node.{Node, leaf, enum, row, arrays, tuple, object, sparse, range}
 use Rattle.rules.specs.Renaming.{rename}
 use Rattle.plan.specs.Plan as plan
-use Rattle.plan.specs.Plan.{Found, nothing, here, find, isHere}
+use Rattle.plan.specs.Plan.{nothing, here, find, isHere}
 use Rattle.plan.proofs.Reading.{find-append}
 use Rattle.descriptor.specs.Layouts.{valued}
 use Rattle.descriptor.specs.Fields.{Known, noBlock}
-use Rattle.descriptor.specs.Descriptor.{nodeOf, nodeWords, nodeAt, wordsOf, Block, summary, summaries, allWords, blockOf, planWords}
-use Rattle.descriptor.proofs.Accepted.{missing, Made, Accepted, Valued}
+use Rattle.descriptor.specs.Descriptor.{nodeWords, nodeAt, wordsOf, Block, summary, summaries, allWords, blockOf}
+use Rattle.descriptor.proofs.Accepted.{missing, Made, Accepted}
 use Rattle.compile.proofs.Words.{kindOf}
 
 -- ---- blocks and their summaries

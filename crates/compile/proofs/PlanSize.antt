@@ -1,13 +1,12 @@
 -- How large a compiled plan is: at most 1,050,626 words, each below 2^32, and so is the place of each node. Assumes nothing.
-use mathlib.Core.Path.{_≡_, refl, ap, sym, _∙_}
-use mathlib.Core.Logic.{⊎-elim}
+use mathlib.Core.Path.{_≡_, refl, ap, _∙_}
 use mathlib.Core.Bool.{Bool, true, false}
 use mathlib.Core.List.{List, [], _∷_, _++_, map}
 use Prim.Native.Nat.{ℕ, zero, suc, _+_, _*_, _^_, _≤_, _<_}
 use native.Mathlib.Decide.{decLt}
 use native.Mathlib.Omega.{arith}
 use lib.Dec.{eqb}
-use lib.ListN.{length, getD, take, length-append, List·getD-eq-default}
+use lib.ListN.{length, getD, take, List·getD-eq-default}
 use lib.Seq.{take-length}
 use borrow.Author.Tests.{eqb-true}
 use Rattle.wire.proofs.Picks.{pick-case}
@@ -17,7 +16,7 @@ use Rattle.plan.specs.Plan.{cardinality}
 use Rattle.descriptor.specs.Layouts.{valued}
 use Rattle.descriptor.specs.Descriptor.{pairs, nodeWords, nodeAt, Block, summaries, allWords, planWords}
 use Rattle.descriptor.proofs.Accepted.{missing, Accepted, Valued}
-use Rattle.compile.proofs.Words.{refsOf, Paired, Proper, pairs-length}
+use Rattle.compile.proofs.Words.{Proper, pairs-length}
 use Rattle.compile.proofs.Places.{node-at, place, node-is, words-none, words-are, all-next, place-next}
 use Rattle.compile.proofs.Renames.{rename-proper}
 use Rattle.compile.proofs.Blocks.{facts, renames-same}

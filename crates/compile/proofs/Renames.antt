@@ -1,10 +1,10 @@
 -- A node with its references renamed: its kind, its references, and that it obeys the rules of plans. Assumes nothing.
-use mathlib.Core.Path.{_≡_, refl, ap, ap₂, sym, _∙_}
+use mathlib.Core.Path.{_≡_, refl, ap, ap₂}
 use mathlib.Core.List.{List, [], _∷_, map}
-use mathlib.Core.Option.{Option, none, some}
-use Prim.Native.Nat.{ℕ, zero, suc, _≤_, _<_}
+use mathlib.Core.Option.{some}
+use Prim.Native.Nat.{ℕ, zero, suc, _<_}
 use native.Mathlib.Omega.{arith}
-use lib.ListN.{length, getD, getElem?, length-map}
+use lib.ListN.{length, getD, length-map}
 use Rattle.rules.specs.Node.{Node, leaf, enum, row, arrays, tuple, object, sparse, range, refAt}
 use Rattle.rules.specs.Renaming.{rename}
 use Rattle.plan.proofs.Looks.{elem-in}

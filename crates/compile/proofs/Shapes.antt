@@ -1,23 +1,24 @@
 -- The node of a sound block: its references are those of the block's elements, it obeys the rules of plans, and its references go to nodes
 -- of kinds that they may go to. Assumes nothing.
-use mathlib.Core.Path.{_≡_, refl, ap, sym, _∙_}
+use mathlib.Core.Path.{_≡_, refl, ap, _∙_}
+use mathlib.Core.Logic.{⊎-elim}
 use mathlib.Core.Bool.{Bool, true, false, not}
 use mathlib.Core.List.{List, [], _∷_}
-use Prim.Native.Nat.{ℕ, zero, suc, _+_, _≤_, _<_}
+use Prim.Native.Nat.{ℕ, zero, suc, _≤_, _<_}
 use native.Mathlib.Omega.{arith}
 use lib.Dec.{eqb}
 use lib.ListN.{length, getD, length-map, List·getD-map}
-use borrow.Author.Tests.{eqb-true, eqb-false, eq-eqb, ne-eqb}
+use borrow.Author.Tests.{eqb-true, eqb-false, ne-eqb}
 use Rattle.wire.specs.Choice.{pick}
-use Rattle.wire.proofs.Picks.{clash, both, pick-yes, pick-no, pick-case}
-use Rattle.rules.specs.Node.{Node, leaf, enum, row, arrays, tuple, object, sparse, range}
+use Rattle.wire.proofs.Picks.{clash, pick-case, same-or-not}
+use Rattle.rules.specs.Node.{row, arrays}
 use Rattle.plan.specs.Plan.{mayRefer, cardinality}
 use Rattle.descriptor.specs.Layouts.{knownTag, indexed, valued}
 use Rattle.descriptor.specs.Fields.{Known, Element, noBlock}
 use Rattle.descriptor.specs.Descriptor.{refs, cards, onlyRef, nodeOf}
 use Rattle.descriptor.specs.declared.Draft.{Draft}
 use Rattle.descriptor.proofs.Tags.{valued-cases, elementKind, suited, carded, single, bare}
-use Rattle.descriptor.proofs.Elements.{noElement, target, Refers}
+use Rattle.descriptor.proofs.Elements.{noElement, target}
 use Rattle.descriptor.proofs.Sound.{Sound}
 use Rattle.compile.proofs.Words.{kindOf, refsOf, Paired, Proper}
 
@@ -51,29 +52,20 @@ unfolding pick
 picked true b e = clash e
 picked false b e = (refl, e)
 
--- ---- what a node's kind says of its block's tag
+-- ---- what a node's kind says of its block's tag: an array's is 2, a scalar's 1, and only sets and arrays have a 2 or a 3
+
+unfoldable kindFits : ℕ → ℕ → Bool
+kindFits tag kind =
+    pick (eqb tag 6) (eqb kind 2) (pick (eqb tag 3) (eqb kind 1) (pick (eqb tag 0) true (not (pick (eqb kind 2) true (eqb kind 3)))))
 
 pub record Kinded (tag kind : ℕ) : Type 0 where
-  pub array : tag ≡ 6 → kind ≡ 2
-  pub scalar : tag ≡ 3 → kind ≡ 1
-  pub single : (tag ≡ 0 → ⊥) → (tag ≡ 6 → ⊥) → (kind ≡ 2 → ⊥) × (kind ≡ 3 → ⊥)
+  fit : kindFits tag kind ≡ true
 
 module _ (known : List Known) (es : List Element) (tag : ℕ) (k : knownTag tag ≡ true) (i : indexed tag ≡ true) (v : valued tag ≡ true) where
-  module _ (f : ℕ) where
-    pub kinded : Kinded tag (kindOf (nodeOf known tag f es))
-    unfolding nodeOf kindOf pick
-    kinded =
-        valued-cases (λ tag. Kinded tag (kindOf (nodeOf known tag f es)))
-        (record { array = λ e. absurd (omega arith); scalar = λ e. absurd (omega arith); single = λ a b. absurd (a refl) })
-        (record { array = λ e. absurd (omega arith); scalar = λ e. absurd (omega arith); single = λ a b. (λ e. omega arith, λ e. omega arith) })
-        (record { array = λ e. absurd (omega arith); scalar = λ e. refl; single = λ a b. (λ e. omega arith, λ e. omega arith) })
-        (record { array = λ e. absurd (omega arith); scalar = λ e. absurd (omega arith); single = λ a b. (λ e. omega arith, λ e. omega arith) })
-        (record { array = λ e. absurd (omega arith); scalar = λ e. absurd (omega arith); single = λ a b. (λ e. omega arith, λ e. omega arith) })
-        (record { array = λ e. refl; scalar = λ e. absurd (omega arith); single = λ a b. absurd (b refl) })
-        (record { array = λ e. absurd (omega arith); scalar = λ e. absurd (omega arith); single = λ a b. (λ e. omega arith, λ e. omega arith) })
-        (record { array = λ e. absurd (omega arith); scalar = λ e. absurd (omega arith); single = λ a b. (λ e. omega arith, λ e. omega arith) })
-        (record { array = λ e. absurd (omega arith); scalar = λ e. absurd (omega arith); single = λ a b. (λ e. omega arith, λ e. omega arith) })
-        tag k i v
+  pub kinded : (f : ℕ) → Kinded tag (kindOf (nodeOf known tag f es))
+  unfolding nodeOf kindOf kindFits pick
+  kinded f =
+      record { fit = valued-cases (λ tag. kindFits tag (kindOf (nodeOf known tag f es)) ≡ true) refl refl refl refl refl refl refl refl refl tag k i v }
 
   -- ---- the node itself
 
@@ -121,14 +113,14 @@ module _ (known : List Known) (es : List Element) (tag : ℕ) (k : knownTag tag 
 
     -- "for 2 neither a 2 nor a 3, for 3 a 2, for 7 a 1, else any"
     pub shape-refers : (j kind : ℕ) → j < length es → Kinded (target known (getD es j noElement) .tag) kind → mayRefer (kindOf (nodeOf known tag (x .format) es)) kind ≡ true
-    unfolding nodeOf kindOf mayRefer elementKind suited single pick
+    unfolding nodeOf kindOf kindFits mayRefer elementKind suited single pick
     shape-refers j kind l q =
         valued-cases (λ tag. Sound known tag x es → mayRefer (kindOf (nodeOf known tag (x .format) es)) kind ≡ true)
         (λ s.
         let w : onlyRef es ≡ getD es j noElement .ref = only-first es j (s .one refl) l in
         let a : pick (eqb other 0) false (valued other) ≡ true = s .each j l .suits in
         pick-case (λ v. mayRefer (kindOf v) kind ≡ true) (eqb (getD known (onlyRef es) noBlock .tag) 6) (arrays (onlyRef es)) (row (onlyRef es))
-        (λ t. eq-eqb kind 2 (q .array (eqb-true _ _ (rw w at t))))
+        (λ t. let six : other ≡ 6 = eqb-true _ _ (rw w at t) in rw six at (q .fit))
         (λ t. plain (eqb-false _ _ (picked (eqb other 0) (valued other) a .0)) (eqb-false _ _ (rw w at t))))
         (λ s. refl)
         (λ s. refl)
@@ -141,11 +133,15 @@ module _ (known : List Known) (es : List Element) (tag : ℕ) (k : knownTag tag 
         plain (eqb-false _ _ (b .0)) (eqb-false _ _ (c .0)))
         (λ s. refl)
         (λ s. refl)
-        (λ s. let a : eqb other 3 ≡ true = s .each j l .suits in eq-eqb kind 1 (q .scalar (eqb-true _ _ a)))
+        (λ s. let a : eqb other 3 ≡ true = s .each j l .suits in let three : other ≡ 3 = eqb-true other 3 a in rw three at (q .fit))
         tag k i v s
       where
         other : ℕ
         other = target known (getD es j noElement) .tag
 
         plain : (other ≡ 0 → ⊥) → (other ≡ 6 → ⊥) → not (pick (eqb kind 2) true (eqb kind 3)) ≡ true
-        plain a b = let n = q .single a b in rw (ne-eqb kind 2 (n .0), ne-eqb kind 3 (n .1))
+        plain a b =
+            ⊎-elim
+            (λ (e : other ≡ 3). let one : kind ≡ 1 = eqb-true kind 1 (rw e at (q .fit)) in rw one)
+            (λ (e : other ≡ 3 → ⊥). rw (ne-eqb other 6 b, ne-eqb other 3 e, ne-eqb other 0 a) at (q .fit))
+            (same-or-not other 3)

@@ -1,20 +1,19 @@
 -- A node's words in a plan, whatever stands before and after them: looking the node up gives it back, its size is their number, and its
 -- height is the one that its references give it. One law over the kind of node for each. Assumes nothing.
 use mathlib.Core.Path.{_≡_, refl, ap, ap₂, sym, _∙_}
-use mathlib.Core.Logic.{_⊎_, inl, inr, ⊎-elim}
-use mathlib.Core.Bool.{Bool, true, false}
-use mathlib.Core.List.{List, [], _∷_, _++_, append-assoc}
+use mathlib.Core.Bool.{true}
+use mathlib.Core.List.{List, [], _∷_, _++_}
 use Prim.Native.Nat.{ℕ, zero, suc, _+_, _*_, _≤_, _<_}
 use native.Mathlib.Nat.{add-zero}
 use native.Mathlib.Omega.{arith}
 use lib.Dec.{ltb}
-use lib.ListN.{length, getD, take, drop, length-append, List·getD-append}
+use lib.ListN.{length, getD, length-append, List·getD-append}
 use lib.Seq.{getD-append-add, drop-append-add, take-append-seam, ext-getD}
 use borrow.Author.Tests.{lt-ltb, le-ltb}
 use Rattle.wire.specs.Choice.{pick}
 use Rattle.wire.proofs.Picks.{pick-yes, pick-no}
 use Rattle.rules.specs.Node.{Node, leaf, enum, row, arrays, tuple, object, sparse, range}
-use Rattle.plan.specs.Plan.{Known, pairRef, pairCard, upTo, refsAt, cardsAt, look, refer, referAll, cardinality, cardinalities, sizeOf, heightOf}
+use Rattle.plan.specs.Plan.{Known, pairRef, pairCard, upTo, refsAt, cardsAt, look, referAll, cardinality, cardinalities, sizeOf, heightOf}
 use Rattle.plan.proofs.Looks.{up-length, up-at, look-leaf, look-row, look-arrays, look-tuple, look-object, look-sparse, look-range, look-enum}
 use Rattle.descriptor.specs.Descriptor.{pairs, nodeWords}
 

@@ -1,23 +1,22 @@
 -- What an accepted descriptor's blocks obey: each is made from those before it, and is sound over them; and the root has values. Assumes
 -- nothing.
-use mathlib.Core.Path.{_≡_, refl, ap, sym, _∙_}
-use mathlib.Core.Logic.{_⊎_, inl, inr, ⊎-elim}
-use mathlib.Core.Bool.{Bool, true, false}
+use mathlib.Core.Path.{_≡_, refl, sym, _∙_}
+use mathlib.Core.Logic.{⊎-elim}
+use mathlib.Core.Bool.{true, false}
 use mathlib.Core.List.{List, [], _∷_, _++_}
 use Prim.Native.Nat.{ℕ, zero, suc, _+_, _≤_, _<_}
 use native.Mathlib.Nat.{eq-or-lt-of-le, le-of-suc-le-suc}
 use native.Mathlib.Omega.{arith}
-use lib.Dec.{leb, ltb, eqb}
 use lib.ListN.{length, getD, take, length-append, List·getD-append}
 use lib.Seq.{getD-at, take-append-le, take-at}
-use borrow.Author.Tests.{leb-true, leb-false}
+use borrow.Author.Tests.{leb-false}
 use Rattle.wire.specs.Choice.{pick}
-use Rattle.wire.proofs.Picks.{clash, pick-yes, pick-no, pick-split, pick-case}
+use Rattle.wire.proofs.Picks.{clash, pick-yes, pick-split, pick-case}
 use Rattle.rules.specs.Node.{enum}
 use Rattle.descriptor.specs.Layouts.{knownTag, indexed, valued}
 use Rattle.descriptor.specs.Fields.{Element, idAt}
 use Rattle.descriptor.specs.Blocks.{Item, Reading, stop, next, blockFrom}
-use Rattle.descriptor.specs.Descriptor.{Block, summaries, blockOf, Blocks, faulty, whole, extended, full, onward, blocksFrom, blocksOf, Description, refusedBy, noType, described, indexOf, tagAt, rooted, descriptionOf}
+use Rattle.descriptor.specs.Descriptor.{Block, summaries, blockOf, Blocks, faulty, whole, extended, full, onward, blocksFrom, blocksOf, refusedBy, described, indexOf, tagAt, rooted, descriptionOf}
 use Rattle.descriptor.specs.declared.Draft.{Draft}
 use Rattle.descriptor.proofs.Sound.{Sound, block-sound}
 
@@ -51,13 +50,13 @@ accepted-more bs b l a m =
     record {
       few = omega (arith, length-append bs (b ∷ []));
       made = λ i k.
-        let k′ : i < suc (length bs) = omega (arith, length-append bs (b ∷ [])) in
-        ⊎-elim
-        (λ (e : i ≡ length bs). rw (getD-at bs b [] missing i (sym e), take-at bs (b ∷ []) i (sym e)) m)
-        (λ (e : i < length bs). 
-        let h : i ≤ length bs = omega arith in
-        rw (List·getD-append bs (b ∷ []) missing i e, take-append-le i bs (b ∷ []) h) (a .made i e))
-        (eq-or-lt-of-le (le-of-suc-le-suc k′));
+          let k′ : i < suc (length bs) = omega (arith, length-append bs (b ∷ [])) in
+          ⊎-elim
+          (λ (e : i ≡ length bs). rw (getD-at bs b [] missing i (sym e), take-at bs (b ∷ []) i (sym e)) m)
+          (λ (e : i < length bs).
+          let h : i ≤ length bs = omega arith in
+          rw (List·getD-append bs (b ∷ []) missing i e, take-append-le i bs (b ∷ []) h) (a .made i e))
+          (eq-or-lt-of-le (le-of-suc-le-suc k′));
     }
 
 module _ (d : List ℕ) where

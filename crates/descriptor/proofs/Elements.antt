@@ -4,7 +4,7 @@ use mathlib.Core.Path.{_≡_, refl, ap, sym, _∙_}
 use mathlib.Core.Logic.{_⊎_, inl, inr, ⊎-elim}
 use mathlib.Core.Bool.{Bool, true, false}
 use mathlib.Core.List.{List, [], _∷_, _++_}
-use Prim.Native.Nat.{ℕ, zero, suc, _+_, _*_, _≤_, _<_}
+use Prim.Native.Nat.{ℕ, suc, _+_, _*_, _≤_, _<_}
 use native.Mathlib.Nat.{add-zero, eq-or-lt-of-le, le-of-suc-le-suc}
 use native.Mathlib.Omega.{arith}
 use lib.Dec.{leb, ltb, eqb}
@@ -12,14 +12,14 @@ use lib.ListN.{length, getD, length-append, List·getD-append}
 use lib.Seq.{getD-at}
 use borrow.Author.Tests.{eqb-true, ltb-true, ltb-false, leb-true, leb-false, le-leb, lt-leb, le-ltb, ne-eqb}
 use Rattle.wire.specs.Choice.{pick}
-use Rattle.wire.proofs.Picks.{clash, both, pick-yes, pick-no, pick-case, pick-split}
+use Rattle.wire.proofs.Picks.{clash, both, pick-yes, pick-no, pick-case}
 use Rattle.plan.specs.Plan.{cardinality, atLeast}
-use Rattle.descriptor.specs.Layouts.{CARDINALITY, ELEMENT, layout, knownTag, valued}
+use Rattle.descriptor.specs.Layouts.{CARDINALITY, ELEMENT, layout, knownTag}
 use Rattle.descriptor.specs.Fields.{Known, Element, noBlock, numberAt, permits, numberFault, countFault, fits, kindFault, refFault, fault, heightAfter, kept, grown}
-use Rattle.descriptor.specs.Blocks.{Item, next, counting, field, fields, items, section, blockFrom}
+use Rattle.descriptor.specs.Blocks.{Item, next, counting, fields, items, section, blockFrom}
 use Rattle.descriptor.specs.declared.Draft.{Draft}
-use Rattle.descriptor.proofs.Tags.{elementKind, suited, carded, orderly, elementsIn, total, Orderly, all-orderly}
-use Rattle.descriptor.proofs.Readings.{no-fault, fault-no, Between, between, Step, fields-keep, items-keep}
+use Rattle.descriptor.proofs.Tags.{elementKind, suited, carded, orderly, elementsIn, total, all-orderly}
+use Rattle.descriptor.proofs.Readings.{no-fault, fault-no, between, Step, fields-keep, items-keep}
 
 abbrev pub noElement : Element
 noElement = record { name = 0; ref = 0; card = 0 }
@@ -50,6 +50,7 @@ pub record Held (known : List Known) (tag n : ℕ) (x : Draft) (es : List Elemen
   pub each : (j : ℕ) → j < length es → Refers known tag (getD es j noElement)
   pub high : x .height ≡ raisedBy known 1 es
   pub count : length es ≡ n
+  pub number : x .count ≡ n
   pub few : x .left ≤ 512
 
 -- ---- one field
@@ -134,6 +135,14 @@ module _ (d : List ℕ) (known : List Known) (tag c : ℕ) (x : Draft) (es : Lis
   unfolding kept heightAfter
   height-is t = pick-yes _ _ _ t
 
+  count-is : leb ELEMENT c ≡ true → kept d known tag c x .count ≡ x .count + 1
+  unfolding kept
+  count-is t = pick-yes _ _ _ t
+
+  count-same : leb ELEMENT c ≡ false → kept d known tag c x .count ≡ x .count
+  unfolding kept
+  count-same t = pick-no _ _ _ t
+
   height-same : leb ELEMENT c ≡ false → kept d known tag c x .height ≡ x .height
   unfolding kept heightAfter
   height-same t = pick-no _ _ _ t
@@ -181,6 +190,7 @@ module _ (d : List ℕ) (known : List Known) (tag n c : ℕ) (b : Bool) (x : Dra
         each = each-more known tag es e (h .each) new;
         high = high;
         count = length-append es (e ∷ []) ∙ omega (arith, h .count);
+        number = count-is d known tag c x es t ∙ omega (arith, h .number);
         few = left-few;
       })
 
@@ -188,7 +198,13 @@ module _ (d : List ℕ) (known : List Known) (tag n c : ℕ) (b : Bool) (x : Dra
   kept-other l =
       let t : leb ELEMENT c ≡ false = lt-leb _ _ l in
       rw (grown-same d known tag c x es t)
-      (record { each = h .each; high = height-same d known tag c x es t ∙ h .high; count = h .count; few = left-few })
+      (record {
+        each = h .each;
+        high = height-same d known tag c x es t ∙ h .high;
+        count = h .count;
+        number = count-same d known tag c x es t ∙ h .number;
+        few = left-few;
+      })
 
   kept-held : Fit tag b c → Held known tag (pick (leb ELEMENT c) (suc n) n) (kept d known tag c x) (grown d c x es)
   kept-held f =
@@ -233,7 +249,7 @@ module _ (d : List ℕ) (known : List Known) (tag : ℕ) where
       rw q at (a .held)
 
   recount : (n m : ℕ) (x : Draft) (es : List Element) → m ≤ 512 → Held known tag n x es → Held known tag n (counting m x) es
-  recount n m x es l h = record { each = h .each; high = h .high; count = h .count; few = l }
+  recount n m x es l h = record { each = h .each; high = h .high; count = h .count; number = h .number; few = l }
 
   -- a run of m items
   items-held : (n m : ℕ) (cs : List ℕ) → orderly tag false cs ≡ true → m ≤ 512 → (x : Draft) (es : List Element) → Held known tag n x es
@@ -269,7 +285,7 @@ module _ (d : List ℕ) (known : List Known) (tag : ℕ) where
       let o = all-orderly tag k in
       let b = between _ _ y fs js e in
       let start : Held known tag 0 (record { at = at; left = 0; free = 0; format = 20; height = 1; card = 0; name = 0; count = 0 }) [] =
-      record { each = λ j l. absurd (omega arith); high = refl; count = refl; few = omega arith }
+      record { each = λ j l. absurd (omega arith); high = refl; count = refl; number = refl; few = omega arith }
       in
       let f = section-held 0 (layout tag .head) (layout tag .first) (o .head) (o .first) _ [] start (b .draft) (b .list) (b .read) (b .first) in
       let s = section-held _ (layout tag .more) (layout tag .last) (o .more) (o .last) (b .draft) (b .list) (f .2) y fs (b .rest) (b .second) in

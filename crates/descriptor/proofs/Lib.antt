@@ -4,4 +4,5 @@ pub mod Readings
 pub mod Elements
 pub mod ScalarFormats
 pub mod Sound
+pub mod Progress
 pub mod Accepted

@@ -1,20 +1,20 @@
 -- A scalar's format is known at its block's end: from its own id, or from its last ancestor. Assumes nothing.
 use mathlib.Core.Path.{_≡_, refl, ap, sym, _∙_}
-use mathlib.Core.Logic.{_⊎_, inl, inr, ⊎-elim}
+use mathlib.Core.Logic.{⊎-elim}
 use mathlib.Core.Bool.{Bool, true, false}
 use mathlib.Core.List.{List, [], _∷_}
-use Prim.Native.Nat.{ℕ, zero, suc, _+_, _-_, _≤_, _<_}
+use Prim.Native.Nat.{ℕ, suc, _≤_, _<_}
 use native.Mathlib.Omega.{arith}
 use lib.Dec.{ltb, eqb}
 use lib.ListN.{length, getD}
-use borrow.Author.Tests.{eqb-true, eqb-false, ltb-true, ltb-false, eq-eqb, ne-eqb}
+use borrow.Author.Tests.{eqb-false, ltb-true, ltb-false, eq-eqb}
 use Rattle.wire.specs.Choice.{pick}
-use Rattle.wire.proofs.Picks.{clash, pick-yes, pick-no, pick-case, pick-split, same-or-not}
+use Rattle.wire.proofs.Picks.{pick-yes, pick-case, same-or-not}
 use Rattle.descriptor.specs.Layouts.{ID, TEXT, BOOL, ANCESTORS, ANCESTOR, layout}
 use Rattle.descriptor.specs.Fields.{Known, Element, noBlock, idAt, formatOf, numberAt, formatless, countFault, decides, formatBy, fits, kindFault, refFault, fault, formatAfter, kept}
-use Rattle.descriptor.specs.Blocks.{Item, next, noted, andThen, counting, field, fields, items, section, blockFrom}
+use Rattle.descriptor.specs.Blocks.{Item, next, noted, andThen, counting, fields, items, section, blockFrom}
 use Rattle.descriptor.specs.declared.Draft.{Draft}
-use Rattle.descriptor.proofs.Readings.{no-fault, fault-no, Between, between, next-same, Step, stepped, fields-keep, items-keep}
+use Rattle.descriptor.proofs.Readings.{no-fault, fault-no, between, next-same, stepped, items-keep}
 
 -- a format, or 20 for none
 format-most : (i : ℕ) → formatOf i ≤ 20
@@ -88,12 +88,13 @@ module _ (d : List ℕ) (known : List Known) where
         go : (t : Bool) → decides 3 (counting (suc n) x) ≡ t → pick t (ltb (formatBy d last) 20) true ≡ true
             → (pick t (formatBy d last) (x .format) ≤ 20) × (pick t (formatBy d last) (x .format) ≡ 20 → 1 ≤ n)
         go true e f = let l = ltb-true (formatBy d last) 20 f in (omega arith, λ g. omega arith)
-        go false e f =
-            (q .0,
-            λ (g : x .format ≡ 20).
-            let h : eqb (suc n) 1 ≡ false = sym (pick-yes (eqb (x .format) 20) (eqb (suc n) 1) false (eq-eqb _ _ g)) ∙ e in
-            let z = eqb-false (suc n) 1 h in
-            omega arith)
+        go false e f = (
+          q .0,
+          λ (g : x .format ≡ 20).
+              let h : eqb (suc n) 1 ≡ false = sym (pick-yes (eqb (x .format) 20) (eqb (suc n) 1) false (eq-eqb _ _ g)) ∙ e in
+              let z = eqb-false (suc n) 1 h in
+              omega arith,
+        )
 
   ancestors-due : (n : ℕ) (x : Draft) (es : List Element) → Due n x → (y : Draft) (fs : List Element) (is : List Item)
       → items d known 3 (ANCESTOR ∷ []) n x es ≡ next y fs is → Due 0 y

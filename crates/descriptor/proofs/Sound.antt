@@ -1,19 +1,19 @@
 -- What every accepted block obeys: how many elements it has and where they may refer, its height and its format. Assumes nothing.
-use mathlib.Core.Path.{_≡_, refl, ap, sym, _∙_}
-use mathlib.Core.Bool.{Bool, true, false}
+use mathlib.Core.Path.{_≡_, sym, _∙_}
+use mathlib.Core.Bool.{true}
 use mathlib.Core.List.{List, [], _∷_}
-use Prim.Native.Nat.{ℕ, zero, suc, _+_, _≤_, _<_}
+use Prim.Native.Nat.{ℕ, suc, _+_, _≤_, _<_}
 use native.Mathlib.Omega.{arith}
 use lib.Dec.{leb}
 use lib.ListN.{length, getD}
-use borrow.Author.Tests.{leb-true, leb-false}
+use borrow.Author.Tests.{leb-true}
 use Rattle.wire.proofs.Picks.{pick-case}
 use Rattle.plan.specs.Plan.{atLeast}
 use Rattle.descriptor.specs.Layouts.{knownTag}
 use Rattle.descriptor.specs.Fields.{Known, Element}
 use Rattle.descriptor.specs.Blocks.{Item, next, blockFrom}
 use Rattle.descriptor.specs.declared.Draft.{Draft}
-use Rattle.descriptor.proofs.Tags.{single, bare, total, all-numbered}
+use Rattle.descriptor.proofs.Tags.{single, bare, all-numbered}
 use Rattle.descriptor.proofs.Elements.{noElement, target, raisedBy, Refers, block-held}
 use Rattle.descriptor.proofs.ScalarFormats.{scalar-format}
 
@@ -41,6 +41,7 @@ pub record Sound (known : List Known) (tag : ℕ) (x : Draft) (es : List Element
   pub few : length es ≤ 512
   pub one : single tag ≡ true → length es ≡ 1
   pub none : bare tag ≡ true → length es ≡ 0
+  pub number : x .count ≡ length es
   pub each : (j : ℕ) → j < length es → Refers known tag (getD es j noElement)
   pub high : x .height ≡ raisedBy known 1 es
   pub format : tag ≡ 3 → x .format < 20
@@ -55,6 +56,7 @@ block-sound d known tag at k x es is e =
       few = omega (arith, g .count, n .few);
       one = λ t. g .count ∙ n .one t;
       none = λ t. g .count ∙ n .none t;
+      number = g .number ∙ sym (g .count);
       each = g .each;
       high = g .high;
       format = λ (q : tag ≡ 3). scalar-format d known at x es is (rw q at e);

@@ -1,15 +1,15 @@
 -- The known tags one by one, and what their fields say of a block's elements: of which kind they are, whether a cardinality is read before
 -- each, and how many there are. Assumes nothing.
 use mathlib.Core.Path.{_≡_, refl, sym, _∙_}
-use mathlib.Core.Logic.{_⊎_, ⊎-elim}
+use mathlib.Core.Logic.{⊎-elim}
 use mathlib.Core.Bool.{Bool, true, false}
 use mathlib.Core.List.{List, [], _∷_}
-use Prim.Native.Nat.{ℕ, suc, _+_, _*_, _≤_, _<_}
+use Prim.Native.Nat.{ℕ, suc, _+_, _*_, _≤_}
 use native.Mathlib.Omega.{arith}
 use lib.Dec.{leb, ltb, eqb}
 use borrow.Author.Tests.{le-ltb, lt-leb, ne-eqb, eqb-true}
 use Rattle.wire.specs.Choice.{pick}
-use Rattle.wire.proofs.Picks.{clash, pick-no, pick-case, same-or-not}
+use Rattle.wire.proofs.Picks.{clash, both, pick-yes, pick-no, pick-case, same-or-not}
 use Rattle.descriptor.specs.Layouts.{CARDINALITY, ELEMENT, layout, knownTag, indexed, valued}
 
 -- ---- the tags
@@ -117,23 +117,27 @@ pub record Orderly (tag : ℕ) : Type 0 where
   pub more : orderly tag false (layout tag .more) ≡ true
   pub last : orderly tag false (layout tag .last) ≡ true
 
-pub all-orderly : (tag : ℕ) → knownTag tag ≡ true → Orderly tag
+in-order : (tag : ℕ) → knownTag tag ≡ true
+    → pick (orderly tag false (layout tag .head))
+    (pick (orderly tag false (layout tag .first)) (pick (orderly tag false (layout tag .more)) (orderly tag false (layout tag .last)) false) false)
+    false
+    ≡ true
 unfolding orderly layout pick elementKind carded
-all-orderly =
-    known-cases Orderly
-    (record { head = refl; first = refl; more = refl; last = refl })
-    (record { head = refl; first = refl; more = refl; last = refl })
-    (record { head = refl; first = refl; more = refl; last = refl })
-    (record { head = refl; first = refl; more = refl; last = refl })
-    (record { head = refl; first = refl; more = refl; last = refl })
-    (record { head = refl; first = refl; more = refl; last = refl })
-    (record { head = refl; first = refl; more = refl; last = refl })
-    (record { head = refl; first = refl; more = refl; last = refl })
-    (record { head = refl; first = refl; more = refl; last = refl })
-    (record { head = refl; first = refl; more = refl; last = refl })
-    (record { head = refl; first = refl; more = refl; last = refl })
-    (record { head = refl; first = refl; more = refl; last = refl })
-    (record { head = refl; first = refl; more = refl; last = refl })
+in-order =
+    known-cases
+    (λ tag.
+    pick (orderly tag false (layout tag .head))
+    (pick (orderly tag false (layout tag .first)) (pick (orderly tag false (layout tag .more)) (orderly tag false (layout tag .last)) false) false)
+    false
+    ≡ true)
+    refl refl refl refl refl refl refl refl refl refl refl refl refl
+
+pub all-orderly : (tag : ℕ) → knownTag tag ≡ true → Orderly tag
+all-orderly tag k =
+    let a = both _ _ (in-order tag k) in
+    let b = both _ _ (a .1) in
+    let c = both _ _ (b .1) in
+    record { head = a .0; first = b .0; more = c .0; last = c .1 }
 
 -- at most 512 of them, one where there is exactly one, none where there is none
 pub record Numbered (tag n m : ℕ) : Type 0 where
@@ -141,20 +145,19 @@ pub record Numbered (tag n m : ℕ) : Type 0 where
   pub one : single tag ≡ true → total tag n m ≡ 1
   pub none : bare tag ≡ true → total tag n m ≡ 0
 
-pub all-numbered : (n m : ℕ) → n ≤ 512 → m ≤ 512 → (tag : ℕ) → knownTag tag ≡ true → Numbered tag n m
+in-number : (n m : ℕ) → n ≤ 512 → m ≤ 512 → (tag : ℕ) → knownTag tag ≡ true
+    → (pick (single tag) 1 0 ≤ total tag n m) × (total tag n m ≤ pick (single tag) 1 512) × (total tag n m ≤ pick (bare tag) 0 512)
 unfolding total elementsIn layout pick single bare
-all-numbered n m a b =
-    known-cases (λ tag. Numbered tag n m)
-    (record { few = omega arith; one = λ _. omega arith; none = λ e. clash e })
-    (record { few = omega arith; one = λ e. clash e; none = λ e. clash e })
-    (record { few = omega arith; one = λ e. clash e; none = λ _. omega arith })
-    (record { few = omega arith; one = λ e. clash e; none = λ e. clash e })
-    (record { few = omega arith; one = λ e. clash e; none = λ e. clash e })
-    (record { few = omega arith; one = λ _. omega arith; none = λ e. clash e })
-    (record { few = omega arith; one = λ e. clash e; none = λ _. omega arith })
-    (record { few = omega arith; one = λ e. clash e; none = λ e. clash e })
-    (record { few = omega arith; one = λ _. omega arith; none = λ e. clash e })
-    (record { few = omega arith; one = λ e. clash e; none = λ e. clash e })
-    (record { few = omega arith; one = λ e. clash e; none = λ e. clash e })
-    (record { few = omega arith; one = λ e. clash e; none = λ e. clash e })
-    (record { few = omega arith; one = λ e. clash e; none = λ e. clash e })
+in-number n m a b =
+    known-cases (λ tag. (pick (single tag) 1 0 ≤ total tag n m) × (total tag n m ≤ pick (single tag) 1 512) × (total tag n m ≤ pick (bare tag) 0 512))
+    (omega arith) (omega arith) (omega arith) (omega arith) (omega arith) (omega arith) (omega arith) (omega arith) (omega arith) (omega arith) (omega arith)
+    (omega arith) (omega arith)
+
+pub all-numbered : (n m : ℕ) → n ≤ 512 → m ≤ 512 → (tag : ℕ) → knownTag tag ≡ true → Numbered tag n m
+all-numbered n m a b tag k =
+    let h = in-number n m a b tag k in
+    record {
+      few = pick-case (λ u. total tag n m ≤ u → total tag n m ≤ 512) (bare tag) 0 512 (λ _ l. omega arith) (λ _ l. l) (h .2);
+      one = λ t. omega (arith, h .0, h .1, pick-yes {A = ℕ} (single tag) 1 0 t, pick-yes {A = ℕ} (single tag) 1 512 t);
+      none = λ t. omega (arith, h .2, pick-yes {A = ℕ} (bare tag) 0 512 t);
+    }
