@@ -5,4 +5,5 @@ pub mod Elements
 pub mod ScalarFormats
 pub mod Sound
 pub mod Progress
+pub mod BlockFuel
 pub mod Accepted
