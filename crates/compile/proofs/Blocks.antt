@@ -14,8 +14,7 @@ use Rattle.plan.specs.Plan.{mayRefer}
 use Rattle.descriptor.specs.Layouts.{valued}
 use Rattle.descriptor.specs.Fields.{Known, Element}
 use Rattle.descriptor.specs.Descriptor.{refs, nodeWords, nodeAt, Block, summary, summaries, allWords, blockOf, planWords}
-use Rattle.descriptor.proofs.Tags.{suited-valued, elementKind}
-use Rattle.descriptor.proofs.Elements.{noElement, target, raisedBy, Refers}
+use Rattle.descriptor.proofs.Elements.{noElement, target, element-valued, raisedBy, Refers}
 use Rattle.descriptor.proofs.Accepted.{missing, Made, Accepted, Valued}
 use Rattle.compile.specs.OffDescriptor.{blockAt}
 use Rattle.compile.proofs.Words.{kindOf, refsOf, Proper, Stands, stands}
@@ -82,7 +81,7 @@ module _ (bs : List Block) (a : Accepted bs) where
         let r = facts .each j l in
         let e = getD (facts .list) j noElement in
         let t = target-is i e (r .below) in
-        let w : valued (target (summaries (take i bs)) e .tag) ≡ true = suited-valued (elementKind (facts .tag)) _ (r .suits) in
+        let w : valued (target (summaries (take i bs)) e .tag) ≡ true = element-valued (summaries (take i bs)) e (facts .tag) r in
         record {
           less = t .0;
           has = record { inside = t .1; values = ap (λ (k : Known). valued (k .tag)) (sym (t .2)) ∙ w };

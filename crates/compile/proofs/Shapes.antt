@@ -2,7 +2,7 @@
 -- of kinds that they may go to. Assumes nothing.
 use mathlib.Core.Path.{_≡_, refl, ap, _∙_}
 use mathlib.Core.Logic.{⊎-elim}
-use mathlib.Core.Bool.{Bool, true, false, not}
+use mathlib.Core.Bool.{Bool, true, not}
 use mathlib.Core.List.{List, [], _∷_}
 use Prim.Native.Nat.{ℕ, zero, suc, _≤_, _<_}
 use native.Mathlib.Omega.{arith}
@@ -10,15 +10,15 @@ use lib.Dec.{eqb}
 use lib.ListN.{length, getD, length-map, List·getD-map}
 use borrow.Author.Tests.{eqb-true, eqb-false, ne-eqb}
 use Rattle.wire.specs.Choice.{pick}
-use Rattle.wire.proofs.Picks.{clash, pick-case, same-or-not}
+use Rattle.wire.proofs.Picks.{pick-case, same-or-not}
 use Rattle.rules.specs.Node.{row, arrays}
 use Rattle.plan.specs.Plan.{mayRefer, cardinality}
 use Rattle.descriptor.specs.Layouts.{knownTag, indexed, valued}
 use Rattle.descriptor.specs.Fields.{Known, Element, noBlock}
 use Rattle.descriptor.specs.Descriptor.{refs, cards, onlyRef, nodeOf}
 use Rattle.descriptor.specs.declared.Draft.{Draft}
-use Rattle.descriptor.proofs.Tags.{valued-cases, elementKind, suited, carded, single, bare}
-use Rattle.descriptor.proofs.Elements.{noElement, target}
+use Rattle.descriptor.proofs.Tags.{valued-cases, carded, single, bare}
+use Rattle.descriptor.proofs.Elements.{noElement, target, set-element, array-element, range-element}
 use Rattle.descriptor.proofs.Sound.{Sound}
 use Rattle.compile.proofs.Words.{kindOf, refsOf, Paired, Proper}
 
@@ -45,12 +45,6 @@ ref-of es j = List·getD-map (λ (e : Element). e .ref) es j noElement
 
 card-of : (es : List Element) (j : ℕ) → getD (cards es) j 0 ≡ getD es j noElement .card
 card-of es j = List·getD-map (λ (e : Element). e .card) es j noElement
-
--- a choice that passes though its first part does not
-picked : (t b : Bool) → pick t false b ≡ true → (t ≡ false) × (b ≡ true)
-unfolding pick
-picked true b e = clash e
-picked false b e = (refl, e)
 
 -- ---- what a node's kind says of its block's tag: an array's is 2, a scalar's 1, and only sets and arrays have a 2 or a 3
 
@@ -113,27 +107,22 @@ module _ (known : List Known) (es : List Element) (tag : ℕ) (k : knownTag tag 
 
     -- "for 2 neither a 2 nor a 3, for 3 a 2, for 7 a 1, else any"
     pub shape-refers : (j kind : ℕ) → j < length es → Kinded (target known (getD es j noElement) .tag) kind → mayRefer (kindOf (nodeOf known tag (x .format) es)) kind ≡ true
-    unfolding nodeOf kindOf kindFits mayRefer elementKind suited single pick
+    unfolding nodeOf kindOf kindFits mayRefer single pick
     shape-refers j kind l q =
         valued-cases (λ tag. Sound known tag x es → mayRefer (kindOf (nodeOf known tag (x .format) es)) kind ≡ true)
         (λ s.
         let w : onlyRef es ≡ getD es j noElement .ref = only-first es j (s .one refl) l in
-        let a : pick (eqb other 0) false (valued other) ≡ true = s .each j l .suits in
         pick-case (λ v. mayRefer (kindOf v) kind ≡ true) (eqb (getD known (onlyRef es) noBlock .tag) 6) (arrays (onlyRef es)) (row (onlyRef es))
         (λ t. let six : other ≡ 6 = eqb-true _ _ (rw w at t) in rw six at (q .fit))
-        (λ t. plain (eqb-false _ _ (picked (eqb other 0) (valued other) a .0)) (eqb-false _ _ (rw w at t))))
+        (λ t. plain (set-element known (getD es j noElement) (s .each j l)) (eqb-false _ _ (rw w at t))))
         (λ s. refl)
         (λ s. refl)
         (λ s. refl)
         (λ s. refl)
-        (λ s.
-        let a : pick (eqb other 0) false (pick (eqb other 6) false (valued other)) ≡ true = s .each j l .suits in
-        let b = picked (eqb other 0) _ a in
-        let c = picked (eqb other 6) (valued other) (b .1) in
-        plain (eqb-false _ _ (b .0)) (eqb-false _ _ (c .0)))
+        (λ s. let a = array-element known (getD es j noElement) (s .each j l) in plain (a .0) (a .1))
         (λ s. refl)
         (λ s. refl)
-        (λ s. let a : eqb other 3 ≡ true = s .each j l .suits in let three : other ≡ 3 = eqb-true other 3 a in rw three at (q .fit))
+        (λ s. let three : other ≡ 3 = range-element known (getD es j noElement) (s .each j l) in rw three at (q .fit))
         tag k i v s
       where
         other : ℕ

@@ -14,11 +14,11 @@ use borrow.Author.Tests.{eqb-true, ltb-true, ltb-false, leb-true, leb-false, le-
 use Rattle.wire.specs.Choice.{pick}
 use Rattle.wire.proofs.Picks.{clash, both, pick-yes, pick-no, pick-case}
 use Rattle.plan.specs.Plan.{cardinality, atLeast}
-use Rattle.descriptor.specs.Layouts.{CARDINALITY, ELEMENT, layout, knownTag}
+use Rattle.descriptor.specs.Layouts.{CARDINALITY, ELEMENT, layout, knownTag, valued}
 use Rattle.descriptor.specs.Fields.{Known, Element, noBlock, numberAt, permits, numberFault, countFault, fits, kindFault, refFault, fault, heightAfter, kept, grown}
 use Rattle.descriptor.specs.Blocks.{Item, next, counting, fields, items, section, blockFrom}
 use Rattle.descriptor.specs.declared.Draft.{Draft}
-use Rattle.descriptor.proofs.Tags.{elementKind, suited, carded, orderly, elementsIn, total, all-orderly}
+use Rattle.descriptor.proofs.Tags.{elementKind, suited, suited-valued, carded, orderly, elementsIn, total, all-orderly}
 use Rattle.descriptor.proofs.Readings.{no-fault, fault-no, between, Step, fields-keep, items-keep}
 
 abbrev pub noElement : Element
@@ -44,6 +44,23 @@ pub record Refers (known : List Known) (tag : ℕ) (e : Element) : Type 0 where
   pub suits : suited (elementKind tag) (target known e .tag) ≡ true
   pub low : target known e .height ≤ 31
   pub card : carded tag ≡ true → cardinality (e .card) ≡ true
+
+-- "Set and array elements aren't sets; array elements aren't arrays. Range elements are scalars.", and all have values
+module _ (known : List Known) (e : Element) where
+  pub element-valued : (tag : ℕ) → Refers known tag e → valued (target known e .tag) ≡ true
+  element-valued tag r = suited-valued (elementKind tag) (target known e .tag) (r .suits)
+
+  pub set-element : Refers known 0 e → target known e .tag ≡ 0 → ⊥
+  unfolding elementKind suited pick
+  set-element r q = clash (rw q at (r .suits))
+
+  pub array-element : Refers known 6 e → (target known e .tag ≡ 0 → ⊥) × (target known e .tag ≡ 6 → ⊥)
+  unfolding elementKind suited pick
+  array-element r = (λ q. clash (rw q at (r .suits)), λ q. clash (rw q at (r .suits)))
+
+  pub range-element : Refers known 9 e → target known e .tag ≡ 3
+  unfolding elementKind suited pick
+  range-element r = eqb-true _ 3 (r .suits)
 
 -- what is so after some fields, of which n referred to elements
 pub record Held (known : List Known) (tag n : ℕ) (x : Draft) (es : List Element) : Type 0 where
