@@ -1,6 +1,7 @@
 -- Demand 3: running the plan that a descriptor compiles to gives what the rules read off the descriptor give, for every value and room;
--- that plan is well formed; and a list has at most one entry and one more for every four bytes. Assumes nothing.
+-- that plan is well formed; and a descriptor that is refused is refused by both alike. Assumes nothing.
 use mathlib.Core.Path.{_≡_, refl, ap, _∙_}
+use mathlib.Core.Logic.{⊎-elim}
 use mathlib.Core.Bool.{true}
 use mathlib.Core.List.{List, [], _∷_}
 use Prim.Native.Nat.{ℕ}
@@ -8,13 +9,13 @@ use native.Mathlib.Omega.{arith}
 use lib.Dec.{ltb}
 use lib.ListN.{length}
 use Rattle.wire.specs.Choice.{pick}
-use Rattle.wire.proofs.Picks.{pick-yes, pick-no}
+use Rattle.wire.proofs.Picks.{pick-yes, pick-no, pick-split}
 use Rattle.rules.specs.Values.{Outcome, refused, valueOf}
 use Rattle.rules.proofs.Relabel.{relabel-value}
 use Rattle.plan.specs.Plan as plan
 use Rattle.plan.specs.Plan.{look, planFormed}
 use Rattle.run.specs.Run.{valueBy, checked, roomed, runOf}
-use Rattle.descriptor.specs.Descriptor.{nodeAt, Block, summaries, Description, refusedBy, noType, described, descriptionOf, planWords, planOf}
+use Rattle.descriptor.specs.Descriptor.{nodeAt, Block, summaries, Description, refusedBy, noType, described, descriptionOf, planWords, Compiled, refusedPlan, planOf, compileOf}
 use Rattle.descriptor.specs.Descriptor as descriptor
 use Rattle.descriptor.proofs.Accepted.{Accepted, Valued, described-is}
 use Rattle.compile.specs.OffDescriptor.{blockAt, valueIn, judged, rulesOf}
@@ -69,3 +70,25 @@ module _ (d root ws : List ℕ) (e : planOf (descriptionOf d root) ≡ descripto
   pub demand-three : (s : List ℕ) (room : ℕ) → runOf ws s room ≡ rulesOf d root s room
   unfolding runOf rulesOf
   demand-three s room = ap (roomed room) (compiled-both .1 s)
+
+-- ---- what compiling refuses
+
+-- a plan that fits its room is the descriptor's
+pub compiled-is : (d root : List ℕ) (room : ℕ) (ws : List ℕ) → compileOf d root room ≡ descriptor.plan ws → planOf (descriptionOf d root) ≡ descriptor.plan ws
+unfolding compileOf descriptor.roomed
+compiled-is d root room ws = go (planOf (descriptionOf d root))
+  where
+    go : (t : Compiled) → descriptor.roomed room t ≡ descriptor.plan ws → t ≡ descriptor.plan ws
+    go (refusedPlan n p) e = e
+    go (descriptor.plan vs) e =
+        ⊎-elim (λ z. let z : _≡_ {A = ℕ} 0 1 = cc (z .1) in absurd (omega arith)) (λ q. q .1) (pick-split _ _ _ _ e)
+
+-- a descriptor that is not accepted has its own number and place by the rules too
+pub refused-same : (d root : List ℕ) (n p : ℕ) → planOf (descriptionOf d root) ≡ refusedPlan n p → (s : List ℕ) (room : ℕ) → rulesOf d root s room ≡ refused n p
+unfolding planOf rulesOf judged roomed
+refused-same d root n p e s room = go (descriptionOf d root) e
+  where
+    go : (t : Description) → planOf t ≡ refusedPlan n p → roomed room (judged t s) ≡ refused n p
+    go (refusedBy m q) e = let a : m ≡ n = cc in let b : q ≡ p = cc in rw (a, b)
+    go noType e = let z : _≡_ {A = ℕ} 0 1 = cc in absurd (omega arith)
+    go (described bs i) e = let z : _≡_ {A = ℕ} 0 1 = cc in absurd (omega arith)

@@ -41,12 +41,13 @@ refsOf (object rs cs) = rs
 refsOf (sparse rs cs) = rs
 refsOf (range r) = r ∷ []
 
--- "formats, counts .. , cardinalities .. obey"
+-- references and cardinalities of an object: as many of each, at most 512
 pub record Paired (rs cs : List ℕ) : Type 0 where
   pub same : length cs ≡ length rs
   pub few : length rs ≤ 512
   pub cards : (j : ℕ) → j < length cs → cardinality (getD cs j 0) ≡ true
 
+-- "formats, counts .. , cardinalities .. obey"
 unfoldable pub Proper : Node → Type 0
 Proper (leaf f) = f < 20
 Proper enum = Unit {0}
@@ -115,7 +116,7 @@ module _ (pre rest : List ℕ) where
   kind-word (sparse rs cs) = first-word (sparse rs cs)
   kind-word (range r) = first-word (range r)
 
-  -- the k-th pair's place, after two words
+  -- places past the first two words and past the first three
   place : (k : ℕ) → length pre + 2 + k ≡ length pre + suc (suc k)
   place k = omega arith
 

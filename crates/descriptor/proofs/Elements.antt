@@ -1,7 +1,7 @@
 -- What a block's fields keep true of its elements: each refers to an earlier block of a kind that suits, whose height leaves room for one
 -- more, and has a cardinality where one is due; the block's height is one more than the highest. Assumes nothing.
 use mathlib.Core.Path.{_≡_, refl, ap, sym, _∙_}
-use mathlib.Core.Logic.{_⊎_, inl, inr, ⊎-elim}
+use mathlib.Core.Logic.{⊎-elim}
 use mathlib.Core.Bool.{Bool, true, false}
 use mathlib.Core.List.{List, [], _∷_, _++_}
 use Prim.Native.Nat.{ℕ, suc, _+_, _*_, _≤_, _<_}
@@ -14,7 +14,7 @@ use borrow.Author.Tests.{eqb-true, ltb-true, ltb-false, leb-true, leb-false, le-
 use Rattle.wire.specs.Choice.{pick}
 use Rattle.wire.proofs.Picks.{clash, both, pick-yes, pick-no, pick-case}
 use Rattle.plan.specs.Plan.{cardinality, atLeast}
-use Rattle.descriptor.specs.Layouts.{CARDINALITY, ELEMENT, layout, knownTag, valued}
+use Rattle.descriptor.specs.Layouts.{ID, NAME, CARDINALITY, DIMENSIONS, ANCESTORS, COUNT, ANCESTOR, ANY, OBJECT, ELEMENT, layout, knownTag, valued}
 use Rattle.descriptor.specs.Fields.{Known, Element, noBlock, numberAt, permits, numberFault, countFault, fits, kindFault, refFault, fault, heightAfter, kept, grown}
 use Rattle.descriptor.specs.Blocks.{Item, next, counting, fields, items, section, blockFrom}
 use Rattle.descriptor.specs.declared.Draft.{Draft}
@@ -78,15 +78,17 @@ module _ (d : List ℕ) (known : List Known) (tag c : ℕ) (x : Draft) (es : Lis
   unfolding fault numberFault permits pick
   card-fine e = let f : numberFault 7 (numberAt d 7 (x .at)) ≡ 0 = rw e at fine in rw e (no-fault _ 0 11 f .0)
 
+  -- counts and references
+  late-fault : DIMENSIONS < c
+      → fault d known tag c x es ≡ pick (leb c COUNT) (countFault tag c x (numberAt d c (x .at))) (refFault d known tag c x (numberAt d c (x .at)))
+  unfolding fault
+  late-fault l =
+      pick-no _ _ _ (ne-eqb c ID (λ (e : c ≡ 1). omega arith)) ∙ pick-no _ _ _ (lt-leb c NAME (omega arith)) ∙ pick-no _ _ _ (lt-leb c DIMENSIONS l)
+
   -- a count is at most 512
-  count-fine : (c ≡ 12) ⊎ (c ≡ 13) → numberAt d c (x .at) ≤ 512
-  unfolding fault countFault pick
-  count-fine o =
-      let v = numberAt d c (x .at) in
-      ⊎-elim
-      (λ (e : c ≡ 12). let f : countFault tag 12 x (numberAt d 12 (x .at)) ≡ 0 = rw e at fine in rw e (ltb-false 512 _ (fault-no _ 16 _ f .0)))
-      (λ (e : c ≡ 13). let f : countFault tag 13 x (numberAt d 13 (x .at)) ≡ 0 = rw e at fine in rw e (ltb-false 512 _ (fault-no _ 16 _ f .0)))
-      o
+  count-fine : DIMENSIONS < c → c ≤ COUNT → numberAt d c (x .at) ≤ 512
+  unfolding countFault
+  count-fine l m = ltb-false 512 _ (fault-no _ 16 _ (sym (late-fault l ∙ pick-yes _ _ _ (le-leb c COUNT m)) ∙ fine) .0)
 
   -- an element reference goes to an earlier block that suits and has room above it
   module _ (l : ELEMENT ≤ c) where
@@ -96,24 +98,19 @@ module _ (d : List ℕ) (known : List Known) (tag c : ℕ) (x : Draft) (es : Lis
     fits-suited : (k : Known) → fits d tag c x k ≡ suited c (k .tag)
     unfolding fits suited
     fits-suited k =
-        pick-no _ _ _ (ne-eqb c 14 (λ (e : c ≡ 14). omega arith)) ∙ pick-no _ _ _ (ne-eqb c 15 (λ (e : c ≡ 15). omega arith))
-        ∙ pick-no _ _ _ (ne-eqb c 16 (λ (e : c ≡ 16). omega arith))
+        pick-no _ _ _ (ne-eqb c ANCESTOR (λ (e : c ≡ 14). omega arith)) ∙ pick-no _ _ _ (ne-eqb c ANY (λ (e : c ≡ 15). omega arith))
+        ∙ pick-no _ _ _ (ne-eqb c OBJECT (λ (e : c ≡ 16). omega arith))
 
     new-fine : c ≡ elementKind tag → (carded tag ≡ true → cardinality (x .card) ≡ true) → Refers known tag newElement
-    unfolding fault refFault kindFault newElement
+    unfolding refFault kindFault newElement
     new-fine k card =
         let v = numberAt d c (x .at) in
-        let a : refFault d known tag c x v ≡ 0 =
-        sym
-        (pick-no _ _ _ (ne-eqb c 1 (λ (e : c ≡ 1). omega arith)) ∙ pick-no _ _ _ (lt-leb c 3 (omega arith)) ∙ pick-no _ _ _ (lt-leb c 11 (omega arith))
-        ∙ pick-no _ _ _ (lt-leb c 13 (omega arith)))
-        ∙ fine
-        in
-        let o : pick (eqb c 16) (eqb (x .free) 1) false ≡ false = pick-no _ _ _ (ne-eqb c 16 (λ (e : c ≡ 16). omega arith)) in
+        let a : refFault d known tag c x v ≡ 0 = sym (late-fault (omega arith) ∙ pick-no _ _ _ (lt-leb c COUNT (omega arith))) ∙ fine in
+        let o : pick (eqb c OBJECT) (eqb (x .free) 1) false ≡ false = pick-no _ _ _ (ne-eqb c OBJECT (λ (e : c ≡ 16). omega arith)) in
         let b : pick (ltb v (length known)) (kindFault d tag c x (getD known v noBlock)) 13 ≡ 0 = sym (pick-no _ _ _ o) ∙ a in
         let g = no-fault _ _ 12 b in
         let h = no-fault _ _ 13 (g .1) in
-        let i : _≡_ {A = ℕ} (pick (leb 32 (getD known v noBlock .height)) 17 0) 0 = sym (pick-yes _ _ _ (le-leb 17 c l)) ∙ h .1 in
+        let i : _≡_ {A = ℕ} (pick (leb 32 (getD known v noBlock .height)) 17 0) 0 = sym (pick-yes _ _ _ (le-leb ELEMENT c l)) ∙ h .1 in
         let s : suited c (getD known v noBlock .tag) ≡ true = sym (fits-suited (getD known v noBlock)) ∙ h .0 in
         record {
           below = ltb-true _ _ (g .0);
@@ -168,19 +165,22 @@ module _ (d : List ℕ) (known : List Known) (tag c : ℕ) (x : Draft) (es : Lis
 abbrev Fit : ℕ → Bool → ℕ → Type 0
 Fit tag b c = pick (ltb c ELEMENT) true (pick (eqb c (elementKind tag)) (pick (carded tag) b true) false) ≡ true
 
-abbrev Ready : ℕ → Bool → Draft → Type 0
-Ready tag b x = b ≡ true → cardinality (x .card) ≡ true
+abbrev Ready : Bool → Draft → Type 0
+Ready b x = b ≡ true → cardinality (x .card) ≡ true
 
-module _ (d : List ℕ) (known : List Known) (tag n c : ℕ) (b : Bool) (x : Draft) (es : List Element) (h : Held known tag n x es) (r : Ready tag b x)
+module _ (d : List ℕ) (known : List Known) (tag n c : ℕ) (b : Bool) (x : Draft) (es : List Element) (h : Held known tag n x es) (r : Ready b x)
     (fine : fault d known tag c x es ≡ 0) where
   left-few : kept d known tag c x .left ≤ 512
   unfolding kept
   left-few =
       let P : ℕ → Type 0 = λ m. m ≤ 512 in
-      pick-case P (eqb c 12) _ _ (λ e. count-fine d known tag c x es fine (inl (eqb-true _ _ e)))
-      (λ _. pick-case P (eqb c 13) _ _ (λ e. count-fine d known tag c x es fine (inr (eqb-true _ _ e))) (λ _. h .few))
+      let count : (k : ℕ) → eqb c k ≡ true → DIMENSIONS < k → k ≤ COUNT → numberAt d c (x .at) ≤ 512 =
+      λ k t l m. let e = eqb-true c k t in count-fine d known tag c x es fine (omega arith) (omega arith)
+      in
+      pick-case P (eqb c ANCESTORS) _ _ (λ t. count ANCESTORS t (omega arith) (omega arith))
+      (λ _. pick-case P (eqb c COUNT) _ _ (λ t. count COUNT t (omega arith) (omega arith)) (λ _. h .few))
 
-  card-ready : Ready tag (pick (eqb c CARDINALITY) true b) (kept d known tag c x)
+  card-ready : Ready (pick (eqb c CARDINALITY) true b) (kept d known tag c x)
   unfolding kept pick
   card-ready = go (eqb c CARDINALITY) refl
     where
@@ -237,7 +237,7 @@ module _ (d : List ℕ) (known : List Known) (tag : ℕ) where
     sum : so-far + elementsIn cs ≡ n
     at-hand : Bool
     held : Held known tag so-far x es
-    ready : Ready tag at-hand x
+    ready : Ready at-hand x
     orders : orderly tag at-hand cs ≡ true
 
   ahead-step : (n c : ℕ) (cs : List ℕ) (x : Draft) (es : List Element) → Ahead n (c ∷ cs) x es → (y : Draft) (fs : List Element) → Step d known tag c x es y fs → Ahead n cs y fs

@@ -10,7 +10,7 @@ use lib.Dec.{leb, ltb, eqb}
 use borrow.Author.Tests.{le-ltb, lt-leb, ne-eqb, eqb-true}
 use Rattle.wire.specs.Choice.{pick}
 use Rattle.wire.proofs.Picks.{clash, both, pick-yes, pick-no, pick-case, same-or-not}
-use Rattle.descriptor.specs.Layouts.{CARDINALITY, ELEMENT, layout, knownTag, indexed, valued}
+use Rattle.descriptor.specs.Layouts.{CARDINALITY, ELEMENT, SET-ELEMENT, ARRAY-ELEMENT, RANGE-ELEMENT, layout, knownTag, indexed, valued}
 
 -- ---- the tags
 
@@ -61,23 +61,23 @@ valued-cases P p0 p1 p3 p4 p5 p6 p7 p8 p9 =
 
 -- the kind of field that refers to one
 unfoldable pub elementKind : ℕ → ℕ
-elementKind tag = pick (eqb tag 0) 18 (pick (eqb tag 6) 19 (pick (eqb tag 9) 20 17))
+elementKind tag = pick (eqb tag 0) SET-ELEMENT (pick (eqb tag 6) ARRAY-ELEMENT (pick (eqb tag 9) RANGE-ELEMENT ELEMENT))
 
 -- a block with a tag may be one: "Set and array elements aren't sets; array elements aren't arrays. Range elements are scalars."
 unfoldable pub suited : ℕ → ℕ → Bool
 suited c kind =
-    pick (eqb c 17) (valued kind)
-    (pick (eqb c 18) (pick (eqb kind 0) false (valued kind))
-    (pick (eqb c 19) (pick (eqb kind 0) false (pick (eqb kind 6) false (valued kind))) (eqb kind 3)))
+    pick (eqb c ELEMENT) (valued kind)
+    (pick (eqb c SET-ELEMENT) (pick (eqb kind 0) false (valued kind))
+    (pick (eqb c ARRAY-ELEMENT) (pick (eqb kind 0) false (pick (eqb kind 6) false (valued kind))) (eqb kind 3)))
 
 -- it has values then
 pub suited-valued : (c kind : ℕ) → suited c kind ≡ true → valued kind ≡ true
 unfolding suited valued pick
 suited-valued c kind =
     let P : Bool → Type 0 = λ b. b ≡ true → valued kind ≡ true in
-    pick-case P (eqb c 17) _ _ (λ _ e. e)
-    (λ _. pick-case P (eqb c 18) _ _ (λ _ e. last (eqb kind 0) (valued kind) e)
-    (λ _. pick-case P (eqb c 19) _ _ (λ _ e. last (eqb kind 6) (valued kind) (last (eqb kind 0) _ e))
+    pick-case P (eqb c ELEMENT) _ _ (λ _ e. e)
+    (λ _. pick-case P (eqb c SET-ELEMENT) _ _ (λ _ e. last (eqb kind 0) (valued kind) e)
+    (λ _. pick-case P (eqb c ARRAY-ELEMENT) _ _ (λ _ e. last (eqb kind 6) (valued kind) (last (eqb kind 0) _ e))
     (λ _ e. let q : kind ≡ 3 = eqb-true kind 3 e in rw q)))
   where
     last : (t b : Bool) → pick t false b ≡ true → b ≡ true
