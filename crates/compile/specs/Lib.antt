@@ -1,2 +1,3 @@
 pub mod OffDescriptor
 pub mod Cases
+pub mod Nodes

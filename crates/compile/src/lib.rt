@@ -1,1 +1,2 @@
 // Compiling a descriptor's plan (document 01, 'Plan, list, finding').
+pub mod node;
