@@ -1,2 +1,1 @@
 // Compiling a descriptor's plan (document 01, 'Plan, list, finding').
-pub mod node;

@@ -101,15 +101,7 @@ fn put_pairs(
 }
 
 // A node with one reference.
-fn put_single(
-    d: &[u8],
-    known: &[u32],
-    n: usize,
-    tag: u32,
-    r: u32,
-    plan: &mut [u32],
-    to: usize,
-)
+fn put_single(d: &[u8], known: &[u32], n: usize, tag: u32, r: u32, plan: &mut [u32], to: usize)
     requires { ⌜ (Told (now d) (now known) n) × (to ≤ 4294967296) ⌝ }
     ensures { λ _. ⌜ now (plan .exit) ≡ sets (now (plan .entry)) to (singleWords (knownOf (now (d .entry)) (now (known .entry)) n) tag r) ⌝ }
 {

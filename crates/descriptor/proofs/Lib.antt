@@ -7,6 +7,7 @@ pub mod Texts
 pub mod Known
 pub mod Rules
 pub mod Steps
+pub mod Loops
 pub mod Tags
 pub mod Readings
 pub mod Elements

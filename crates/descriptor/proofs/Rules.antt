@@ -4,16 +4,19 @@ use mathlib.Core.Logic.{⊎-elim}
 use mathlib.Core.Bool.{Bool, true, false}
 use mathlib.Core.List.{List, [], _∷_, _++_}
 use Prim.Native.Nat.{ℕ, zero, suc, _+_, _*_, _≤_, _<_}
+use native.Mathlib.Nat.{add-zero}
 use native.Mathlib.Numerals.{add-one}
 use native.Mathlib.Omega.{arith}
-use lib.ListN.{length, getD, set}
+use lib.ListN.{length, getD, set, length-set}
 use lib.Seq.{getD-set-same, getD-set-other}
-use lib.ListN.{length-set}
-use borrow.Author.Tests.{eq-eqb, ne-eqb, le-leb, lt-leb, lt-ltb, le-ltb}
+use lib.Dec.{eqb, leb, ltb}
+use borrow.Author.Tests.{eq-eqb, ne-eqb, le-leb, lt-leb, eqb-true, leb-true, ltb-false}
 use Rattle.wire.specs.Choice.{pick}
-use Rattle.wire.proofs.Picks.{pick-yes, pick-no}
+use Rattle.wire.proofs.Numbers.{be-below}
+use Rattle.plan.specs.Plan.{atLeast}
+use Rattle.wire.proofs.Picks.{pick-yes, pick-no, pick-case, pick-split}
 use Rattle.descriptor.specs.Fields.{Known, noBlock, Element, idAt, formatOf, widthOf, numberAt, extent, idFault, textFault, numberFault, decides, countFault, formatBy, refFault, fault, formatAfter, heightAfter, kept, grown}
-use Rattle.descriptor.specs.Arrays.{tab, elementAt, elementsOf}
+use Rattle.descriptor.specs.Arrays.{tab, elementAt, elementsOf, push}
 use Rattle.descriptor.specs.declared.Draft.{Draft}
 use Rattle.descriptor.proofs.Tabs.{tab-same}
 
@@ -26,6 +29,17 @@ extent-id d c at e = pick-yes _ _ _ (eq-eqb _ _ e)
 pub extent-number : (d : List ℕ) (c at : ℕ) → 3 < c → extent d c at ≡ widthOf c
 unfolding extent
 extent-number d c at h = pick-no _ _ _ (ne-eqb _ _ (λ (e : c ≡ 1). omega arith)) ∙ pick-no _ _ _ (lt-leb _ _ h)
+
+-- no size is so large that a place and it are too much
+pub extent-most : (d : List ℕ) (c at : ℕ) → ((i : ℕ) → getD d i 0 < 256) → extent d c at ≤ 4294967300
+unfolding extent widthOf
+extent-most d c at byte =
+    let P : ℕ → Type 0 = λ n. n ≤ 4294967300 in
+    pick-case P (eqb c 1) _ _ (λ _. omega arith)
+    (λ _.
+    pick-case P (leb c 3) _ _
+    (λ _. pick-case P (leb (at + 4) (length d)) _ _ (λ e. let b = be-below d at 4 byte (leb-true _ _ e) in omega arith) (λ _. omega arith))
+    (λ _. pick-case P (leb c 7) _ _ (λ _. omega arith) (λ _. pick-case P (leb c 10) _ _ (λ _. omega arith) (λ _. omega arith))))
 
 pub width-one : (c : ℕ) → c ≤ 7 → widthOf c ≡ 1
 unfolding widthOf
@@ -159,3 +173,66 @@ module _ (a : List ℕ) (n x y z : ℕ) (h : 3 * n + 2 < length a) where
       ap (tab (elementAt stored)) (add-one n)
       ∙ ap (λ (es : List Element). es ++ (elementAt stored n ∷ [])) (tab-same (elementAt stored) (elementAt a) n earlier)
       ∙ ap (λ (e : Element). elementsOf a n ++ (e ∷ [])) last
+
+-- ---- an element reference
+
+pub two : (d : List ℕ) (c at : ℕ) → 17 ≤ c → extent d c at ≡ 2
+two d c at g = extent-number d c at (omega arith) ∙ width-reference c (omega arith)
+
+module _ (d : List ℕ) (known : List Known) (tag c : ℕ) (x : Draft) (g : 17 ≤ c) (v : ℕ) (q : v ≡ numberAt d c (x .at)) where
+  not-low : (k : ℕ) → k < 17 → c ≡ k → ⊥
+  not-low k l e = omega arith
+
+  pub kept-element : (h : ℕ) → h ≡ atLeast (x .height) (getD known v noBlock .height + 1)
+      → draft (x .at + 2) (x .left) (x .free) (x .format) h (x .card) (x .name) (x .count + 1) ≡ kept d known tag c x
+  unfolding kept formatAfter heightAfter pick
+  kept-element h e =
+      rw (
+        e,
+        q,
+        two d c (x .at) g,
+        ne-eqb c 1 (not-low 1 (omega arith)),
+        ne-eqb c 3 (not-low 3 (omega arith)),
+        ne-eqb c 5 (not-low 5 (omega arith)),
+        ne-eqb c 7 (not-low 7 (omega arith)),
+        ne-eqb c 12 (not-low 12 (omega arith)),
+        ne-eqb c 13 (not-low 13 (omega arith)),
+        ne-eqb c 14 (not-low 14 (omega arith)),
+        le-leb 17 c g,
+      )
+
+pub grown-element : (d : List ℕ) (c : ℕ) (x : Draft) → 17 ≤ c → (v : ℕ) → v ≡ numberAt d c (x .at) → (es : List Element)
+    → es ++ (record { name = x .name; ref = v; card = x .card } ∷ []) ≡ grown d c x es
+unfolding grown
+grown-element d c x g v q es = rw q (sym (pick-yes _ _ _ (le-leb 17 c g)))
+
+pub grown-not : (d : List ℕ) (c : ℕ) (x : Draft) (es : List Element) → c < 17 → es ≡ grown d c x es
+unfolding grown
+grown-not d c x es h = sym (pick-no _ _ _ (lt-leb 17 c h))
+
+-- ---- what a field leaves in bounds
+
+pub kept-at : (d : List ℕ) (known : List Known) (tag c : ℕ) (x : Draft) → kept d known tag c x .at ≡ x .at + extent d c (x .at)
+unfolding kept
+kept-at d known tag c x = refl
+
+module _ (d : List ℕ) (known : List Known) (tag c : ℕ) (x : Draft) (es : List Element) where
+  count-small : (v : ℕ) → countFault tag c x v ≡ 0 → v ≤ 512
+  unfolding countFault
+  count-small v e = ⊎-elim (λ p. let z : 17 ≡ 0 = p .1 in absurd (omega arith)) (λ p. ltb-false 512 v (p .0)) (pick-split (ltb 512 v) _ _ _ e)
+
+  counted : 11 < c → c ≤ 13 → fault d known tag c x es ≡ 0 → numberAt d c (x .at) ≤ 512
+  counted l m e = count-small _ (sym (fault-count d known tag c x es (λ (q : c ≡ 1). omega arith) (omega arith) l m) ∙ e)
+
+  pub kept-left : fault d known tag c x es ≡ 0 → x .left ≤ 512 → kept d known tag c x .left ≤ 512
+  unfolding kept
+  kept-left f l =
+      pick-case (λ (n : ℕ). n ≤ 512) (eqb c 12) _ _
+      (λ e. let q = eqb-true c 12 e in counted (omega arith) (omega arith) f)
+      (λ _.
+      pick-case (λ (n : ℕ). n ≤ 512) (eqb c 13) _ _ (λ e. let q = eqb-true c 13 e in counted (omega arith) (omega arith) f) (λ _. l))
+
+pub kept-many : (d : List ℕ) (known : List Known) (tag c : ℕ) (x : Draft) → kept d known tag c x .count ≡ x .count + push c
+unfolding kept push
+kept-many d known tag c x =
+    pick-case (λ (n : ℕ). n ≡ x .count + pick (leb 17 c) 1 0) (leb 17 c) _ _ (λ e. rw (pick-yes _ _ _ e)) (λ e. rw (pick-no _ _ _ e) (sym (add-zero (x .count))))

@@ -3,9 +3,10 @@ use mathlib.Core.Path.{_≡_, refl, ap, sym, _∙_}
 use mathlib.Core.Bool.{Bool, true, false}
 use mathlib.Core.List.{List, [], _∷_, _++_}
 use Prim.Native.Nat.{ℕ, zero, suc, _+_, _*_, _≤_, _<_}
+use native.Mathlib.Nat.{add-zero}
 use native.Mathlib.Numerals.{add-one}
 use native.Mathlib.Omega.{arith}
-use lib.Dec.{eqb}
+use lib.Dec.{eqb, leb}
 use lib.ListN.{length, drop, getD, drop-of-length-le}
 use lib.Seq.{drop-cons}
 use borrow.Author.Tests.{eq-eqb, ne-eqb, le-leb, lt-leb, lt-ltb, le-ltb}
@@ -14,7 +15,9 @@ use Rattle.wire.proofs.Picks.{pick-yes, pick-no}
 use Rattle.descriptor.specs.Layouts.{upToEnd}
 use Rattle.descriptor.specs.Fields.{Known, Element, extent, fault, kept, grown}
 use Rattle.descriptor.specs.Blocks.{Reading, stop, next, noted, andThen, counting, field, fields, items, section}
-use Rattle.descriptor.specs.Arrays.{Walk, stopped, moved, led, push, pushes}
+use Rattle.descriptor.specs.Arrays.{Walk, stopped, moved, led, push, pushes, Inside, Roomy, elementsOf}
+use Rattle.descriptor.specs.declared.Part.the-variants.{Next}
+use Rattle.descriptor.proofs.Rules.{kept-at, kept-left, kept-many, grown-not}
 use Rattle.descriptor.specs.declared.Draft.{Draft}
 
 -- ---- one reading after another
@@ -43,20 +46,48 @@ module _ (r : Reading) (f : Draft → List Element → Reading) where
 
 -- ---- a field
 
-module _ (d : List ℕ) (known : List Known) (tag c : ℕ) (x : Draft) (es : List Element) where
-  pub field-short : length d < x .at + extent d c (x .at) → stopped 10 ≡ led (field d known tag c x es)
+module _ (d : List ℕ) (known : List Known) (tag c : ℕ) (x : Draft) (es : List Element) (size : ℕ) (is : size ≡ extent d c (x .at)) where
+  pub field-short : length d < x .at + size → stopped 10 ≡ led (field d known tag c x es)
   unfolding field led
-  field-short h = ap led (sym (pick-no _ _ _ (lt-leb _ _ h)))
+  field-short h = ap led (sym (pick-no _ _ _ (lt-leb _ _ (rw is at h))))
 
-  module _ (h : x .at + extent d c (x .at) ≤ length d) (n : ℕ) (e : n ≡ fault d known tag c x es) where
+  module _ (h : x .at + size ≤ length d) (n : ℕ) (e : n ≡ fault d known tag c x es) where
+    fits : leb (x .at + extent d c (x .at)) (length d) ≡ true
+    fits = le-leb _ _ (rw is at h)
+
     pub field-bad : (n ≡ 0 → ⊥) → stopped n ≡ led (field d known tag c x es)
     unfolding field led
-    field-bad z =
-        ap stopped e ∙ ap led (sym (pick-yes _ _ _ (le-leb _ _ h) ∙ pick-no _ _ _ (ne-eqb _ _ (λ (q : fault d known tag c x es ≡ 0). z (e ∙ q)))))
+    field-bad z = ap stopped e ∙ ap led (sym (pick-yes _ _ _ fits ∙ pick-no _ _ _ (ne-eqb _ _ (λ (q : fault d known tag c x es ≡ 0). z (e ∙ q)))))
 
-    pub field-good : n ≡ 0 → (y : Draft) (fs : List Element) → y ≡ kept d known tag c x → fs ≡ grown d c x es → moved y fs ≡ led (field d known tag c x es)
-    unfolding field led
-    field-good z y fs p q = rw (p, q) (ap led (sym (pick-yes _ _ _ (le-leb _ _ h) ∙ pick-yes _ _ _ (eq-eqb _ _ (sym e ∙ z)))))
+    module _ (z : n ≡ 0) (y : Draft) (p : y ≡ kept d known tag c x) where
+      pub field-good : (fs : List Element) → fs ≡ grown d c x es → moved y fs ≡ led (field d known tag c x es)
+      unfolding field led
+      field-good fs q = rw (p, q) (ap led (sym (pick-yes _ _ _ fits ∙ pick-yes _ _ _ (eq-eqb _ _ (sym e ∙ z)))))
+
+      pub field-inside : x .left ≤ 512 → Inside (length d) (x .count + push c) (Next y)
+      unfolding Inside
+      field-inside l = rw p (omega (arith, kept-at d known tag c x), kept-left d known tag c x es (sym e ∙ z) l, omega (arith, kept-many d known tag c x))
+
+-- ---- room for elements
+
+pub roomy-less : (a : List ℕ) (n m : ℕ) → Roomy a (n + m) → Roomy a n
+roomy-less a n m r = record { room = r .room; few = omega (arith, r .few) }
+
+pub roomy-as : (a b : List ℕ) (n : ℕ) → length b ≡ length a → Roomy a n → Roomy b n
+roomy-as a b n e r = record { room = omega (arith, r .room); few = r .few }
+
+pub roomy-one : (a : List ℕ) (n c : ℕ) → 17 ≤ c → Roomy a (n + push c) → Roomy a (n + 1)
+unfolding push
+roomy-one a n c g r = record { room = r .room; few = let e : _≡_ {A = ℕ} (pick (leb 17 c) 1 0) 1 = pick-yes _ _ _ (le-leb 17 c g) in omega (arith, r .few) }
+
+-- no element more
+pub grown-same : (d : List ℕ) (known : List Known) (tag c : ℕ) (x y : Draft) (a : List ℕ) → c < 17 → y ≡ kept d known tag c x
+    → elementsOf a (y .count) ≡ grown d c x (elementsOf a (x .count))
+unfolding push
+grown-same d known tag c x y a h p =
+    let e : _≡_ {A = ℕ} (pick (leb 17 c) 1 0) 0 = pick-no _ _ _ (lt-leb 17 c h) in
+    let q : y .count ≡ x .count = ap (λ (z : Draft). z .count) p ∙ kept-many d known tag c x ∙ rw e (add-zero (x .count)) in
+    ap (elementsOf a) q ∙ grown-not d c x (elementsOf a (x .count)) h
 
 -- ---- fields
 

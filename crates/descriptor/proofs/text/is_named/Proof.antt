@@ -1,6 +1,7 @@
 -- `descriptor::text::is_named` meets its contract. Assumes nothing.
-use mathlib.Core.Path.{_≡_, sym, ap, _∙_}
+use mathlib.Core.Path.{_≡_, sym, ap, ap₂, _∙_}
 use mathlib.Core.Bool.{false}
+use mathlib.Core.List.{List}
 use Prim.Native.Nat.{ℕ, _+_, _-_, _*_, _<_, _≤_}
 use native.Mathlib.Omega.{arith}
 use lib.ListN.{getD}
@@ -42,13 +43,15 @@ wide-requires : tie.Need-wide-requires Inv-loop μ-loop
 wide-requires c κs = search needs
 
 content-requires-2 : tie.Need-content-requires-2 Inv-loop μ-loop
-content-requires-2 c κs = search needs
+content-requires-2 c κs =
+    (c .before .before .before .before .before .before .before .pre .0, omega (arith, c .wide .ensures, c .before .shared-slice-known3 .given (3 * c .before .before .before .loop .i) .fits))
 
 same-bytes-requires : tie.Need-same-bytes-requires Inv-loop μ-loop
 same-bytes-requires c κs = search needs
 
 returns : tie.Need-returns Inv-loop μ-loop
-returns c = search needs
+returns c =
+    named-hit _ _ _ _ _ _ (c .before .before .before .before .before .loop-test .taken) (c .before .before .before .wide .ensures) (ap₂ sameBytes (sym (c .before .before .content2 .ensures)) (sym (c .before .before .before .before .before .before .before .content .ensures)) ∙ sym (c .before .same-bytes .ensures) ∙ c .if1 .taken)
 
 add-i : tie.Need-add-i Inv-loop μ-loop
 add-i c = search needs
@@ -57,10 +60,11 @@ loop-less : tie.Need-loop-less Inv-loop μ-loop
 loop-less c = search needs
 
 loop-again : tie.Need-loop-again Inv-loop μ-loop
-loop-again c = search needs
+loop-again c =
+    (omega arith, one-more (λ (j : ℕ). sameBytes (textAt (c .before .before .before .before .before .before .before .before .before .before .args .d .now) (getD (c .before .before .before .before .before .before .before .before .before .before .args .elements .now) (3 * j) 0)) (textAt (c .before .before .before .before .before .before .before .before .before .before .args .d .now) (c .before .before .before .before .before .before .before .before .before .before .args .at)) ≡ false) _ (c .before .before .before .before .before .before .loop .inv .1) (ap (λ (k : ℕ). sameBytes (textAt (c .before .before .before .before .before .before .before .before .before .before .args .d .now) k) (textAt (c .before .before .before .before .before .before .before .before .before .before .args .d .now) (c .before .before .before .before .before .before .before .before .before .before .args .at))) (sym (c .before .before .before .wide .ensures)) ∙ ap₂ sameBytes (sym (c .before .before .content2 .ensures)) (sym (c .before .before .before .before .before .before .before .content .ensures)) ∙ sym (c .before .same-bytes .ensures) ∙ c .if1 .left))
 
 returns-2 : tie.Need-returns-2 Inv-loop μ-loop
-returns-2 c = search needs
+returns-2 c = named-none _ _ _ _ _ (c .loop-test .left) (c .before .loop .inv .1)
 
 pub is-named-spec : {M : Type 1} → statement M
 is-named-spec =
