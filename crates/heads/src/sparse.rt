@@ -4,12 +4,13 @@ ghost use mathlib.Core.Path.{_≡_};
 ghost use mathlib.Core.Bool.{true, false};
 ghost use mathlib.Core.List.{[]};
 ghost use Prim.Native.Nat.{_≤_, _<_};
-ghost use lib.ListN.{length, set, replicate};
+ghost use lib.ListN.{length, getD, set, replicate};
 ghost use Rattle.heads.specs.Heads.{sparseIndex};
 
-// Which indexes of a sparse object were given.
+// Which indexes of a sparse object were given, and whether the last of them had been given before.
 pub struct Seen {
     pub marks: [bool; 512],
+    pub twice: bool,
 }
 
 impl Seen {
@@ -19,16 +20,19 @@ impl Seen {
     {
         Seen {
             marks: [false; 512],
+            twice: false,
         }
     }
 
-    // These, and one more.
-    pub fn with(mut self, i: usize) -> Self
+    // Tests an index and marks it. The marks are copied by themselves: one byte more than 512 takes the copy a slower way.
+    pub fn mark(self, i: usize) -> Self
         requires { ⌜ i < 512 ⌝ }
-        ensures { λ r. ⌜ r .marks ≡ set (self .marks) i true ⌝ }
+        ensures { λ r. ⌜ (r .twice ≡ getD (self .marks) i false) × (r .marks ≡ set (self .marks) i true) ⌝ }
     {
-        self.marks[i] = true;
-        self
+        let mut marks = self.marks;
+        let twice = marks[i];
+        marks[i] = true;
+        Seen { marks, twice }
     }
 }
 

@@ -320,6 +320,12 @@ pub row-at : (p : List ℕ) (k : ℕ) → At p k → 2 ≤ getD p k 0 → getD p
 row-at p k a low high n m r few s i left at h e z b x =
     rw x (row-headed s i at b (omega arith) (look p k) (is-row p k a low high n) (r i (omega arith)))
 
+-- the head of a sparse object's element with an index that is new: what it is, what holds of it, and the marks after it
+pub record NewHead (p : List ℕ) (k : ℕ) (s : List ℕ) (marks : List Bool) (at i : ℕ) (h : Head) : Type 0 where
+  pub is : h ≡ sparseHead s (cardsAt p k) marks at
+  pub inside : HeadIn (look p k) (length s) at h
+  pub next : headFault h ≡ 0 → store marks i true ≡ store marks (indexOf h) true
+
 -- an index of a sparse object that was read without the marks
 module _ (p : List ℕ) (k : ℕ) (a : At p k) (e : getD p k 0 ≡ 6) (s : List ℕ) (at n i : ℕ) (en : n ≡ getD p (k + 1) 0) (x : Index) (ex : x ≡ sparseIndex s n [] at) (f : x ≡ Known i) where
   pub known-in : at ≤ length s → (i < getD p (k + 1) 0) × (i < 512) × (at + 8 ≤ length s)
@@ -333,12 +339,8 @@ module _ (p : List ℕ) (k : ℕ) (a : At p k) (e : getD p k 0 ≡ 6) (s : List 
     sparse-twice g = head-twice s (cardsAt p k) marks at n (en ∙ sym (cards-length p k)) i (sym f ∙ ex) g
 
     module _ (g : getD marks i false ≡ false) (h : Head) (eh : h ≡ optional s (requires (getD (cardsAt p k) i 0)) i (at + 8) (word s (at + 4))) where
-      pub sparse-new : h ≡ sparseHead s (cardsAt p k) marks at
+      sparse-new : h ≡ sparseHead s (cardsAt p k) marks at
       sparse-new = eh ∙ sym (head-new s (cardsAt p k) marks at n (en ∙ sym (cards-length p k)) i (sym f ∙ ex) g)
-
-      -- what holds of the head, and the marks after it
-      pub sparse-at : at ≤ length s → HeadIn (look p k) (length s) at h
-      sparse-at b = rw sparse-new (sparse-headed p k a e s marks at b)
 
       marked : (q : Head) → Indexed i q → Refuses q → headFault q ≡ 0 → store marks i true ≡ store marks (indexOf q) true
       unfolding Indexed Refuses headFault indexOf
@@ -346,8 +348,13 @@ module _ (p : List ℕ) (k : ℕ) (a : At p k) (e : getD p k 0 ≡ 6) (s : List 
       marked (Absent j start) y r z = rw y
       marked (Fault m) y r z = absurd (omega arith)
 
-      pub sparse-next : headFault h ≡ 0 → store marks i true ≡ store marks (indexOf h) true
-      sparse-next z = marked h (rw eh (optional-index s _ i (at + 8) _)) (rw sparse-new (sparse-refuses s (cardsAt p k) marks at)) z
+      pub sparse-turn : at ≤ length s → NewHead p k s marks at i h
+      sparse-turn b =
+          record {
+            is = sparse-new;
+            inside = rw sparse-new (sparse-headed p k a e s marks at b);
+            next = marked h (rw eh (optional-index s _ i (at + 8) _)) (rw sparse-new (sparse-refuses s (cardsAt p k) marks at));
+          }
 
 pub part-size : (s : List ℕ) (start size : ℕ) → start + size ≤ length s → length (take (start + size - start) (drop start s)) ≡ size
 part-size s start size h = rw add-sub-cancel-left (simp (length-take, length-drop) (omega arith))

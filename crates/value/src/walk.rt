@@ -175,10 +175,10 @@ fn walk_sparse(
         let Index::Known(i) = index else {
             return refused(heads::parts::index_fault(index), base);
         };
-        if seen.marks[i] {
+        seen = seen.mark(i);
+        if seen.twice {
             return refused(26, base);
         }
-        seen = seen.with(i);
         let head = node::sparse_head(plan, node, part, i, pos);
         let step = walk_member(plan, node, base, part, head, pos, list, to);
         let Step::Reached { at: next } = step else {

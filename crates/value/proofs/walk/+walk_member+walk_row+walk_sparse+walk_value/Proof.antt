@@ -11,7 +11,7 @@ use Rattle.plan.proofs.Nodes.{at-ref, at-few}
 use Rattle.value.specs.Walk.{led, walkOf}
 use Rattle.value.proofs.Nodes.{head-bad}
 use Rattle.value.proofs.Walks.{single, turn-stop, turn-go, turn-fault, done}
-use Rattle.value.proofs.Members.{opening-holds, is-row, opened, inner-kind, value-wrong, value-sparse, value-row, member-fault, member-absent, member-present, absent-in, present-in, end-in, within-present, within-absent, reached-in, refused-within, fault-within, end-within, anew, anew-within, object-below, row-at, known-in, sparse-twice, sparse-new, sparse-at, sparse-next, part-size}
+use Rattle.value.proofs.Members.{opening-holds, is-row, opened, inner-kind, value-wrong, value-sparse, value-row, member-fault, member-absent, member-present, absent-in, present-in, end-in, within-present, within-absent, reached-in, refused-within, fault-within, end-within, anew, anew-within, object-below, row-at, known-in, sparse-twice, sparse-turn, part-size}
 use borrow.Author.Needs.{needs}
 use Prim.Native.Nat.{ℕ, _<_}
 use borrow.Fn.Kinds.{In}
@@ -31,8 +31,8 @@ use Rattle.value.proofs.walk.+walk_member+walk_row+walk_sparse+walk_val
 use Rattle.heads.proofs.parts.end_of.Reads as end-of-reads
 use Rattle.heads.proofs.parts.index_fault.Reads as index-fault-reads
 use Rattle.heads.proofs.parts.opening_fault.Reads as opening-fault-reads
+use Rattle.heads.proofs.sparse.Seen.mark.Reads as mark-reads
 use Rattle.heads.proofs.sparse.Seen.new.Reads as new-reads
-use Rattle.heads.proofs.sparse.Seen.with.Reads as with-reads
 use Rattle.heads.proofs.sparse.sparse_index.Reads as sparse-index-reads
 use Rattle.plan.proofs.node.kind_at.Reads as kind-at-reads
 use Rattle.plan.proofs.node.ref_of.Reads as ref-of-reads
@@ -103,7 +103,7 @@ walk-row-claims t =
 
 abbrev walk-sparse-claims : ℕ → walk-sparse-lts.Claims
 walk-sparse-claims t =
-    (second-at-reads.Asked, second-at-reads.Learnt, new-reads.Asked, new-reads.Learnt, sparse-index-reads.Asked, sparse-index-reads.Learnt, index-fault-reads.Asked, index-fault-reads.Learnt, refused-reads.Asked, refused-reads.Learnt, with-reads.Asked, with-reads.Learnt, sparse-head-reads.Asked, sparse-head-reads.Learnt, walk-member-below t, walk-member.Post, end-of-reads.Asked, end-of-reads.Learnt, any-lacking-reads.Asked, any-lacking-reads.Learnt, end-elements-reads.Asked, end-elements-reads.Learnt)
+    (second-at-reads.Asked, second-at-reads.Learnt, new-reads.Asked, new-reads.Learnt, sparse-index-reads.Asked, sparse-index-reads.Learnt, index-fault-reads.Asked, index-fault-reads.Learnt, refused-reads.Asked, refused-reads.Learnt, mark-reads.Asked, mark-reads.Learnt, sparse-head-reads.Asked, sparse-head-reads.Learnt, walk-member-below t, walk-member.Post, end-of-reads.Asked, end-of-reads.Learnt, any-lacking-reads.Asked, any-lacking-reads.Learnt, end-elements-reads.Asked, end-elements-reads.Learnt)
 
 abbrev walk-value-claims : ℕ → walk-value-lts.Claims
 walk-value-claims t =
@@ -311,8 +311,8 @@ walk-sparse-returns : (t : ℕ) → walk-sparse-lts.Need-returns (walk-sparse-cl
 walk-sparse-returns t c =
     (turn-fault _ (single (look (c .before .before .before .before .before .before .before .before .before .before .before .before .args .plan .now))) _ _ _ (sparseForm (cardsAt (c .before .before .before .before .before .before .before .before .before .before .before .before .args .plan .now) (c .before .before .before .before .before .before .before .before .before .before .before .before .args .node)) (c .before .before .before .before .before .before .before .before .before .before .before .before .args .part .now)) (c .before .before .before .before .before .before .loop .seen .marks) (c .before .before .before .before .before .before .loop .pos) _ _ _ (c .before .before .before .before .before .loop-test .taken) _ (head-bad _ _ _ _ _ (c .before .before .before .before .before .before .before .before .second-at .ensures ∙ sym (cards-length _ _)) _ _ _ (c .before .before .before .before .sparse-index .ensures) (c .before .before .enum-told .given .1) (c .before .index-fault .ensures)) _ (c .refused .ensures) ∙ sym (c .before .before .before .before .before .before .loop .inv .3), refused-within _ _ _ _ (c .refused .ensures))
 
-walk-sparse-element-copy-out-if1 : (t : ℕ) → walk-sparse-lts.Need-element-copy-out-if1 (walk-sparse-claims t) (walk-sparse-at t) walk-sparse.Post walk-sparse-Inv-loop walk-sparse-μ-loop
-walk-sparse-element-copy-out-if1 t c =
+walk-sparse-mark-requires : (t : ℕ) → walk-sparse-lts.Need-mark-requires (walk-sparse-claims t) (walk-sparse-at t) walk-sparse.Post walk-sparse-Inv-loop walk-sparse-μ-loop
+walk-sparse-mark-requires t c κs =
     known-in _ _ (c .before .before .before .before .before .before .before .before .before .before .before .pre .1 .0) (c .before .before .before .before .before .before .before .before .before .before .before .pre .1 .1) _ _ _ _ (c .before .before .before .before .before .before .before .second-at .ensures) _ (c .before .before .before .sparse-index .ensures) (c .before .index .given .1) (c .before .before .before .before .before .loop .inv .0) .1
 
 walk-sparse-refused-requires-2 : (t : ℕ) → walk-sparse-lts.Need-refused-requires-2 (walk-sparse-claims t) (walk-sparse-at t) walk-sparse.Post walk-sparse-Inv-loop walk-sparse-μ-loop
@@ -324,20 +324,16 @@ walk-sparse-same-length-2 t c = c .before .before .before .before .before .befor
 
 walk-sparse-returns-2 : (t : ℕ) → walk-sparse-lts.Need-returns-2 (walk-sparse-claims t) (walk-sparse-at t) walk-sparse.Post walk-sparse-Inv-loop walk-sparse-μ-loop
 walk-sparse-returns-2 t c =
-    (turn-fault _ (single (look (c .before .before .before .before .before .before .before .before .before .before .before .before .before .before .args .plan .now))) _ _ _ (sparseForm (cardsAt (c .before .before .before .before .before .before .before .before .before .before .before .before .before .before .args .plan .now) (c .before .before .before .before .before .before .before .before .before .before .before .before .before .before .args .node)) (c .before .before .before .before .before .before .before .before .before .before .before .before .before .before .args .part .now)) (c .before .before .before .before .before .before .before .before .loop .seen .marks) (c .before .before .before .before .before .before .before .before .loop .pos) _ _ _ (c .before .before .before .before .before .before .before .loop-test .taken) _ (sparse-twice _ _ (c .before .before .before .before .before .before .before .before .before .before .before .before .before .before .pre .1 .0) (c .before .before .before .before .before .before .before .before .before .before .before .before .before .before .pre .1 .1) _ _ _ _ (c .before .before .before .before .before .before .before .before .before .before .second-at .ensures) _ (c .before .before .before .before .before .before .sparse-index .ensures) (c .before .before .before .before .index .given .1) (c .before .before .before .before .before .before .before .before .loop .seen .marks) (c .before .if1 .taken)) _ (c .refused2 .ensures) ∙ sym (c .before .before .before .before .before .before .before .before .loop .inv .3), refused-within _ _ _ _ (c .refused2 .ensures))
-
-walk-sparse-with-requires : (t : ℕ) → walk-sparse-lts.Need-with-requires (walk-sparse-claims t) (walk-sparse-at t) walk-sparse.Post walk-sparse-Inv-loop walk-sparse-μ-loop
-walk-sparse-with-requires t c κs =
-    known-in _ _ (c .before .before .before .before .before .before .before .before .before .before .before .before .before .pre .1 .0) (c .before .before .before .before .before .before .before .before .before .before .before .before .before .pre .1 .1) _ _ _ _ (c .before .before .before .before .before .before .before .before .before .second-at .ensures) _ (c .before .before .before .before .before .sparse-index .ensures) (c .before .before .before .index .given .1) (c .before .before .before .before .before .before .before .loop .inv .0) .1
+    (turn-fault _ (single (look (c .before .before .before .before .before .before .before .before .before .before .before .before .before .before .args .plan .now))) _ _ _ (sparseForm (cardsAt (c .before .before .before .before .before .before .before .before .before .before .before .before .before .before .args .plan .now) (c .before .before .before .before .before .before .before .before .before .before .before .before .before .before .args .node)) (c .before .before .before .before .before .before .before .before .before .before .before .before .before .before .args .part .now)) (c .before .before .before .before .before .before .before .before .loop .seen .marks) (c .before .before .before .before .before .before .before .before .loop .pos) _ _ _ (c .before .before .before .before .before .before .before .loop-test .taken) _ (sparse-twice _ _ (c .before .before .before .before .before .before .before .before .before .before .before .before .before .before .pre .1 .0) (c .before .before .before .before .before .before .before .before .before .before .before .before .before .before .pre .1 .1) _ _ _ _ (c .before .before .before .before .before .before .before .before .before .before .second-at .ensures) _ (c .before .before .before .before .before .before .sparse-index .ensures) (c .before .before .before .before .index .given .1) (c .before .before .before .before .before .before .before .before .loop .seen .marks) (sym (c .before .before .mark .ensures .0) ∙ c .before .if1 .taken)) _ (c .refused2 .ensures) ∙ sym (c .before .before .before .before .before .before .before .before .loop .inv .3), refused-within _ _ _ _ (c .refused2 .ensures))
 
 walk-sparse-sparse-head-requires : (t : ℕ) → walk-sparse-lts.Need-sparse-head-requires (walk-sparse-claims t) (walk-sparse-at t) walk-sparse.Post walk-sparse-Inv-loop walk-sparse-μ-loop
 walk-sparse-sparse-head-requires t c κs =
-    let i = known-in _ _ (c .before .before .before .before .before .before .before .before .before .before .before .before .before .before .pre .1 .0) (c .before .before .before .before .before .before .before .before .before .before .before .before .before .before .pre .1 .1) _ _ _ _ (c .before .before .before .before .before .before .before .before .before .before .second-at .ensures) _ (c .before .before .before .before .before .before .sparse-index .ensures) (c .before .before .before .before .index .given .1) (c .before .before .before .before .before .before .before .before .loop .inv .0) in
-    (c .before .before .before .before .before .before .before .before .before .before .before .before .before .before .pre .1 .0, c .before .before .before .before .before .before .before .before .before .before .before .before .before .before .pre .1 .1, i .0, i .2)
+    let i = known-in _ _ (c .before .before .before .before .before .before .before .before .before .before .before .before .before .pre .1 .0) (c .before .before .before .before .before .before .before .before .before .before .before .before .before .pre .1 .1) _ _ _ _ (c .before .before .before .before .before .before .before .before .before .second-at .ensures) _ (c .before .before .before .before .before .sparse-index .ensures) (c .before .before .before .index .given .1) (c .before .before .before .before .before .before .before .loop .inv .0) in
+    (c .before .before .before .before .before .before .before .before .before .before .before .before .before .pre .1 .0, c .before .before .before .before .before .before .before .before .before .before .before .before .before .pre .1 .1, i .0, i .2)
 
 walk-sparse-walk-member-requires : (t : ℕ) → walk-sparse-lts.Need-walk-member-requires (walk-sparse-claims t) (walk-sparse-at t) walk-sparse.Post walk-sparse-Inv-loop walk-sparse-μ-loop
 walk-sparse-walk-member-requires t c κs =
-    (omega (arith, c .before .before .before .before .before .before .before .before .before .before .before .before .before .before .before .before .pre .0), (c .before .before .before .before .before .before .before .before .before .before .before .before .before .before .before .before .pre .1 .0, c .before .before .before .before .before .before .before .before .before .before .before .before .before .before .before .before .pre .1 .2, sparse-at _ _ (c .before .before .before .before .before .before .before .before .before .before .before .before .before .before .before .before .pre .1 .0) (c .before .before .before .before .before .before .before .before .before .before .before .before .before .before .before .before .pre .1 .1) _ _ _ _ (c .before .before .before .before .before .before .before .before .before .before .before .before .second-at .ensures) _ (c .before .before .before .before .before .before .before .before .sparse-index .ensures) (c .before .before .before .before .before .before .index .given .1) (c .before .before .before .before .before .before .before .before .before .before .loop .seen .marks) (c .before .before .before .if1 .left) _ (c .before .sparse-head .ensures) (c .before .before .before .before .before .before .before .before .before .before .loop .inv .0), c .before .before .before .before .before .before .before .before .before .before .loop .inv .1))
+    (omega (arith, c .before .before .before .before .before .before .before .before .before .before .before .before .before .before .before .pre .0), (c .before .before .before .before .before .before .before .before .before .before .before .before .before .before .before .pre .1 .0, c .before .before .before .before .before .before .before .before .before .before .before .before .before .before .before .pre .1 .2, sparse-turn _ _ (c .before .before .before .before .before .before .before .before .before .before .before .before .before .before .before .pre .1 .0) (c .before .before .before .before .before .before .before .before .before .before .before .before .before .before .before .pre .1 .1) _ _ _ _ (c .before .before .before .before .before .before .before .before .before .before .before .second-at .ensures) _ (c .before .before .before .before .before .before .before .sparse-index .ensures) (c .before .before .before .before .before .index .given .1) (c .before .before .before .before .before .before .before .before .before .loop .seen .marks) (sym (c .before .before .before .mark .ensures .0) ∙ c .before .before .if1 .left) _ (c .before .sparse-head .ensures) (c .before .before .before .before .before .before .before .before .before .loop .inv .0) .inside, c .before .before .before .before .before .before .before .before .before .loop .inv .1))
 
 walk-sparse-enum-known-step : (t : ℕ) → walk-sparse-lts.Need-enum-known-step (walk-sparse-claims t) (walk-sparse-at t) walk-sparse.Post walk-sparse-Inv-loop walk-sparse-μ-loop
 walk-sparse-enum-known-step t c = search needs
@@ -347,20 +343,20 @@ walk-sparse-enum-told-2 t c = search needs
 
 walk-sparse-same-length-3 : (t : ℕ) → walk-sparse-lts.Need-same-length-3 (walk-sparse-claims t) (walk-sparse-at t) walk-sparse.Post walk-sparse-Inv-loop walk-sparse-μ-loop
 walk-sparse-same-length-3 t c =
-    c .before .before .before .before .walk-member .kept .1 .1 .1 .1 .1 .1 .0 ∙ c .before .before .before .before .before .before .before .before .before .before .before .before .before .before .before .loop .inv .2
+    c .before .before .before .before .walk-member .kept .1 .1 .1 .1 .1 .1 .0 ∙ c .before .before .before .before .before .before .before .before .before .before .before .before .before .before .loop .inv .2
 
 walk-sparse-returns-3 : (t : ℕ) → walk-sparse-lts.Need-returns-3 (walk-sparse-claims t) (walk-sparse-at t) walk-sparse.Post walk-sparse-Inv-loop walk-sparse-μ-loop
 walk-sparse-returns-3 t c =
-    let eh = sparse-new _ _ (c .before .before .before .before .before .before .before .before .before .before .before .before .before .before .before .before .before .before .before .before .before .pre .1 .0) (c .before .before .before .before .before .before .before .before .before .before .before .before .before .before .before .before .before .before .before .before .before .pre .1 .1) _ _ _ _ (c .before .before .before .before .before .before .before .before .before .before .before .before .before .before .before .before .before .second-at .ensures) _ (c .before .before .before .before .before .before .before .before .before .before .before .before .before .sparse-index .ensures) (c .before .before .before .before .before .before .before .before .before .before .before .index .given .1) (c .before .before .before .before .before .before .before .before .before .before .before .before .before .before .before .loop .seen .marks) (c .before .before .before .before .before .before .before .before .if1 .left) _ (c .before .before .before .before .before .before .sparse-head .ensures) in
-    (turn-stop _ (single (look (c .before .before .before .before .before .before .before .before .before .before .before .before .before .before .before .before .before .before .before .before .before .args .plan .now))) _ _ _ (sparseForm (cardsAt (c .before .before .before .before .before .before .before .before .before .before .before .before .before .before .before .before .before .before .before .before .before .args .plan .now) (c .before .before .before .before .before .before .before .before .before .before .before .before .before .before .before .before .before .before .before .before .before .args .node)) (c .before .before .before .before .before .before .before .before .before .before .before .before .before .before .before .before .before .before .before .before .before .args .part .now)) (c .before .before .before .before .before .before .before .before .before .before .before .before .before .before .before .loop .seen .marks) (c .before .before .before .before .before .before .before .before .before .before .before .before .before .before .before .loop .pos) _ _ _ (c .before .before .before .before .before .before .before .before .before .before .before .before .before .before .loop-test .taken) _ eh _ _ (c .before .before .before .before .walk-member .ensures .0) _ _ (c .enum-told2 .given .1) ∙ sym (c .before .before .before .before .before .before .before .before .before .before .before .before .before .before .before .loop .inv .3), refused-within _ _ _ _ (c .enum-told2 .given .1))
+    let r = sparse-turn _ _ (c .before .before .before .before .before .before .before .before .before .before .before .before .before .before .before .before .before .before .before .before .pre .1 .0) (c .before .before .before .before .before .before .before .before .before .before .before .before .before .before .before .before .before .before .before .before .pre .1 .1) _ _ _ _ (c .before .before .before .before .before .before .before .before .before .before .before .before .before .before .before .before .second-at .ensures) _ (c .before .before .before .before .before .before .before .before .before .before .before .before .sparse-index .ensures) (c .before .before .before .before .before .before .before .before .before .before .index .given .1) (c .before .before .before .before .before .before .before .before .before .before .before .before .before .before .loop .seen .marks) (sym (c .before .before .before .before .before .before .before .before .mark .ensures .0) ∙ c .before .before .before .before .before .before .before .if1 .left) _ (c .before .before .before .before .before .before .sparse-head .ensures) (c .before .before .before .before .before .before .before .before .before .before .before .before .before .before .loop .inv .0) in
+    (turn-stop _ (single (look (c .before .before .before .before .before .before .before .before .before .before .before .before .before .before .before .before .before .before .before .before .args .plan .now))) _ _ _ (sparseForm (cardsAt (c .before .before .before .before .before .before .before .before .before .before .before .before .before .before .before .before .before .before .before .before .args .plan .now) (c .before .before .before .before .before .before .before .before .before .before .before .before .before .before .before .before .before .before .before .before .args .node)) (c .before .before .before .before .before .before .before .before .before .before .before .before .before .before .before .before .before .before .before .before .args .part .now)) (c .before .before .before .before .before .before .before .before .before .before .before .before .before .before .loop .seen .marks) (c .before .before .before .before .before .before .before .before .before .before .before .before .before .before .loop .pos) _ _ _ (c .before .before .before .before .before .before .before .before .before .before .before .before .before .loop-test .taken) _ (r .is) _ _ (c .before .before .before .before .walk-member .ensures .0) _ _ (c .enum-told2 .given .1) ∙ sym (c .before .before .before .before .before .before .before .before .before .before .before .before .before .before .loop .inv .3), refused-within _ _ _ _ (c .enum-told2 .given .1))
 
 walk-sparse-cast-to : (t : ℕ) → walk-sparse-lts.Need-cast-to (walk-sparse-claims t) (walk-sparse-at t) walk-sparse.Post walk-sparse-Inv-loop walk-sparse-μ-loop
 walk-sparse-cast-to t c = search needs
 
 walk-sparse-end-of-requires : (t : ℕ) → walk-sparse-lts.Need-end-of-requires (walk-sparse-claims t) (walk-sparse-at t) walk-sparse.Post walk-sparse-Inv-loop walk-sparse-μ-loop
 walk-sparse-end-of-requires t c κs =
-    let h = sparse-at _ _ (c .before .before .before .before .before .before .before .before .before .before .before .before .before .before .before .before .before .before .before .before .before .before .pre .1 .0) (c .before .before .before .before .before .before .before .before .before .before .before .before .before .before .before .before .before .before .before .before .before .before .pre .1 .1) _ _ _ _ (c .before .before .before .before .before .before .before .before .before .before .before .before .before .before .before .before .before .before .second-at .ensures) _ (c .before .before .before .before .before .before .before .before .before .before .before .before .before .before .sparse-index .ensures) (c .before .before .before .before .before .before .before .before .before .before .before .before .index .given .1) (c .before .before .before .before .before .before .before .before .before .before .before .before .before .before .before .before .loop .seen .marks) (c .before .before .before .before .before .before .before .before .before .if1 .left) _ (c .before .before .before .before .before .before .before .sparse-head .ensures) (c .before .before .before .before .before .before .before .before .before .before .before .before .before .before .before .before .loop .inv .0) in
-    omega (arith, end-in _ _ _ _ h, c .before .before .before .before .before .before .before .before .before .before .before .before .before .before .before .before .before .before .before .before .before .before .pre .1 .2)
+    let r = sparse-turn _ _ (c .before .before .before .before .before .before .before .before .before .before .before .before .before .before .before .before .before .before .before .before .before .pre .1 .0) (c .before .before .before .before .before .before .before .before .before .before .before .before .before .before .before .before .before .before .before .before .before .pre .1 .1) _ _ _ _ (c .before .before .before .before .before .before .before .before .before .before .before .before .before .before .before .before .before .second-at .ensures) _ (c .before .before .before .before .before .before .before .before .before .before .before .before .before .sparse-index .ensures) (c .before .before .before .before .before .before .before .before .before .before .before .index .given .1) (c .before .before .before .before .before .before .before .before .before .before .before .before .before .before .before .loop .seen .marks) (sym (c .before .before .before .before .before .before .before .before .before .mark .ensures .0) ∙ c .before .before .before .before .before .before .before .before .if1 .left) _ (c .before .before .before .before .before .before .before .sparse-head .ensures) (c .before .before .before .before .before .before .before .before .before .before .before .before .before .before .before .loop .inv .0) in
+    omega (arith, end-in _ _ _ _ (r .inside), c .before .before .before .before .before .before .before .before .before .before .before .before .before .before .before .before .before .before .before .before .before .pre .1 .2)
 
 walk-sparse-sub-left : (t : ℕ) → walk-sparse-lts.Need-sub-left (walk-sparse-claims t) (walk-sparse-at t) walk-sparse.Post walk-sparse-Inv-loop walk-sparse-μ-loop
 walk-sparse-sub-left t c = search needs
@@ -371,10 +367,8 @@ walk-sparse-loop-less t c = omega arith
 walk-sparse-loop-again : (t : ℕ) → walk-sparse-lts.Need-loop-again (walk-sparse-claims t) (walk-sparse-at t) walk-sparse.Post walk-sparse-Inv-loop walk-sparse-μ-loop
 walk-sparse-loop-again t c =
     let w = reached-in _ _ _ _ (c .before .before .step .given .1) (c .before .before .before .before .before .before .walk-member .ensures .1) in
-    let h = sparse-at _ _ (c .before .before .before .before .before .before .before .before .before .before .before .before .before .before .before .before .before .before .before .before .before .before .before .pre .1 .0) (c .before .before .before .before .before .before .before .before .before .before .before .before .before .before .before .before .before .before .before .before .before .before .before .pre .1 .1) _ _ _ _ (c .before .before .before .before .before .before .before .before .before .before .before .before .before .before .before .before .before .before .before .second-at .ensures) _ (c .before .before .before .before .before .before .before .before .before .before .before .before .before .before .before .sparse-index .ensures) (c .before .before .before .before .before .before .before .before .before .before .before .before .before .index .given .1) (c .before .before .before .before .before .before .before .before .before .before .before .before .before .before .before .before .before .loop .seen .marks) (c .before .before .before .before .before .before .before .before .before .before .if1 .left) _ (c .before .before .before .before .before .before .before .before .sparse-head .ensures) (c .before .before .before .before .before .before .before .before .before .before .before .before .before .before .before .before .before .loop .inv .0) in
-    let eh = sparse-new _ _ (c .before .before .before .before .before .before .before .before .before .before .before .before .before .before .before .before .before .before .before .before .before .before .before .pre .1 .0) (c .before .before .before .before .before .before .before .before .before .before .before .before .before .before .before .before .before .before .before .before .before .before .before .pre .1 .1) _ _ _ _ (c .before .before .before .before .before .before .before .before .before .before .before .before .before .before .before .before .before .before .before .second-at .ensures) _ (c .before .before .before .before .before .before .before .before .before .before .before .before .before .before .before .sparse-index .ensures) (c .before .before .before .before .before .before .before .before .before .before .before .before .before .index .given .1) (c .before .before .before .before .before .before .before .before .before .before .before .before .before .before .before .before .before .loop .seen .marks) (c .before .before .before .before .before .before .before .before .before .before .if1 .left) _ (c .before .before .before .before .before .before .before .before .sparse-head .ensures) in
-    let m = sparse-next _ _ (c .before .before .before .before .before .before .before .before .before .before .before .before .before .before .before .before .before .before .before .before .before .before .before .pre .1 .0) (c .before .before .before .before .before .before .before .before .before .before .before .before .before .before .before .before .before .before .before .before .before .before .before .pre .1 .1) _ _ _ _ (c .before .before .before .before .before .before .before .before .before .before .before .before .before .before .before .before .before .before .before .second-at .ensures) _ (c .before .before .before .before .before .before .before .before .before .before .before .before .before .before .before .sparse-index .ensures) (c .before .before .before .before .before .before .before .before .before .before .before .before .before .index .given .1) (c .before .before .before .before .before .before .before .before .before .before .before .before .before .before .before .before .before .loop .seen .marks) (c .before .before .before .before .before .before .before .before .before .before .if1 .left) _ (c .before .before .before .before .before .before .before .before .sparse-head .ensures) (w .0) in
-    (rw (c .end-of .ensures) (end-in _ _ _ _ h), rw (c .end-of .ensures) (w .1), c .before .before .before .before .before .before .walk-member .kept .1 .1 .1 .1 .1 .1 .0 ∙ c .before .before .before .before .before .before .before .before .before .before .before .before .before .before .before .before .before .loop .inv .2, c .before .before .before .before .before .before .before .before .before .before .before .before .before .before .before .before .before .loop .inv .3 ∙ turn-go _ (single (look (c .before .before .before .before .before .before .before .before .before .before .before .before .before .before .before .before .before .before .before .before .before .before .before .args .plan .now))) _ _ _ (sparseForm (cardsAt (c .before .before .before .before .before .before .before .before .before .before .before .before .before .before .before .before .before .before .before .before .before .before .before .args .plan .now) (c .before .before .before .before .before .before .before .before .before .before .before .before .before .before .before .before .before .before .before .before .before .before .before .args .node)) (c .before .before .before .before .before .before .before .before .before .before .before .before .before .before .before .before .before .before .before .before .before .before .before .args .part .now)) (c .before .before .before .before .before .before .before .before .before .before .before .before .before .before .before .before .before .loop .seen .marks) (c .before .before .before .before .before .before .before .before .before .before .before .before .before .before .before .before .before .loop .pos) _ _ _ (c .before .before .before .before .before .before .before .before .before .before .before .before .before .before .before .before .loop-test .taken) _ eh _ _ (c .before .before .before .before .before .before .walk-member .ensures .0) _ (c .before .before .step .given .1) _ (c .before .before .before .before .before .before .before .before .before .with .ensures ∙ m) _ (c .end-of .ensures))
+    let r = sparse-turn _ _ (c .before .before .before .before .before .before .before .before .before .before .before .before .before .before .before .before .before .before .before .before .before .before .pre .1 .0) (c .before .before .before .before .before .before .before .before .before .before .before .before .before .before .before .before .before .before .before .before .before .before .pre .1 .1) _ _ _ _ (c .before .before .before .before .before .before .before .before .before .before .before .before .before .before .before .before .before .before .second-at .ensures) _ (c .before .before .before .before .before .before .before .before .before .before .before .before .before .before .sparse-index .ensures) (c .before .before .before .before .before .before .before .before .before .before .before .before .index .given .1) (c .before .before .before .before .before .before .before .before .before .before .before .before .before .before .before .before .loop .seen .marks) (sym (c .before .before .before .before .before .before .before .before .before .before .mark .ensures .0) ∙ c .before .before .before .before .before .before .before .before .before .if1 .left) _ (c .before .before .before .before .before .before .before .before .sparse-head .ensures) (c .before .before .before .before .before .before .before .before .before .before .before .before .before .before .before .before .loop .inv .0) in
+    (rw (c .end-of .ensures) (end-in _ _ _ _ (r .inside)), rw (c .end-of .ensures) (w .1), c .before .before .before .before .before .before .walk-member .kept .1 .1 .1 .1 .1 .1 .0 ∙ c .before .before .before .before .before .before .before .before .before .before .before .before .before .before .before .before .loop .inv .2, c .before .before .before .before .before .before .before .before .before .before .before .before .before .before .before .before .loop .inv .3 ∙ turn-go _ (single (look (c .before .before .before .before .before .before .before .before .before .before .before .before .before .before .before .before .before .before .before .before .before .before .args .plan .now))) _ _ _ (sparseForm (cardsAt (c .before .before .before .before .before .before .before .before .before .before .before .before .before .before .before .before .before .before .before .before .before .before .args .plan .now) (c .before .before .before .before .before .before .before .before .before .before .before .before .before .before .before .before .before .before .before .before .before .before .args .node)) (c .before .before .before .before .before .before .before .before .before .before .before .before .before .before .before .before .before .before .before .before .before .before .args .part .now)) (c .before .before .before .before .before .before .before .before .before .before .before .before .before .before .before .before .loop .seen .marks) (c .before .before .before .before .before .before .before .before .before .before .before .before .before .before .before .before .loop .pos) _ _ _ (c .before .before .before .before .before .before .before .before .before .before .before .before .before .before .before .loop-test .taken) _ (r .is) _ _ (c .before .before .before .before .before .before .walk-member .ensures .0) _ (c .before .before .step .given .1) _ (c .before .before .before .before .before .before .before .before .before .before .mark .ensures .1 ∙ r .next (w .0)) _ (c .end-of .ensures))
 
 walk-sparse-any-lacking-requires : (t : ℕ) → walk-sparse-lts.Need-any-lacking-requires (walk-sparse-claims t) (walk-sparse-at t) walk-sparse.Post walk-sparse-Inv-loop walk-sparse-μ-loop
 walk-sparse-any-lacking-requires t c κs =
@@ -532,11 +526,10 @@ pub +walk-member+walk-row+walk-sparse+walk-value-spec : {M : Type 1} → stateme
     (walk-sparse-refused-requires t)
     (walk-sparse-same-length t)
     (walk-sparse-returns t)
-    (walk-sparse-element-copy-out-if1 t)
+    (walk-sparse-mark-requires t)
     (walk-sparse-refused-requires-2 t)
     (walk-sparse-same-length-2 t)
     (walk-sparse-returns-2 t)
-    (walk-sparse-with-requires t)
     (walk-sparse-sparse-head-requires t)
     (walk-sparse-walk-member-requires t)
     (walk-sparse-enum-known-step t)
