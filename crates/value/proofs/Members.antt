@@ -144,7 +144,13 @@ by-row (object refs cards) rule k i base s x = refl
 by-row (sparse refs cards) rule k i base s x = absurd x
 by-row (range r) rule k i base s x = refl
 
-module _ (p : List ℕ) (k : ℕ) (a : At p k) (low : 2 ≤ getD p k 0) (high : getD p k 0 ≤ 7) where
+module _ (p : List ℕ) (k : ℕ) (a : At p k) (kind : ℕ) (c : Container p k kind) where
+  low : 2 ≤ getD p k 0
+  low = omega (arith, c .is, c .low)
+
+  high : getD p k 0 ≤ 7
+  high = omega (arith, c .is, c .high)
+
   pub is-row : (getD p k 0 ≡ 6 → ⊥) → IsRow (look p k)
   unfolding IsRow
   is-row n =
@@ -295,6 +301,10 @@ end-within true true e base at x ex h = rw ex tt
 end-within true false e base at x ex h = rw ex h
 end-within false b e base at x ex h = rw ex tt
 
+-- a container's kind, read again
+pub same-kind : (p : List ℕ) (k kind kind′ : ℕ) → Container p k kind → kind′ ≡ getD p k 0 → Container p k kind′
+same-kind p k kind kind′ c e = record { is = e; low = omega (arith, c .is, c .low); high = omega (arith, c .is, c .high) }
+
 -- the kind of a node that is no leaf
 pub inner-kind : (p : List ℕ) (k kind : ℕ) → KindAt p k kind → leafKind kind ≡ false → Container p k kind
 unfolding leafKind pick
@@ -315,10 +325,10 @@ object-below p k i e r =
     omega (arith, elem-in (refsAt p k) i (r .to) q .0, refs-length p k)
 
 -- a head that was read in a row, with some elements left
-pub row-at : (p : List ℕ) (k : ℕ) → At p k → 2 ≤ getD p k 0 → getD p k 0 ≤ 7 → (getD p k 0 ≡ 6 → ⊥) → (m : ℕ) → Holds (look p k) m → m < 2 ^ 32
+pub row-at : (p : List ℕ) (k : ℕ) → At p k → (kind : ℕ) → Container p k kind → (getD p k 0 ≡ 6 → ⊥) → (m : ℕ) → Holds (look p k) m → m < 2 ^ 32
     → (s : List ℕ) (i left at : ℕ) (h : Head) → i + left ≡ m → 0 < left → at ≤ length s → h ≡ rowHead (look p k) s i at → HeadIn (look p k) (length s) at h
-row-at p k a low high n m r few s i left at h e z b x =
-    rw x (row-headed s i at b (omega arith) (look p k) (is-row p k a low high n) (r i (omega arith)))
+row-at p k a kind c n m r few s i left at h e z b x =
+    rw x (row-headed s i at b (omega arith) (look p k) (is-row p k a kind c n) (r i (omega arith)))
 
 -- the head of a sparse object's element with an index that is new: what it is, what holds of it, and the marks after it
 pub record NewHead (p : List ℕ) (k : ℕ) (s : List ℕ) (marks : List Bool) (at i : ℕ) (h : Head) : Type 0 where

@@ -16,7 +16,7 @@ ghost use Rattle.rules.specs.Node.{refAt};
 ghost use Rattle.rules.specs.Values.{absent, member, elements, rowForm, sparseForm, noMarks, valueOf};
 ghost use Rattle.plan.specs.Plan.{look, cardsAt, At};
 ghost use Rattle.value.specs.declared.Step.the-variants.{Refused, Reached};
-ghost use Rattle.value.specs.Walk.{walkOf, led, leafKind, endStep, Within, WithinHead, Holds, HeadIn};
+ghost use Rattle.value.specs.Walk.{walkOf, led, leafKind, endStep, Within, WithinHead, Container, Holds, HeadIn};
 
 // A refusal of what stands at a place.
 fn refused(no: u32, place: usize) -> Step
@@ -127,7 +127,7 @@ fn walk_row(
     list: &mut [u32],
     at: usize,
 ) -> Step
-    requires { ⌜ (At (now plan) node) × (2 ≤ getD (now plan) node 0) × (getD (now plan) node 0 ≤ 7) × (getD (now plan) node 0 ≡ 6 → ⊥) × (Holds (look (now plan) node) (first + count)) × (first + count < 2 ^ 32) × (base + length (now part) ≤ 65535) × (from ≤ length (now part)) × (4 * at ≤ 5 * (base + from) + 20) ⌝ }
+    requires { ⌜ (At (now plan) node) × (Container (now plan) node (getD (now plan) node 0)) × (getD (now plan) node 0 ≡ 6 → ⊥) × (Holds (look (now plan) node) (first + count)) × (first + count < 2 ^ 32) × (base + length (now part) ≤ 65535) × (from ≤ length (now part)) × (4 * at ≤ 5 * (base + from) + 20) ⌝ }
     ensures { λ r. ⌜ walkOf r (now (list .exit)) ≡ led (elements (rowForm (look (now (plan .entry)) node) (now (part .entry))) (valueOf (look (now (plan .entry)))) (refAt (look (now (plan .entry)) node)) base (now (part .entry)) count first from) at (now (list .entry)) ⌝ }
     ensures within { λ r. ⌜ Within (base + length (now (part .entry))) r ⌝ }
 {

@@ -1,8 +1,10 @@
+-- A value, its container's elements and one of them: the functions of the walk, which call each other. The node falls from a value to its
+-- elements' values. Assumes nothing.
+use Rattle.value.proofs.Members.{opening-holds, is-row, opened, inner-kind, same-kind, value-wrong, value-sparse, value-row, member-fault, member-absent, member-present, absent-in, present-in, end-in, within-present, within-absent, reached-in, refused-within, fault-within, end-within, anew, anew-within, object-below, row-at, known-in, sparse-twice, sparse-turn, part-size}
 use lib.ListN.{length, length-take, length-drop}
-use mathlib.Core.Path.{_≡_, refl, sym, ap, _∙_}
+use mathlib.Core.Path.{_≡_, refl, sym, _∙_}
 use native.Mathlib.Omega.{arith}
-use Prim.Native.Nat.{_+_, _*_, _≤_}
-use Rattle.heads.specs.Heads.{sparseHead}
+use Prim.Native.Nat.{_+_, _*_, _≤_, ℕ, _<_}
 use Rattle.rules.specs.Node.{refAt}
 use Rattle.rules.specs.Values.{elements, rowForm, sparseForm, noMarks, valueOf}
 use Rattle.plan.specs.Plan.{look, cardsAt}
@@ -11,9 +13,7 @@ use Rattle.plan.proofs.Nodes.{at-ref, at-few}
 use Rattle.value.specs.Walk.{led, walkOf}
 use Rattle.value.proofs.Nodes.{head-bad}
 use Rattle.value.proofs.Walks.{single, turn-stop, turn-go, turn-fault, done}
-use Rattle.value.proofs.Members.{opening-holds, is-row, opened, inner-kind, value-wrong, value-sparse, value-row, member-fault, member-absent, member-present, absent-in, present-in, end-in, within-present, within-absent, reached-in, refused-within, fault-within, end-within, anew, anew-within, object-below, row-at, known-in, sparse-twice, sparse-turn, part-size}
 use borrow.Author.Needs.{needs}
-use Prim.Native.Nat.{ℕ, _<_}
 use borrow.Fn.Kinds.{In}
 use borrow.Fn.PlainCycle.{Measures, is, falls, and}
 use Rattle.value.proofs.walk.walk_member.Reads as walk-member
@@ -208,15 +208,15 @@ walk-row-kind-at-requires t c κs = c .before .before .before .pre .1 .0
 
 walk-row-loop-holds : (t : ℕ) → walk-row-lts.Need-loop-holds (walk-row-claims t) (walk-row-at t) walk-row.Post walk-row-Inv-loop walk-row-μ-loop
 walk-row-loop-holds t c =
-    (omega arith, c .before .before .before .before .pre .1 .7, c .before .before .before .before .pre .1 .8, refl, refl)
+    (omega arith, c .before .before .before .before .pre .1 .6, c .before .before .before .before .pre .1 .7, refl, refl)
 
 walk-row-row-head-requires : (t : ℕ) → walk-row-lts.Need-row-head-requires (walk-row-claims t) (walk-row-at t) walk-row.Post walk-row-Inv-loop walk-row-μ-loop
 walk-row-row-head-requires t c κs =
-    (c .before .before .before .before .before .before .pre .1 .0, record { is = c .before .before .kind-at .ensures .is; low = omega (arith, c .before .before .kind-at .ensures .is, c .before .before .before .before .before .before .pre .1 .1); high = omega (arith, c .before .before .kind-at .ensures .is, c .before .before .before .before .before .before .pre .1 .2) }, (λ e. c .before .before .before .before .before .before .pre .1 .3 (sym (c .before .before .kind-at .ensures .is) ∙ e)), (λ e. object-below _ _ _ (sym (c .before .before .kind-at .ensures .is) ∙ e) (c .before .before .before .before .before .before .pre .1 .4 _ (omega (arith, c .before .loop .inv .0, c .loop-test .taken)))), c .before .loop .inv .1)
+    (c .before .before .before .before .before .before .pre .1 .0, same-kind _ _ _ _ (c .before .before .before .before .before .before .pre .1 .1) (c .before .before .kind-at .ensures .is), (λ e. c .before .before .before .before .before .before .pre .1 .2 (sym (c .before .before .kind-at .ensures .is) ∙ e)), (λ e. object-below _ _ _ (sym (c .before .before .kind-at .ensures .is) ∙ e) (c .before .before .before .before .before .before .pre .1 .3 _ (omega (arith, c .before .loop .inv .0, c .loop-test .taken)))), c .before .loop .inv .1)
 
 walk-row-walk-member-requires : (t : ℕ) → walk-row-lts.Need-walk-member-requires (walk-row-claims t) (walk-row-at t) walk-row.Post walk-row-Inv-loop walk-row-μ-loop
 walk-row-walk-member-requires t c κs =
-    (omega (arith, c .before .before .before .before .before .before .before .before .pre .0), (c .before .before .before .before .before .before .before .before .pre .1 .0, c .before .before .before .before .before .before .before .before .pre .1 .6, row-at _ _ (c .before .before .before .before .before .before .before .before .pre .1 .0) (c .before .before .before .before .before .before .before .before .pre .1 .1) (c .before .before .before .before .before .before .before .before .pre .1 .2) (c .before .before .before .before .before .before .before .before .pre .1 .3) _ (c .before .before .before .before .before .before .before .before .pre .1 .4) (c .before .before .before .before .before .before .before .before .pre .1 .5) _ _ _ _ _ (c .before .before .before .loop .inv .0) (c .before .before .loop-test .taken) (c .before .before .before .loop .inv .1) (c .before .row-head .ensures), c .before .before .before .loop .inv .2))
+    (omega (arith, c .before .before .before .before .before .before .before .before .pre .0), (c .before .before .before .before .before .before .before .before .pre .1 .0, c .before .before .before .before .before .before .before .before .pre .1 .5, row-at _ _ (c .before .before .before .before .before .before .before .before .pre .1 .0) _ (c .before .before .before .before .before .before .before .before .pre .1 .1) (c .before .before .before .before .before .before .before .before .pre .1 .2) _ (c .before .before .before .before .before .before .before .before .pre .1 .3) (c .before .before .before .before .before .before .before .before .pre .1 .4) _ _ _ _ _ (c .before .before .before .loop .inv .0) (c .before .before .loop-test .taken) (c .before .before .before .loop .inv .1) (c .before .row-head .ensures), c .before .before .before .loop .inv .2))
 
 walk-row-enum-known-step : (t : ℕ) → walk-row-lts.Need-enum-known-step (walk-row-claims t) (walk-row-at t) walk-row.Post walk-row-Inv-loop walk-row-μ-loop
 walk-row-enum-known-step t c = search needs
@@ -237,12 +237,12 @@ walk-row-cast-to t c = search needs
 
 walk-row-end-of-requires : (t : ℕ) → walk-row-lts.Need-end-of-requires (walk-row-claims t) (walk-row-at t) walk-row.Post walk-row-Inv-loop walk-row-μ-loop
 walk-row-end-of-requires t c κs =
-    let h = row-at _ _ (c .before .before .before .before .before .before .before .before .before .before .before .before .before .before .pre .1 .0) (c .before .before .before .before .before .before .before .before .before .before .before .before .before .before .pre .1 .1) (c .before .before .before .before .before .before .before .before .before .before .before .before .before .before .pre .1 .2) (c .before .before .before .before .before .before .before .before .before .before .before .before .before .before .pre .1 .3) _ (c .before .before .before .before .before .before .before .before .before .before .before .before .before .before .pre .1 .4) (c .before .before .before .before .before .before .before .before .before .before .before .before .before .before .pre .1 .5) _ _ _ _ _ (c .before .before .before .before .before .before .before .before .before .loop .inv .0) (c .before .before .before .before .before .before .before .before .loop-test .taken) (c .before .before .before .before .before .before .before .before .before .loop .inv .1) (c .before .before .before .before .before .before .before .row-head .ensures) in
-    omega (arith, end-in _ _ _ _ h, c .before .before .before .before .before .before .before .before .before .before .before .before .before .before .pre .1 .6)
+    let h = row-at _ _ (c .before .before .before .before .before .before .before .before .before .before .before .before .before .before .pre .1 .0) _ (c .before .before .before .before .before .before .before .before .before .before .before .before .before .before .pre .1 .1) (c .before .before .before .before .before .before .before .before .before .before .before .before .before .before .pre .1 .2) _ (c .before .before .before .before .before .before .before .before .before .before .before .before .before .before .pre .1 .3) (c .before .before .before .before .before .before .before .before .before .before .before .before .before .before .pre .1 .4) _ _ _ _ _ (c .before .before .before .before .before .before .before .before .before .loop .inv .0) (c .before .before .before .before .before .before .before .before .loop-test .taken) (c .before .before .before .before .before .before .before .before .before .loop .inv .1) (c .before .before .before .before .before .before .before .row-head .ensures) in
+    omega (arith, end-in _ _ _ _ h, c .before .before .before .before .before .before .before .before .before .before .before .before .before .before .pre .1 .5)
 
 walk-row-add-i : (t : ℕ) → walk-row-lts.Need-add-i (walk-row-claims t) (walk-row-at t) walk-row.Post walk-row-Inv-loop walk-row-μ-loop
 walk-row-add-i t c =
-    omega (arith, c .before .before .before .before .before .before .before .before .before .before .loop .inv .0, c .before .before .before .before .before .before .before .before .before .loop-test .taken, c .before .before .before .before .before .before .before .before .before .before .before .before .before .before .before .pre .1 .5)
+    omega (arith, c .before .before .before .before .before .before .before .before .before .before .loop .inv .0, c .before .before .before .before .before .before .before .before .before .loop-test .taken, c .before .before .before .before .before .before .before .before .before .before .before .before .before .before .before .pre .1 .4)
 
 walk-row-sub-left : (t : ℕ) → walk-row-lts.Need-sub-left (walk-row-claims t) (walk-row-at t) walk-row.Post walk-row-Inv-loop walk-row-μ-loop
 walk-row-sub-left t c = search needs
@@ -253,12 +253,12 @@ walk-row-loop-less t c = omega arith
 walk-row-loop-again : (t : ℕ) → walk-row-lts.Need-loop-again (walk-row-claims t) (walk-row-at t) walk-row.Post walk-row-Inv-loop walk-row-μ-loop
 walk-row-loop-again t c =
     let w = reached-in _ _ _ _ (c .before .before .step .given .1) (c .before .before .before .before .before .before .walk-member .ensures .1) in
-    let h = row-at _ _ (c .before .before .before .before .before .before .before .before .before .before .before .before .before .before .before .pre .1 .0) (c .before .before .before .before .before .before .before .before .before .before .before .before .before .before .before .pre .1 .1) (c .before .before .before .before .before .before .before .before .before .before .before .before .before .before .before .pre .1 .2) (c .before .before .before .before .before .before .before .before .before .before .before .before .before .before .before .pre .1 .3) _ (c .before .before .before .before .before .before .before .before .before .before .before .before .before .before .before .pre .1 .4) (c .before .before .before .before .before .before .before .before .before .before .before .before .before .before .before .pre .1 .5) _ _ _ _ _ (c .before .before .before .before .before .before .before .before .before .before .loop .inv .0) (c .before .before .before .before .before .before .before .before .before .loop-test .taken) (c .before .before .before .before .before .before .before .before .before .before .loop .inv .1) (c .before .before .before .before .before .before .before .before .row-head .ensures) in
+    let h = row-at _ _ (c .before .before .before .before .before .before .before .before .before .before .before .before .before .before .before .pre .1 .0) _ (c .before .before .before .before .before .before .before .before .before .before .before .before .before .before .before .pre .1 .1) (c .before .before .before .before .before .before .before .before .before .before .before .before .before .before .before .pre .1 .2) _ (c .before .before .before .before .before .before .before .before .before .before .before .before .before .before .before .pre .1 .3) (c .before .before .before .before .before .before .before .before .before .before .before .before .before .before .before .pre .1 .4) _ _ _ _ _ (c .before .before .before .before .before .before .before .before .before .before .loop .inv .0) (c .before .before .before .before .before .before .before .before .before .loop-test .taken) (c .before .before .before .before .before .before .before .before .before .before .loop .inv .1) (c .before .before .before .before .before .before .before .before .row-head .ensures) in
     (omega (arith, c .before .before .before .before .before .before .before .before .before .before .loop .inv .0, c .before .before .before .before .before .before .before .before .before .loop-test .taken), rw (c .end-of .ensures) (end-in _ _ _ _ h), rw (c .end-of .ensures) (w .1), c .before .before .before .before .before .before .walk-member .kept .1 .1 .1 .1 .1 .1 .0 ∙ c .before .before .before .before .before .before .before .before .before .before .loop .inv .3, c .before .before .before .before .before .before .before .before .before .before .loop .inv .4 ∙ turn-go _ (single (look (c .before .before .before .before .before .before .before .before .before .before .before .before .before .before .before .args .plan .now))) _ _ _ (rowForm (look (c .before .before .before .before .before .before .before .before .before .before .before .before .before .before .before .args .plan .now) (c .before .before .before .before .before .before .before .before .before .before .before .before .before .before .before .args .node)) (c .before .before .before .before .before .before .before .before .before .before .before .before .before .before .before .args .part .now)) (c .before .before .before .before .before .before .before .before .before .before .loop .i) (c .before .before .before .before .before .before .before .before .before .before .loop .pos) _ _ _ (c .before .before .before .before .before .before .before .before .before .loop-test .taken) _ (c .before .before .before .before .before .before .before .before .row-head .ensures) _ _ (c .before .before .before .before .before .before .walk-member .ensures .0) _ (c .before .before .step .given .1) _ refl _ (c .end-of .ensures))
 
 walk-row-end-elements-requires : (t : ℕ) → walk-row-lts.Need-end-elements-requires (walk-row-claims t) (walk-row-at t) walk-row.Post walk-row-Inv-loop walk-row-μ-loop
 walk-row-end-elements-requires t c κs =
-    (omega (arith, c .before .before .before .before .before .before .pre .1 .6), omega (arith, c .before .loop .inv .1, c .before .loop .inv .2, c .before .before .before .before .before .before .pre .1 .6))
+    (omega (arith, c .before .before .before .before .before .before .pre .1 .5), omega (arith, c .before .loop .inv .1, c .before .loop .inv .2, c .before .before .before .before .before .before .pre .1 .5))
 
 walk-row-same-length-2 : (t : ℕ) → walk-row-lts.Need-same-length-2 (walk-row-claims t) (walk-row-at t) walk-row.Post walk-row-Inv-loop walk-row-μ-loop
 walk-row-same-length-2 t c = c .before .before .loop .inv .3
@@ -422,12 +422,12 @@ walk-value-returns-2 : (t : ℕ) → walk-value-lts.Need-returns-2 (walk-value-c
 unfolding walkOf
 walk-value-returns-2 t c =
     let k = inner-kind _ _ _ (c .before .before .before .before .before .before .before .kind-at .ensures) (sym (c .before .before .before .before .before .before .is-leaf .ensures) ∙ c .before .before .before .before .before .if1 .left) in
-    (rw (c .refused .ensures, c .before .opening-fault .ensures) (value-wrong _ _ (c .before .before .before .before .before .before .before .before .before .before .before .pre .1 .0) (omega (arith, k .is, k .low)) (omega (arith, k .is, k .high)) _ _ _ _ _ _ (c .before .before .before .before .open-node .ensures) _ (c .before .before .enum-told .given .1)), refused-within _ _ _ _ (c .refused .ensures))
+    (rw (c .refused .ensures, c .before .opening-fault .ensures) (value-wrong _ _ (c .before .before .before .before .before .before .before .before .before .before .before .pre .1 .0) _ k _ _ _ _ _ _ (c .before .before .before .before .open-node .ensures) _ (c .before .before .enum-told .given .1)), refused-within _ _ _ _ (c .refused .ensures))
 
 walk-value-put-entry-requires : (t : ℕ) → walk-value-lts.Need-put-entry-requires (walk-value-claims t) (walk-value-at t) walk-value.Post
 walk-value-put-entry-requires t c κs =
     let k = inner-kind _ _ _ (c .before .before .before .before .before .before .before .kind-at .ensures) (sym (c .before .before .before .before .before .before .is-leaf .ensures) ∙ c .before .before .before .before .before .if1 .left) in
-    let o = opened _ _ (c .before .before .before .before .before .before .before .before .before .before .before .pre .1 .0) (omega (arith, k .is, k .low)) (omega (arith, k .is, k .high)) _ _ _ _ (sym (c .before .before .before .before .open-node .ensures) ∙ c .before .before .opening .given .1) in
+    let o = opened _ _ (c .before .before .before .before .before .before .before .before .before .before .before .pre .1 .0) _ k _ _ _ _ (sym (c .before .before .before .before .open-node .ensures) ∙ c .before .before .opening .given .1) in
     (omega (arith, c .before .before .before .before .before .before .before .before .before .before .before .pre .1 .2, c .before .before .before .before .before .before .before .before .before .before .before .pre .1 .3), c .before .before .before .before .before .before .before .before .before .before .before .pre .1 .0 .small, c .before .before .before .before .before .before .before .before .before .before .before .pre .1 .1, omega (arith, c .before .before .before .before .before .before .before .before .before .before .before .pre .1 .2), omega (arith, c .before .before .before .before .before .before .before .before .before .before .before .pre .1 .2), omega (arith, o .0))
 
 walk-value-add-to : (t : ℕ) → walk-value-lts.Need-add-to (walk-value-claims t) (walk-value-at t) walk-value.Post
@@ -437,7 +437,7 @@ walk-value-add-to t c =
 walk-value-walk-sparse-requires : (t : ℕ) → walk-value-lts.Need-walk-sparse-requires (walk-value-claims t) (walk-value-at t) walk-value.Post
 walk-value-walk-sparse-requires t c κs =
     let k = inner-kind _ _ _ (c .before .before .before .before .before .before .before .before .before .before .before .before .kind-at .ensures) (sym (c .before .before .before .before .before .before .before .before .before .before .before .is-leaf .ensures) ∙ c .before .before .before .before .before .before .before .before .before .before .if1 .left) in
-    let o = opened _ _ (c .before .before .before .before .before .before .before .before .before .before .before .before .before .before .before .before .pre .1 .0) (omega (arith, k .is, k .low)) (omega (arith, k .is, k .high)) _ _ _ _ (sym (c .before .before .before .before .before .before .before .before .before .open-node .ensures) ∙ c .before .before .before .before .before .before .before .opening .given .1) in
+    let o = opened _ _ (c .before .before .before .before .before .before .before .before .before .before .before .before .before .before .before .before .pre .1 .0) _ k _ _ _ _ (sym (c .before .before .before .before .before .before .before .before .before .open-node .ensures) ∙ c .before .before .before .before .before .before .before .opening .given .1) in
     (omega (arith, c .before .before .before .before .before .before .before .before .before .before .before .before .before .before .before .before .pre .0), (c .before .before .before .before .before .before .before .before .before .before .before .before .before .before .before .before .pre .1 .0, sym (c .before .before .before .before .before .before .before .before .before .before .before .before .kind-at .ensures .is) ∙ c .before .if2 .taken, c .before .before .before .before .before .before .before .before .before .before .before .before .before .before .before .before .pre .1 .2, o .1, omega (arith, c .before .before .before .before .before .before .before .before .before .before .before .before .before .before .before .before .pre .1 .3)))
 
 walk-value-same-length-2 : (t : ℕ) → walk-value-lts.Need-same-length-2 (walk-value-claims t) (walk-value-at t) walk-value.Post
@@ -447,13 +447,13 @@ walk-value-same-length-2 t c =
 walk-value-returns-3 : (t : ℕ) → walk-value-lts.Need-returns-3 (walk-value-claims t) (walk-value-at t) walk-value.Post
 walk-value-returns-3 t c =
     let k = inner-kind _ _ _ (c .before .before .before .before .before .before .before .before .before .before .before .before .before .before .before .kind-at .ensures) (sym (c .before .before .before .before .before .before .before .before .before .before .before .before .before .before .is-leaf .ensures) ∙ c .before .before .before .before .before .before .before .before .before .before .before .before .before .if1 .left) in
-    (c .before .before .walk-sparse .ensures .0 ∙ value-sparse _ _ (c .before .before .before .before .before .before .before .before .before .before .before .before .before .before .before .before .before .before .before .pre .1 .0) (omega (arith, k .is, k .low)) (omega (arith, k .is, k .high)) _ _ _ _ _ _ (c .before .before .before .before .before .before .before .before .before .before .before .before .open-node .ensures) _ _ _ (c .before .before .before .before .before .before .before .before .before .before .opening .given .1) _ (c .before .before .before .before .before .before .before .put-entry .ensures) (sym (c .before .before .before .before .before .before .before .before .before .before .before .before .before .before .before .kind-at .ensures .is) ∙ c .before .before .before .before .if2 .taken), c .before .before .walk-sparse .ensures .1)
+    (c .before .before .walk-sparse .ensures .0 ∙ value-sparse _ _ (c .before .before .before .before .before .before .before .before .before .before .before .before .before .before .before .before .before .before .before .pre .1 .0) _ k _ _ _ _ _ _ (c .before .before .before .before .before .before .before .before .before .before .before .before .open-node .ensures) _ _ _ (c .before .before .before .before .before .before .before .before .before .before .opening .given .1) _ (c .before .before .before .before .before .before .before .put-entry .ensures) (sym (c .before .before .before .before .before .before .before .before .before .before .before .before .before .before .before .kind-at .ensures .is) ∙ c .before .before .before .before .if2 .taken), c .before .before .walk-sparse .ensures .1)
 
 walk-value-walk-row-requires : (t : ℕ) → walk-value-lts.Need-walk-row-requires (walk-value-claims t) (walk-value-at t) walk-value.Post
 walk-value-walk-row-requires t c κs =
     let k = inner-kind _ _ _ (c .before .before .before .before .before .before .before .before .before .before .before .before .kind-at .ensures) (sym (c .before .before .before .before .before .before .before .before .before .before .before .is-leaf .ensures) ∙ c .before .before .before .before .before .before .before .before .before .before .if1 .left) in
-    let o = opened _ _ (c .before .before .before .before .before .before .before .before .before .before .before .before .before .before .before .before .pre .1 .0) (omega (arith, k .is, k .low)) (omega (arith, k .is, k .high)) _ _ _ _ (sym (c .before .before .before .before .before .before .before .before .before .open-node .ensures) ∙ c .before .before .before .before .before .before .before .opening .given .1) in
-    (omega (arith, c .before .before .before .before .before .before .before .before .before .before .before .before .before .before .before .before .pre .0), (c .before .before .before .before .before .before .before .before .before .before .before .before .before .before .before .before .pre .1 .0, omega (arith, k .is, k .low), omega (arith, k .is, k .high), (λ e. c .before .if2 .left (c .before .before .before .before .before .before .before .before .before .before .before .before .kind-at .ensures .is ∙ e)), opening-holds _ _ _ _ _ (is-row _ _ (c .before .before .before .before .before .before .before .before .before .before .before .before .before .before .before .before .pre .1 .0) (omega (arith, k .is, k .low)) (omega (arith, k .is, k .high)) (λ e. c .before .if2 .left (c .before .before .before .before .before .before .before .before .before .before .before .before .kind-at .ensures .is ∙ e))) (sym (c .before .before .before .before .before .before .before .before .before .open-node .ensures) ∙ c .before .before .before .before .before .before .before .opening .given .1), o .0, c .before .before .before .before .before .before .before .before .before .before .before .before .before .before .before .before .pre .1 .2, o .1, omega (arith, c .before .before .before .before .before .before .before .before .before .before .before .before .before .before .before .before .pre .1 .3)))
+    let o = opened _ _ (c .before .before .before .before .before .before .before .before .before .before .before .before .before .before .before .before .pre .1 .0) _ k _ _ _ _ (sym (c .before .before .before .before .before .before .before .before .before .open-node .ensures) ∙ c .before .before .before .before .before .before .before .opening .given .1) in
+    (omega (arith, c .before .before .before .before .before .before .before .before .before .before .before .before .before .before .before .before .pre .0), (c .before .before .before .before .before .before .before .before .before .before .before .before .before .before .before .before .pre .1 .0, same-kind _ _ _ _ k refl, (λ e. c .before .if2 .left (c .before .before .before .before .before .before .before .before .before .before .before .before .kind-at .ensures .is ∙ e)), opening-holds _ _ _ _ _ (is-row _ _ (c .before .before .before .before .before .before .before .before .before .before .before .before .before .before .before .before .pre .1 .0) _ k (λ e. c .before .if2 .left (c .before .before .before .before .before .before .before .before .before .before .before .before .kind-at .ensures .is ∙ e))) (sym (c .before .before .before .before .before .before .before .before .before .open-node .ensures) ∙ c .before .before .before .before .before .before .before .opening .given .1), o .0, c .before .before .before .before .before .before .before .before .before .before .before .before .before .before .before .before .pre .1 .2, o .1, omega (arith, c .before .before .before .before .before .before .before .before .before .before .before .before .before .before .before .before .pre .1 .3)))
 
 walk-value-same-length-3 : (t : ℕ) → walk-value-lts.Need-same-length-3 (walk-value-claims t) (walk-value-at t) walk-value.Post
 walk-value-same-length-3 t c =
@@ -462,7 +462,7 @@ walk-value-same-length-3 t c =
 walk-value-returns-4 : (t : ℕ) → walk-value-lts.Need-returns-4 (walk-value-claims t) (walk-value-at t) walk-value.Post
 walk-value-returns-4 t c =
     let k = inner-kind _ _ _ (c .before .before .before .before .before .before .before .before .before .before .before .before .before .before .before .kind-at .ensures) (sym (c .before .before .before .before .before .before .before .before .before .before .before .before .before .before .is-leaf .ensures) ∙ c .before .before .before .before .before .before .before .before .before .before .before .before .before .if1 .left) in
-    (c .before .before .walk-row .ensures .0 ∙ value-row _ _ (c .before .before .before .before .before .before .before .before .before .before .before .before .before .before .before .before .before .before .before .pre .1 .0) (omega (arith, k .is, k .low)) (omega (arith, k .is, k .high)) _ _ _ _ _ _ (c .before .before .before .before .before .before .before .before .before .before .before .before .open-node .ensures) _ _ _ (c .before .before .before .before .before .before .before .before .before .before .opening .given .1) _ (c .before .before .before .before .before .before .before .put-entry .ensures) (λ e. c .before .before .before .before .if2 .left (c .before .before .before .before .before .before .before .before .before .before .before .before .before .before .before .kind-at .ensures .is ∙ e)), c .before .before .walk-row .ensures .1)
+    (c .before .before .walk-row .ensures .0 ∙ value-row _ _ (c .before .before .before .before .before .before .before .before .before .before .before .before .before .before .before .before .before .before .before .pre .1 .0) _ k _ _ _ _ _ _ (c .before .before .before .before .before .before .before .before .before .before .before .before .open-node .ensures) _ _ _ (c .before .before .before .before .before .before .before .before .before .before .opening .given .1) _ (c .before .before .before .before .before .before .before .put-entry .ensures) (λ e. c .before .before .before .before .if2 .left (c .before .before .before .before .before .before .before .before .before .before .before .before .before .before .before .kind-at .ensures .is ∙ e)), c .before .before .walk-row .ensures .1)
 
 pub +walk-member+walk-row+walk-sparse+walk-value-spec : {M : Type 1} → statement M
 +walk-member+walk-row+walk-sparse+walk-value-spec =
