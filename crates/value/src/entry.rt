@@ -19,7 +19,7 @@ fn put_word(list: &mut [u32], at: usize, word: u32)
     }
 }
 
-// The words of an entry, each if the list has room for it.
+// The words of an entry at the list's end, each if there is room for it.
 fn put_part(list: &mut [u32], at: usize, node: u32, index: u32, start: u32, size: u32, count: u32)
     requires { ⌜ at ≤ 131072 ⌝ }
     ensures { λ _. ⌜ now (list .exit) ≡ sets (now (list .entry)) at (entryWords (entryOf node index start size) count) ⌝ }
@@ -31,7 +31,7 @@ fn put_part(list: &mut [u32], at: usize, node: u32, index: u32, start: u32, size
     put_word(list, at + 4, count);
 }
 
-// The words of an entry, as far as the list has room.
+// The words of an entry, as far as the list has room: mostly there is room for all, and one test says so.
 pub fn put_entry(
     list: &mut [u32],
     at: usize,
@@ -44,7 +44,7 @@ pub fn put_entry(
     requires { ⌜ (at ≤ 131072) × (node < 2 ^ 32) × (index < 2 ^ 32) × (start < 2 ^ 32) × (size < 2 ^ 32) × (count < 2 ^ 32) ⌝ }
     ensures { λ _. ⌜ now (list .exit) ≡ sets (now (list .entry)) at (entryWords (entryOf node index start size) count) ⌝ }
 {
-    if at + 5 <= list.len() {
+    if at + WORDS <= list.len() {
         list[at] = node as u32;
         list[at + 1] = index as u32;
         list[at + 2] = start as u32;

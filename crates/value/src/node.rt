@@ -76,7 +76,7 @@ pub fn sparse_head(plan: &[u32], node: usize, part: &[u8], i: usize, at: usize) 
     heads::element::sparse_length(part, required, i, at)
 }
 
-// Whether any element of a sparse object is required and was not given.
+// Whether any element of a sparse object is required and was not given. The loop has no early end, so that it becomes one over vectors.
 pub fn any_lacking(plan: &[u32], node: usize, seen: Seen) -> bool
     requires { ⌜ (At (now plan) node) × (getD (now plan) node 0 ≡ 6) ⌝ }
     ensures { λ b. ⌜ b ≡ lacking (cardsAt (now (plan .entry)) node) (seen .marks) (length (cardsAt (now (plan .entry)) node)) ⌝ }

@@ -43,7 +43,7 @@ fn end_elements(whole: bool, lacking: bool, base: usize, to: usize) -> Step
     refused(21, base)
 }
 
-// A scalar or an enumeration.
+// A scalar or an enumeration, whose content is permitted or not (24).
 fn walk_leaf(
     plan: &[u32],
     node: usize,
@@ -79,8 +79,7 @@ fn walk_absent(node: usize, index: usize, start: usize, list: &mut [u32], at: us
     }
 }
 
-// The part as a value of a node; places count from `base`, and `index` is its own in its parent. Most values are leaves: what a
-// container needs is kept out of this frame.
+// The part as a value of a node; places count from `base`, and `index` is its own in its parent.
 pub fn walk_value(
     plan: &[u32],
     node: usize,
@@ -218,7 +217,7 @@ fn walk_member(
             let end = start + size;
             let place = base + start;
             let step = walk_value(plan, child, index, place, &part[start..end], list, at);
-            // Made anew: a copy of the whole enum would wait until its parts are stored, for every element.
+            // Made anew: to hand the whole enum on is a copy that waits until its parts are stored, for every element.
             let Step::Reached { at: next } = step else {
                 return step;
             };
