@@ -7,14 +7,14 @@ use mathlib.Core.List.{List}
 use Prim.Native.Nat.{ℕ, _+_, _-_, _^_, _<_, _≤_}
 use native.Mathlib.Omega.{arith}
 use lib.ListN.{length, getD}
-use Rattle.heads.specs.Heads.{word, setOpening, countOpening, sparseOpening, rangeOpening, plainHead, objectHead, envelopeHead, sparseIndex, sparseHead, endOf, Inside}
+use Rattle.heads.specs.Heads.{word, setOpening, countOpening, sparseOpening, rangeOpening, optional, plainHead, objectHead, envelopeHead, sparseIndex, sparseHead, endOf, Inside}
 use Rattle.heads.specs.Faults.{headFault}
 use Rattle.heads.specs.Bounds.{Opened, From, Indexed, Fresh, Refuses}
 use Rattle.heads.specs.declared.Opening.the-variants.{Elements, Wrong}
 use Rattle.heads.specs.declared.Head.{Head}
 use Rattle.heads.specs.declared.Head.the-variants.{Present, Absent, Fault}
 use Rattle.heads.specs.declared.Index.the-variants.{Known}
-use Rattle.heads.proofs.Cases.{set-cases, count-cases, sparse-opening-cases, range-cases, plain-cases, object-cases, envelope-cases, index-cases, sparse-cases}
+use Rattle.heads.proofs.Cases.{set-cases, count-cases, sparse-opening-cases, range-cases, optional-cases, plain-cases, object-cases, envelope-cases, index-cases, sparse-cases}
 
 -- ---- a container's head
 
@@ -136,6 +136,10 @@ module _ (s : List ℕ) (i at : ℕ) where
   envelope-refuses = envelope-cases Refuses (λ _ h. h) s i at (λ _ _ _. tt)
 
 -- ---- an element of a sparse object
+
+pub optional-index : (s : List ℕ) (r : Bool) (i start size : ℕ) → Indexed i (optional s r i start size)
+unfolding Indexed
+optional-index s r i start size = optional-cases (Indexed i) (λ _ _. tt) s r i start size (λ _. refl) (λ _ _. refl)
 
 module _ (s cards : List ℕ) (marks : List Bool) (at : ℕ) where
   pub sparse-inside : at ≤ length s → Inside (length s) at (sparseHead s cards marks at)

@@ -1,13 +1,14 @@
 -- What a container's and an element's head can be, with what the tests on the way say: one law each, with the predicate a variable, from
 -- which the bounds follow. Assumes nothing.
 use mathlib.Core.Path.{_≡_, ap}
-use mathlib.Core.Bool.{Bool, false}
-use mathlib.Core.List.{List}
+use mathlib.Core.Bool.{Bool, true, false}
+use mathlib.Core.List.{List, []}
 use Prim.Native.Nat.{ℕ, _+_, _-_, _^_, _<_, _≤_}
 use native.Mathlib.Omega.{arith}
-use lib.Dec.{lit<}
+use lib.Dec.{leb, ltb, lit<}
 use lib.ListN.{length, getD}
 use borrow.Author.Tests.{ltb-false, leb-false, eqb-false}
+use Rattle.wire.specs.Choice.{pick}
 use Rattle.wire.proofs.Picks.{pick-case}
 use Rattle.heads.specs.Heads.{word, negative, bounds, setOpening, countOpening, sparseOpening, rangeOpening, sized, optional, plainHead, objectHead, envelopeHead, sparseIndex, requires, sparseRest, sparseHead}
 use Rattle.heads.specs.declared.Opening.{Opening}
@@ -121,6 +122,29 @@ module _ (P : Head → Type 0) (bad : (m : ℕ) → 0 < m → P (Fault m)) where
   sparse-cases s cards marks at none good =
       index-cases (λ x. P (sparseRest s cards at x)) s (length cards) marks at bad
       (λ whole few new. optional-cases P bad s (requires (getD cards (word s at) 0)) (word s at) (at + 8) (word s (at + 4)) (none whole few new) (good whole few new))
+
+-- a sparse element's index that was read without the marks, and then looked for among them
+module _ (s : List ℕ) (n : ℕ) (marks : List Bool) (at : ℕ) where
+  among : (a b : Bool) (w i : ℕ) (m : Bool) → pick a (Bad 20) (pick b (Bad 25) (Known w)) ≡ Known i → getD marks i false ≡ m
+      → pick a (Bad 20) (pick b (Bad 25) (pick (getD marks w false) (Bad 26) (Known w))) ≡ pick m (Bad 26) (Known i)
+  unfolding pick
+  among true b w i m e g = let z : _≡_ {A = ℕ} 0 1 = cc in absurd (omega arith)
+  among false true w i m e g = let z : _≡_ {A = ℕ} 0 1 = cc in absurd (omega arith)
+  among false false w i m e g = let q : w ≡ i = cc in rw (q, g)
+
+  pub index-marked : (i : ℕ) (m : Bool) → sparseIndex s n [] at ≡ Known i → getD marks i false ≡ m → sparseIndex s n marks at ≡ pick m (Bad 26) (Known i)
+  unfolding sparseIndex pick
+  index-marked i m e g = among (ltb (length s - at) 8) (leb n (word s at)) (word s at) i m e g
+
+  before : (a b m : Bool) (w q : ℕ) → pick a (Bad 20) (pick b (Bad 25) (Known w)) ≡ Bad q → pick a (Bad 20) (pick b (Bad 25) (pick m (Bad 26) (Known w))) ≡ Bad q
+  unfolding pick
+  before true b m w q e = e
+  before false true m w q e = e
+  before false false m w q e = let z : _≡_ {A = ℕ} 0 1 = cc in absurd (omega arith)
+
+  pub index-bad : (q : ℕ) → sparseIndex s n [] at ≡ Bad q → sparseIndex s n marks at ≡ Bad q
+  unfolding sparseIndex pick
+  index-bad q e = before (ltb (length s - at) 8) (leb n (word s at)) (getD marks (word s at) false) (word s at) q e
 
 -- a sparse element's head, by what its index is
 module _ (s cards : List ℕ) (marks : List Bool) (at n : ℕ) where

@@ -132,20 +132,12 @@ fn emit_item(
         return Emit::Faulty;
     };
     let s = list[first] as usize;
+    let items = (code - layout::RUN) as usize;
     let mut left = wire::be::u16_at(src, s);
     let mut i = w;
     let mut at = a;
     while 0 < left {
-        let step = emit_walk(
-            src,
-            list,
-            table,
-            (code - layout::RUN) as usize,
-            judge,
-            i,
-            at,
-            out,
-        );
+        let step = emit_walk(src, list, table, items, judge, i, at, out);
         let Emit::Done { word: w, at: a } = step else {
             return Emit::Faulty;
         };

@@ -28,7 +28,7 @@ fn check_value(plan: &[u32], value: &[u8], scratch: &mut [u32]) -> Answer
     }
     match value::walk::walk_value(plan, root, 0, 0, value, scratch, 0) {
         Step::Refused { no, place } => Answer::Refused { no, place },
-        Step::Reached { at } => Answer::Listed { words: at as u32 },
+        Step::Reached { at } => Answer::Listed { words: at },
     }
 }
 

@@ -7,30 +7,33 @@ use mathlib.Core.Option.{Option, none, some}
 use Prim.Native.Nat.{ℕ, zero, suc, _+_, _-_, _*_, _^_, _<_, _≤_}
 use native.Mathlib.Omega.{arith}
 use native.Mathlib.Nat.{add-sub-cancel-left}
-use lib.ListN.{length, getD, take, drop, getElem?, length-take, length-drop}
+use lib.ListN.{length, getD, set as store, take, drop, getElem?, length-take, length-drop}
 use lib.Seq.{sets}
 use Rattle.wire.specs.Choice.{pick}
 use Rattle.wire.proofs.Picks.{same-or-not}
 use Rattle.scalars.specs.Scalars.{scalar, enumeration}
-use Rattle.heads.specs.Heads.{gone, setOpening, countOpening, plainHead, objectHead, envelopeHead, sparseHead, requires, Inside, indexOf, endOf}
+use Rattle.heads.specs.declared.Index.{Index}
+use Rattle.heads.specs.declared.Index.the-variants.{Known, Bad}
+use Rattle.heads.specs.Heads.{sparseIndex, optional, word, gone, setOpening, countOpening, plainHead, objectHead, envelopeHead, sparseHead, requires, Inside, indexOf, endOf}
 use Rattle.heads.specs.Bounds.{From, Indexed, Fresh, Refuses}
 use Rattle.heads.specs.Faults.{headFault, openingFault}
 use Rattle.heads.specs.declared.Head.{Head}
 use Rattle.heads.specs.declared.Head.the-variants.{Present, Absent, Fault}
 use Rattle.heads.specs.declared.Opening.{Opening}
 use Rattle.heads.specs.declared.Opening.the-variants.{Elements, Wrong}
-use Rattle.heads.proofs.Bounds.{set-opened, count-opened, range-opened, sparse-opened, inside-end, plain-inside, plain-from, plain-index, object-inside, object-from, object-index, envelope-inside, envelope-from, envelope-index, sparse-inside, sparse-from, sparse-index-below, plain-refuses, object-refuses, envelope-refuses, sparse-refuses}
+use Rattle.heads.proofs.Bounds.{known-new, optional-index, set-opened, count-opened, range-opened, sparse-opened, inside-end, plain-inside, plain-from, plain-index, object-inside, object-from, object-index, envelope-inside, envelope-from, envelope-index, sparse-inside, sparse-from, sparse-index-below, plain-refuses, object-refuses, envelope-refuses, sparse-refuses}
 use Rattle.rules.specs.Node.{Node, leaf, enum, row, arrays, tuple, object, sparse, range, refAt}
 use Rattle.rules.specs.Forest.{Entry, Forest, entryWords}
 use Rattle.rules.specs.Values.{Outcome, refused, listed, under, entryOf, Rule, absent, present, member, elements, rowForm, sparseForm, noMarks, openingOf, rowHead, leafRule, rowRule, sparseRule, byNode, valueOf}
 use Rattle.rules.proofs.Fuel.{value-step}
 use Rattle.plan.specs.Plan.{look, cardsAt, refsAt, At}
-use Rattle.plan.specs.Readers.{Refers}
+use Rattle.plan.specs.Readers.{Refers, KindAt}
 use Rattle.plan.proofs.Looks.{elem-at, elem-in, refs-length, cards-length, look-leaf, look-row, look-arrays, look-tuple, look-object, look-sparse, look-range, look-enum, tuple-length}
 use Rattle.plan.proofs.Nodes.{at-ref, at-few, at-tuple-size}
-use Rattle.value.specs.Walk.{Walk, stopped, reached, walkOf, led, Within, WithinHead, IsRow, Holds, HeadIn}
+use Rattle.value.specs.Walk.{Walk, stopped, reached, walkOf, led, leafKind, leafGood, endStep, Within, WithinHead, IsRow, Container, Holds, HeadIn}
 use Rattle.value.specs.declared.Step.{Step}
 use Rattle.value.specs.declared.Step.the-variants.{Refused, Reached}
+use Rattle.value.proofs.Nodes.{scalar-kind, leaf-not, head-bad, head-twice, head-new}
 use Rattle.value.proofs.Walks.{under-go, alone, single, elements-width}
 
 -- ---- the heads of elements in order
@@ -121,15 +124,14 @@ module _ (p : List ℕ) (k : ℕ) (a : At p k) where
   step-is : (i base : ℕ) (s : List ℕ) → valueOf (look p) k i base s ≡ byNode (look p k) (valueOf (look p)) k i base s
   step-is i base s = value-step (look p) (At p) (λ j i r. at-ref p j i r) k a (a .small) i base s
 
-  module _ (i base : ℕ) (s : List ℕ) (at : ℕ) (l : List ℕ) where
-    -- a scalar or an enumeration
-    pub value-leaf : (f : ℕ) (good : Bool) → getD p k 0 ≡ 1 → f ≡ getD p (k + 1) 0 → good ≡ scalar f s → led (leafRule good k i base s) at l ≡ led (valueOf (look p) k i base s) at l
-    unfolding byNode
-    value-leaf f good e ef g = rw (step-is i base s, look-leaf p k e, ← ef, ← g)
-
-    pub value-enum : (good : Bool) → getD p k 0 ≡ 8 → good ≡ enumeration s → led (leafRule good k i base s) at l ≡ led (valueOf (look p) k i base s) at l
-    unfolding byNode
-    value-enum good e g = rw (step-is i base s, look-enum p k e, ← g)
+  -- a scalar or an enumeration
+  pub value-leaf : leafKind (getD p k 0) ≡ true → (i base : ℕ) (s : List ℕ) → valueOf (look p) k i base s ≡ leafRule (leafGood (look p k) s) k i base s
+  unfolding byNode leafGood
+  value-leaf x i base s =
+      ⊎-elim
+      (λ (e : getD p k 0 ≡ 8). rw (step-is i base s, look-enum p k e))
+      (λ (n : getD p k 0 ≡ 8 → ⊥). let e = scalar-kind (getD p k 0) x n in rw (step-is i base s, look-leaf p k e))
+      (same-or-not (getD p k 0) 8)
 
 by-row : (v : Node) (rule : Rule) (k i base : ℕ) (s : List ℕ) → IsRow v → byNode v rule k i base s ≡ rowRule v rule (openingOf v s) k i base s
 unfolding IsRow byNode
@@ -142,7 +144,13 @@ by-row (object refs cards) rule k i base s x = refl
 by-row (sparse refs cards) rule k i base s x = absurd x
 by-row (range r) rule k i base s x = refl
 
-module _ (p : List ℕ) (k : ℕ) (a : At p k) (low : 2 ≤ getD p k 0) (high : getD p k 0 ≤ 7) where
+module _ (p : List ℕ) (k : ℕ) (a : At p k) (kind : ℕ) (c : Container p k kind) where
+  low : 2 ≤ getD p k 0
+  low = omega (arith, c .is, c .low)
+
+  high : getD p k 0 ≤ 7
+  high = omega (arith, c .is, c .high)
+
   pub is-row : (getD p k 0 ≡ 6 → ⊥) → IsRow (look p k)
   unfolding IsRow
   is-row n =
@@ -210,26 +218,26 @@ module _ (p : List ℕ) (k : ℕ) (a : At p k) (low : 2 ≤ getD p k 0) (high : 
 
 -- ---- a leaf's content
 
-module _ (k i base : ℕ) (s : List ℕ) (at : ℕ) (l : List ℕ) (good : Bool) where
-  pub leaf-good : good ≡ true → (l′ : List ℕ) → l′ ≡ sets l at (entryWords (entryOf k i base (length s)) 0) → reached (at + 5) l′ ≡ led (leafRule good k i base s) at l
+module _ (p : List ℕ) (k : ℕ) (a : At p k) (x : leafKind (getD p k 0) ≡ true) (i base : ℕ) (s : List ℕ) (at : ℕ) (l : List ℕ) (good : Bool) (g : good ≡ leafGood (look p k) s) where
+  pub leaf-good : good ≡ true → (l′ : List ℕ) → l′ ≡ sets l at (entryWords (entryOf k i base (length s)) 0) → reached (at + 5) l′ ≡ led (valueOf (look p) k i base s) at l
   unfolding leafRule pick
-  leaf-good e l′ g = rw e (alone (entryOf k i base (length s)) at l l′ g)
+  leaf-good e l′ w = rw (value-leaf p k a x i base s, ← g, e) (alone (entryOf k i base (length s)) at l l′ w)
 
-  pub leaf-bad : good ≡ false → stopped 24 base ≡ led (leafRule good k i base s) at l
+  pub leaf-bad : good ≡ false → stopped 24 base ≡ led (valueOf (look p) k i base s) at l
   unfolding leafRule pick led
-  leaf-bad e = rw e
+  leaf-bad e = rw (value-leaf p k a x i base s, ← g, e)
 
 -- ---- one element, by its head
 
 module _ (rule : Rule) (ref : ℕ → Option ℕ) (base : ℕ) (s : List ℕ) (h : Head) (at : ℕ) (l : List ℕ) where
-  pub member-fault : (n : ℕ) → h ≡ Fault n → stopped n base ≡ led (member rule ref base s h) at l
-  unfolding member led
-  member-fault n e = rw e
+  pub member-fault : (n : ℕ) → h ≡ Fault n → (x : Step) → x ≡ Refused n base → walkOf x l ≡ led (member rule ref base s h) at l
+  unfolding member led walkOf
+  member-fault n e x ex = rw (e, ex)
 
   module _ (i start k : ℕ) (r : ref i ≡ some k) where
-    pub member-absent : h ≡ Absent i start → (l′ : List ℕ) → l′ ≡ sets l at (entryWords (entryOf k i (base + start) gone) 0) → reached (at + 5) l′ ≡ led (member rule ref base s h) at l
-    unfolding member absent
-    member-absent e l′ g = rw (e, r) (alone (entryOf k i (base + start) gone) at l l′ g)
+    pub member-absent : h ≡ Absent i start → led (absent (some k) i (base + start)) at l ≡ led (member rule ref base s h) at l
+    unfolding member
+    member-absent e = rw (e, r)
 
     pub member-present : (size : ℕ) → h ≡ Present i start size → led (rule k i (base + start) (take (start + size - start) (drop start s))) at l ≡ led (member rule ref base s h) at l
     unfolding member present
@@ -265,13 +273,45 @@ unfolding Within WithinHead headFault endOf
 within-present base h i start size m (Refused q p) e g w = tt
 within-present base h i start size m (Reached at) e g w = rw e (refl, omega arith)
 
-pub within-absent : (base : ℕ) (h : Head) (i start pos at : ℕ) → h ≡ Absent i start → pos + 4 ≤ start → 4 * at ≤ 5 * (base + pos) + 20 → WithinHead base h (Reached (at + 5))
+pub within-absent : (base : ℕ) (h : Head) (i start pos at : ℕ) (r : Step) → r ≡ Reached (at + 5) → h ≡ Absent i start → pos + 4 ≤ start → 4 * at ≤ 5 * (base + pos) + 20 → WithinHead base h r
 unfolding WithinHead headFault endOf
-within-absent base h i start pos at e g w = rw e (refl, omega arith)
+within-absent base h i start pos at r x e g w = rw (x, e) (refl, omega arith)
 
 pub reached-in : (base : ℕ) (h : Head) (r : Step) (at : ℕ) → r ≡ Reached at → WithinHead base h r → (headFault h ≡ 0) × (4 * at ≤ 5 * (base + endOf h) + 20)
 unfolding WithinHead
 reached-in base h r at e w = rw e at w
+
+-- a refusal, wherever it comes from
+pub fault-within : (base : ℕ) (h : Head) (r : Step) (n p : ℕ) → r ≡ Refused n p → WithinHead base h r
+unfolding WithinHead
+fault-within base h r n p x = rw x tt
+
+-- a step that is made anew from its parts
+module _ (x y : Step) (e : x ≡ y) where
+  pub anew : (l : List ℕ) (w : Walk) → walkOf x l ≡ w → walkOf y l ≡ w
+  anew l w q = rw e at q
+
+  pub anew-within : (base : ℕ) (h : Head) → WithinHead base h x → WithinHead base h y
+  anew-within base h q = rw e at q
+
+-- the end of a container's elements
+pub end-within : (w b : Bool) (e base at : ℕ) (x : Step) → x ≡ endStep w b base at → 4 * at ≤ 5 * e + 20 → Within e x
+unfolding Within endStep pick
+end-within true true e base at x ex h = rw ex tt
+end-within true false e base at x ex h = rw ex h
+end-within false b e base at x ex h = rw ex tt
+
+-- a container's kind, read again
+pub same-kind : (p : List ℕ) (k kind kind′ : ℕ) → Container p k kind → kind′ ≡ getD p k 0 → Container p k kind′
+same-kind p k kind kind′ c e = record { is = e; low = omega (arith, c .is, c .low); high = omega (arith, c .is, c .high) }
+
+-- the kind of a node that is no leaf
+pub inner-kind : (p : List ℕ) (k kind : ℕ) → KindAt p k kind → leafKind kind ≡ false → Container p k kind
+unfolding leafKind pick
+inner-kind p k kind c x =
+    let a = leaf-not kind 1 x refl in
+    let b = leaf-not kind 8 x refl in
+    record { is = c .is; low = omega (arith, c .low, a); high = omega (arith, c .high, b) }
 
 pub refused-within : (e : ℕ) (r : Step) (n p : ℕ) → r ≡ Refused n p → Within e r
 unfolding Within
@@ -284,23 +324,47 @@ object-below p k i e r =
     let q : getElem? (refsAt p k) i ≡ some (r .to) = rw (look-object p k e) at (r .is) in
     omega (arith, elem-in (refsAt p k) i (r .to) q .0, refs-length p k)
 
-pub fresh-below : (m : ℕ) (marks : List Bool) (h : Head) → headFault h ≡ 0 → Refuses h → Fresh m marks h → indexOf h < m
-unfolding headFault Refuses Fresh indexOf
-fresh-below m marks (Present i start size) e f g = g .0
-fresh-below m marks (Absent i start) e f g = g .0
-fresh-below m marks (Fault q) e f g = absurd (omega arith)
+-- a head that was read in a row, with some elements left
+pub row-at : (p : List ℕ) (k : ℕ) → At p k → (kind : ℕ) → Container p k kind → (getD p k 0 ≡ 6 → ⊥) → (m : ℕ) → Holds (look p k) m → m < 2 ^ 32
+    → (s : List ℕ) (i left at : ℕ) (h : Head) → i + left ≡ m → 0 < left → at ≤ length s → h ≡ rowHead (look p k) s i at → HeadIn (look p k) (length s) at h
+row-at p k a kind c n m r few s i left at h e z b x =
+    rw x (row-headed s i at b (omega arith) (look p k) (is-row p k a kind c n) (r i (omega arith)))
 
--- where a head that was read leads
-pub row-end : (v : Node) (s : List ℕ) (i at : ℕ) (h : Head) → h ≡ rowHead v s i at → at ≤ length s → i < 2 ^ 32 → IsRow v → Refers v i → endOf h ≤ length s
-row-end v s i at h e a b x r = rw e (end-in v (length s) at (rowHead v s i at) (row-headed s i at a b v x r))
+-- the head of a sparse object's element with an index that is new: what it is, what holds of it, and the marks after it
+pub record NewHead (p : List ℕ) (k : ℕ) (s : List ℕ) (marks : List Bool) (at i : ℕ) (h : Head) : Type 0 where
+  pub is : h ≡ sparseHead s (cardsAt p k) marks at
+  pub inside : HeadIn (look p k) (length s) at h
+  pub next : headFault h ≡ 0 → store marks i true ≡ store marks (indexOf h) true
 
-pub sparse-end : (p : List ℕ) (k : ℕ) → At p k → getD p k 0 ≡ 6 → (s : List ℕ) (marks : List Bool) (at : ℕ) (h : Head) → h ≡ sparseHead s (cardsAt p k) marks at → at ≤ length s → endOf h ≤ length s
-sparse-end p k a e s marks at h x b = rw x (end-in (look p k) (length s) at (sparseHead s (cardsAt p k) marks at) (sparse-headed p k a e s marks at b))
+-- an index of a sparse object that was read without the marks
+module _ (p : List ℕ) (k : ℕ) (a : At p k) (e : getD p k 0 ≡ 6) (s : List ℕ) (at n i : ℕ) (en : n ≡ getD p (k + 1) 0) (x : Index) (ex : x ≡ sparseIndex s n [] at) (f : x ≡ Known i) where
+  pub known-in : at ≤ length s → (i < getD p (k + 1) 0) × (i < 512) × (at + 8 ≤ length s)
+  known-in b =
+      let h = known-new s n [] at i (sym ex ∙ f) in
+      let few = at-few p k a (omega arith) (omega arith) in
+      (omega (arith, h .0), omega (arith, h .0), omega (arith, h .2))
 
-pub sparse-below : (p : List ℕ) (k : ℕ) → At p k → getD p k 0 ≡ 6 → (s : List ℕ) (marks : List Bool) (at : ℕ) (h : Head) → h ≡ sparseHead s (cardsAt p k) marks at → headFault h ≡ 0 → indexOf h < 512
-sparse-below p k a e s marks at h x f =
-    let b = fresh-below (length (cardsAt p k)) marks (sparseHead s (cardsAt p k) marks at) (rw x at f) (sparse-refuses s (cardsAt p k) marks at) (sparse-index-below s (cardsAt p k) marks at) in
-    rw x (omega (arith, b, few-cards p k a e))
+  module _ (marks : List Bool) where
+    pub sparse-twice : getD marks i false ≡ true → sparseHead s (cardsAt p k) marks at ≡ Fault 26
+    sparse-twice g = head-twice s (cardsAt p k) marks at n (en ∙ sym (cards-length p k)) i (sym f ∙ ex) g
+
+    module _ (g : getD marks i false ≡ false) (h : Head) (eh : h ≡ optional s (requires (getD (cardsAt p k) i 0)) i (at + 8) (word s (at + 4))) where
+      sparse-new : h ≡ sparseHead s (cardsAt p k) marks at
+      sparse-new = eh ∙ sym (head-new s (cardsAt p k) marks at n (en ∙ sym (cards-length p k)) i (sym f ∙ ex) g)
+
+      marked : (q : Head) → Indexed i q → Refuses q → headFault q ≡ 0 → store marks i true ≡ store marks (indexOf q) true
+      unfolding Indexed Refuses headFault indexOf
+      marked (Present j start size) y r z = rw y
+      marked (Absent j start) y r z = rw y
+      marked (Fault m) y r z = absurd (omega arith)
+
+      pub sparse-turn : at ≤ length s → NewHead p k s marks at i h
+      sparse-turn b =
+          record {
+            is = sparse-new;
+            inside = rw sparse-new (sparse-headed p k a e s marks at b);
+            next = marked h (rw eh (optional-index s _ i (at + 8) _)) (rw sparse-new (sparse-refuses s (cardsAt p k) marks at));
+          }
 
 pub part-size : (s : List ℕ) (start size : ℕ) → start + size ≤ length s → length (take (start + size - start) (drop start s)) ≡ size
 part-size s start size h = rw add-sub-cancel-left (simp (length-take, length-drop) (omega arith))

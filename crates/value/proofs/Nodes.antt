@@ -1,6 +1,6 @@
 -- The laws of a node's heads, by the node's kind in a plan. Assumes nothing.
 use mathlib.Core.Path.{_≡_, refl, ap, sym, _∙_}
-use mathlib.Core.Bool.{Bool, true, false, not}
+use mathlib.Core.Bool.{Bool, true, false, not, _||_, _&&_}
 use mathlib.Core.List.{List, [], _∷_}
 use mathlib.Core.Logic.{_⊎_, inl, inr, ⊎-elim}
 use mathlib.Core.Option.{Option, none, some}
@@ -9,7 +9,9 @@ use native.Mathlib.Omega.{arith}
 use native.Mathlib.Nat.{zero-add, suc-add}
 use native.Mathlib.Numerals.{add-one}
 use lib.ListN.{length, getD, take, drop, getElem?}
+use borrow.Author.Tests.{ne-eqb}
 use Rattle.wire.specs.Choice.{pick}
+use Rattle.scalars.specs.Scalars.{scalar, enumeration}
 use Rattle.wire.proofs.Picks.{same-or-not}
 use Rattle.heads.specs.Heads.{setOpening, countOpening, sparseOpening, rangeOpening, plainHead, objectHead, envelopeHead, requires, optional, word, sparseIndex, sparseRest, sparseHead, lacking, Inside, indexOf}
 use Rattle.heads.specs.Bounds.{From, Indexed, Fresh}
@@ -20,14 +22,14 @@ use Rattle.heads.specs.declared.Opening.{Opening}
 use Rattle.heads.specs.declared.Opening.the-variants.{Elements, Wrong}
 use Rattle.heads.specs.declared.Index.{Index}
 use Rattle.heads.specs.declared.Index.the-variants.{Known, Bad}
-use Rattle.heads.proofs.Cases.{sparse-bad, sparse-known}
+use Rattle.heads.proofs.Cases.{sparse-bad, sparse-known, index-bad, index-marked}
 use Rattle.rules.specs.Node.{Node, leaf, enum, row, arrays, tuple, object, sparse, range, refAt}
 use Rattle.rules.specs.Values.{openingOf, rowHead}
 use Rattle.plan.specs.Plan.{look, refsAt, cardsAt, At}
 use Rattle.plan.specs.Readers.{Refers}
-use Rattle.plan.proofs.Looks.{elem-at, cards-length, cards-at, look-row, look-arrays, look-tuple, look-object, look-sparse, look-range, tuple-length, refs-length}
+use Rattle.plan.proofs.Looks.{elem-at, cards-length, cards-at, look-leaf, look-enum, look-row, look-arrays, look-tuple, look-object, look-sparse, look-range, tuple-length, refs-length}
 use Rattle.plan.proofs.Nodes.{at-tuple-size}
-use Rattle.value.specs.Walk.{Container, lacks}
+use Rattle.value.specs.Walk.{Container, leafKind, leafGood}
 
 -- a number that is not the least one is more
 past : (a n : ℕ) → a ≤ n → (n ≡ a → ⊥) → a + 1 ≤ n
@@ -38,6 +40,30 @@ between a n h g = omega arith
 
 last-is : (kind : ℕ) → 2 ≤ kind → kind ≤ 7 → (kind ≡ 2 → ⊥) → (kind ≡ 3 → ⊥) → (kind ≡ 4 → ⊥) → (kind ≡ 5 → ⊥) → (kind ≡ 6 → ⊥) → kind ≡ 7
 last-is kind low high x₂ x₃ x₄ x₅ x₆ = between 7 kind (past 6 kind (past 5 kind (past 4 kind (past 3 kind (past 2 kind low x₂) x₃) x₄) x₅) x₆) high
+
+-- ---- a leaf
+
+-- the kind of a leaf that is no enumeration
+pub scalar-kind : (kind : ℕ) → leafKind kind ≡ true → (kind ≡ 8 → ⊥) → kind ≡ 1
+unfolding leafKind pick
+scalar-kind kind l n =
+    ⊎-elim
+    (λ (e : kind ≡ 1). e)
+    (λ (x : kind ≡ 1 → ⊥). let z : false ≡ true = rw (ne-eqb kind 1 x, ne-eqb kind 8 n) at l in let y : _≡_ {A = ℕ} 0 1 = cc in absurd (omega arith))
+    (same-or-not kind 1)
+
+-- the kind of a node that is no leaf
+pub leaf-not : (kind n : ℕ) → leafKind kind ≡ false → leafKind n ≡ true → kind ≡ n → ⊥
+leaf-not kind n a b e = let z : false ≡ true = sym a ∙ ap leafKind e ∙ b in let y : _≡_ {A = ℕ} 0 1 = cc in omega arith
+
+module _ (p : List ℕ) (k kind : ℕ) (is : kind ≡ getD p k 0) (s : List ℕ) where
+  pub good-enum : kind ≡ 8 → enumeration s ≡ leafGood (look p k) s
+  unfolding leafGood
+  good-enum e = rw (look-enum p k (sym is ∙ e))
+
+  pub good-scalar : (f : ℕ) → f ≡ getD p (k + 1) 0 → kind ≡ 1 → scalar f s ≡ leafGood (look p k) s
+  unfolding leafGood
+  good-scalar f ef e = rw (look-leaf p k (sym is ∙ e), ef)
 
 module _ (p : List ℕ) (k kind : ℕ) (c : Container p k kind) (s : List ℕ) where
   -- ---- a container's own head
@@ -94,45 +120,31 @@ module _ (p : List ℕ) (k kind : ℕ) (c : Container p k kind) (s : List ℕ) w
         (λ (n : kind ≡ 2 → ⊥). let e : kind ≡ 7 = last-is kind (c .low) (c .high) n x₃ x₄ x₅ x₆ in rw (look-range p k (sym (c .is) ∙ e)))
         (same-or-not kind 2)
 
--- ---- the head of an element of a sparse object
+-- ---- the head of an element of a sparse object: its index is read without the marks, and then looked for among them
 
-module _ (s cards : List ℕ) (marks : List Bool) (at : ℕ) (x : Index) (n : ℕ) (en : n ≡ length cards) (e : x ≡ sparseIndex s n marks at) where
-  pub bad-index : (m : ℕ) → x ≡ Bad m → Fault (indexFault x) ≡ sparseHead s cards marks at
+module _ (s cards : List ℕ) (marks : List Bool) (at n : ℕ) (en : n ≡ length cards) where
+  pub head-bad : (x : Index) (m f : ℕ) → x ≡ sparseIndex s n [] at → x ≡ Bad m → f ≡ indexFault x → sparseHead s cards marks at ≡ Fault f
   unfolding indexFault
-  bad-index m b = rw b (sym (sparse-bad s cards marks at m (rw (← en) (sym e ∙ b))))
+  head-bad x m f e b ef = rw (ef, b) (sparse-bad s cards marks at m (rw (← en) (index-bad s n marks at m (sym e ∙ b))))
 
-  pub known-index : (i : ℕ) (r : Bool) → x ≡ Known i → r ≡ requires (getD cards i 0) → optional s r i (at + 8) (word s (at + 4)) ≡ sparseHead s cards marks at
-  known-index i r b g = rw g (sym (sparse-known s cards marks at i (rw (← en) (sym e ∙ b))))
+  module _ (i : ℕ) (e : Known i ≡ sparseIndex s n [] at) where
+    pub head-twice : getD marks i false ≡ true → sparseHead s cards marks at ≡ Fault 26
+    unfolding pick
+    head-twice g = sparse-bad s cards marks at 26 (rw (← en) (index-marked s n marks at i true (sym e) g))
+
+    pub head-new : getD marks i false ≡ false → sparseHead s cards marks at ≡ optional s (requires (getD cards i 0)) i (at + 8) (word s (at + 4))
+    unfolding pick
+    head-new g = sparse-known s cards marks at i (rw (← en) (index-marked s n marks at i false (sym e) g))
 
 -- ---- the elements that were not given
 
-module _ (cards : List ℕ) (marks : List Bool) (i : ℕ) where
-  module _ (r : Bool) (er : r ≡ requires (getD cards i 0)) where
-    pub lacks-free : r ≡ false → false ≡ lacks cards marks i
-    unfolding lacks pick
-    lacks-free e = rw (← er, e)
+one-more : (b r m : Bool) → b || (r && not m) ≡ pick b true (pick r (not m) false)
+unfolding pick
+one-more true r m = refl
+one-more false true m = refl
+one-more false false m = refl
 
-    pub lacks-given : (m : Bool) → m ≡ getD marks i false → r ≡ true → m ≡ true → false ≡ lacks cards marks i
-    unfolding lacks pick
-    lacks-given m em e f = rw (← er, e, ← em, f)
-
-    pub lacks-one : (m : Bool) → m ≡ getD marks i false → r ≡ true → m ≡ false → true ≡ lacks cards marks i
-    unfolding lacks pick
-    lacks-one m em e f = rw (← er, e, ← em, f)
-
-  -- one more, where none was lacking before
-  pub lacking-next : (b : Bool) → lacking cards marks i ≡ false → b ≡ lacks cards marks i → lacking cards marks (i + 1) ≡ b
-  unfolding lacking lacks pick
-  lacking-next b so e = rw (add-one, so) (sym e)
-
--- one that is lacking early is lacking
-pub lacking-later : (cards : List ℕ) (marks : List Bool) (i d : ℕ) → lacking cards marks i ≡ true → lacking cards marks (d + i) ≡ true
-unfolding lacking pick
-lacking-later cards marks i zero h = rw zero-add h
-lacking-later cards marks i (suc d) h = rw (suc-add d i, lacking-later cards marks i d h)
-
--- n is what the cardinalities are, and one of them is lacking
-pub lacking-any : (cards : List ℕ) (marks : List Bool) (i n : ℕ) → n ≡ length cards → i < n → lacking cards marks (i + 1) ≡ true → true ≡ lacking cards marks (length cards)
-lacking-any cards marks i n e h l =
-    let d : n - (i + 1) + (i + 1) ≡ n = omega arith in
-    sym (rw (← e, ← d) (lacking-later cards marks (i + 1) (n - (i + 1)) l))
+-- one more cardinality: r is whether it is required
+pub lacking-next : (cards : List ℕ) (marks : List Bool) (i : ℕ) (b r : Bool) → b ≡ lacking cards marks i → r ≡ requires (getD cards i 0) → b || (r && not (getD marks i false)) ≡ lacking cards marks (i + 1)
+unfolding lacking
+lacking-next cards marks i b r eb er = one-more b r (getD marks i false) ∙ rw (add-one, eb, er)

@@ -22,7 +22,7 @@ use Rattle.scalars.specs.Scalars.{scalar, enumeration}
 use Rattle.rules.specs.Node.{Node, leaf, enum, row, arrays, tuple, object, sparse, range, refAt}
 use Rattle.rules.specs.Forest.{Entry, Forest, empty, tree, append, width, count, words, entryWords}
 use Rattle.rules.specs.Values.{Outcome, refused, listed, then, under, entryOf, Rule, absent, present, member, Form, ending, elements, rowForm, sparseForm, noMarks, openingOf, leafRule, rowRule, sparseRule, byNode, value, valueOf}
-use Rattle.value.specs.Walk.{Walk, stopped, reached, walkOf, led}
+use Rattle.value.specs.Walk.{Walk, stopped, reached, walkOf, led, endStep}
 use Rattle.value.specs.declared.Step.{Step}
 use Rattle.value.specs.declared.Step.the-variants.{Refused, Reached}
 
@@ -126,6 +126,13 @@ single look = value-single look _
 
 -- ---- the elements of a container
 
+-- the end of them
+ended : (w b : Bool) (base k : ℕ) (l : List ℕ) → walkOf (endStep w b base k) l ≡ led (pick w (pick b (refused 27 base) (listed empty)) (refused 21 base)) k l
+unfolding walkOf endStep led pick words
+ended true true base k l = refl
+ended true false base k l = rw add-zero
+ended false b base k l = refl
+
 module _ (rule : Rule) (one : Single rule) (ref : ℕ → Option ℕ) (base : ℕ) (s : List ℕ) where
   absent-one : (r : Option ℕ) (i start : ℕ) (f : Forest) → absent r i start ≡ listed f → width f ≡ 1
   unfolding absent width
@@ -180,17 +187,13 @@ module _ (rule : Rule) (one : Single rule) (ref : ℕ → Option ℕ) (base : �
         unfolding elements ending
         none-is = let e : n ≡ 0 = omega arith in rw e
 
-        pub done-left : (at ≡ length s → ⊥) → stopped 21 base ≡ led (elements form rule ref base s n st at) k l
-        unfolding led pick
-        done-left h = rw (none-is, ne-eqb at (length s) h)
+        pub done : (w b : Bool) → w ≡ eqb at (length s) → b ≡ form .lacks st → (x : Step) → x ≡ endStep w b base k → walkOf x l ≡ led (elements form rule ref base s n st at) k l
+        done w b ew eb x ex = rw (ex, none-is, ← ew, ← eb) (ended w b base k l)
 
-        pub done-lacking : at ≡ length s → form .lacks st ≡ true → stopped 27 base ≡ led (elements form rule ref base s n st at) k l
-        unfolding led pick
-        done-lacking h e = rw (none-is, eq-eqb at (length s) h, e)
-
-        pub done-all : at ≡ length s → form .lacks st ≡ false → reached k l ≡ led (elements form rule ref base s n st at) k l
-        unfolding led pick words
-        done-all h e = rw (none-is, eq-eqb at (length s) h, e, add-zero)
+      -- an element whose head is refused
+      pub turn-fault : (n : ℕ) → 0 < n → (m : ℕ) → form .head st at ≡ Fault m → (x : Step) → x ≡ Refused m base → walkOf x l ≡ led (elements form rule ref base s n st at) k l
+      unfolding member then led walkOf
+      turn-fault n h m e x ex = rw ex (sym (next-one n h ∙ rw e))
 
     -- a turn of the loop: the next element's head, its answer, and the state after it
     module _ (st : S) (pos k n : ℕ) (l : List ℕ) (z : 0 < n) (h : Head) (eh : h ≡ form .head st pos) (x : Step) (l′ : List ℕ) (q : walkOf x l′ ≡ led (member rule ref base s h) k l) where

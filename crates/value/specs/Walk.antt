@@ -2,15 +2,17 @@
 -- Assumes nothing: these are definitions.
 use mathlib.Core.Path.{_≡_}
 use Prim.Native.Nat.{ℕ, _+_, _*_, _^_, _<_, _≤_}
-use mathlib.Core.Bool.{Bool, true, false, not}
+use mathlib.Core.Bool.{Bool, true, false}
 use mathlib.Core.List.{List}
+use lib.Dec.{eqb}
 use lib.ListN.{length, getD}
 use lib.Seq.{sets}
 use Rattle.rules.specs.Forest.{words}
 use Rattle.rules.specs.Values.{Outcome, refused, listed}
 use Rattle.rules.specs.Node.{Node, leaf, enum, row, arrays, tuple, object, sparse, range}
 use Rattle.wire.specs.Choice.{pick}
-use Rattle.heads.specs.Heads.{Inside, indexOf, endOf, requires}
+use Rattle.scalars.specs.Scalars.{scalar, enumeration}
+use Rattle.heads.specs.Heads.{Inside, indexOf, endOf}
 use Rattle.heads.specs.Bounds.{From}
 use Rattle.heads.specs.Faults.{headFault}
 use Rattle.heads.specs.declared.Head.{Head}
@@ -32,10 +34,29 @@ unfoldable pub led : Outcome → ℕ → List ℕ → Walk
 led (refused n p) k l = stopped n p
 led (listed f) k l = reached (k + length (words f)) (sets l k (words f))
 
+-- the end of a container's elements: whether no byte is left over, and whether a required index is lacking
+unfoldable pub endStep : Bool → Bool → ℕ → ℕ → Step
+endStep whole lacks base at = pick whole (pick lacks (Refused 27 base) (Reached at)) (Refused 21 base)
+
 -- by the byte at e, at most 1 + e / 4 entries of five words: each has at least four bytes of its own
 unfoldable pub Within : ℕ → Step → Type 0
 Within e (Refused q p) = Unit {0}
 Within e (Reached at) = 4 * at ≤ 5 * e + 20
+
+-- a leaf's kinds: a scalar's and an enumeration's
+unfoldable pub leafKind : ℕ → Bool
+leafKind kind = pick (eqb kind 1) true (eqb kind 8)
+
+-- whether a leaf's content is permitted
+unfoldable pub leafGood : Node → List ℕ → Bool
+leafGood (leaf f) s = scalar f s
+leafGood enum s = enumeration s
+leafGood (row r) s = false
+leafGood (arrays r) s = false
+leafGood (tuple refs) s = false
+leafGood (object refs cards) s = false
+leafGood (sparse refs cards) s = false
+leafGood (range r) s = false
 
 -- a container whose elements come in the order of their indexes
 unfoldable pub IsRow : Node → Type 0
@@ -64,10 +85,6 @@ pub record HeadIn (v : Node) (n at : ℕ) (h : Head) : Type 0 where
   pub from : From (at + 4) h
   pub refers : headFault h ≡ 0 → Refers v (indexOf h)
   pub small : indexOf h < 2 ^ 32
-
--- the element with an index is required and was not given
-unfoldable pub lacks : List ℕ → List Bool → ℕ → Bool
-lacks cards marks i = pick (requires (getD cards i 0)) (not (getD marks i false)) false
 
 -- an element that was reached is no refusal, and its words are few enough for its end
 unfoldable pub WithinHead : ℕ → Head → Step → Type 0

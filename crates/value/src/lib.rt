@@ -7,5 +7,5 @@ pub mod walk;
 // Where a walk over a value ends: refused, with number and place; or past the last word of its entries.
 pub enum Step {
     Refused { no: u32, place: u32 },
-    Reached { at: usize },
+    Reached { at: u32 },
 }

@@ -1,15 +1,36 @@
 // The heads of a node's values, by the node's kind.
 use heads::Head;
-use heads::Index;
 use heads::Opening;
 use heads::sparse::Seen;
 ghost use mathlib.Core.Path.{_≡_};
+ghost use mathlib.Core.Bool.{true};
 ghost use Prim.Native.Nat.{ℕ, _+_, _<_, _≤_};
 ghost use lib.ListN.{length, getD};
-ghost use Rattle.heads.specs.Heads.{sparseHead, lacking};
+ghost use Rattle.heads.specs.Heads.{optional, requires, word, lacking};
 ghost use Rattle.rules.specs.Values.{openingOf, rowHead};
 ghost use Rattle.plan.specs.Plan.{look, cardsAt, At};
-ghost use Rattle.value.specs.Walk.{Container, lacks};
+ghost use Rattle.value.specs.Walk.{Container, leafKind, leafGood};
+
+// Whether a node of this kind is a leaf: a scalar (1) or an enumeration (8).
+pub fn is_leaf(kind: u32) -> bool
+    ensures { λ b. ⌜ b ≡ leafKind kind ⌝ }
+{
+    if kind == 1 {
+        return true;
+    }
+    kind == 8
+}
+
+// Whether a leaf's content is permitted.
+pub fn leaf_ok(plan: &[u32], node: usize, kind: u32, part: &[u8]) -> bool
+    requires { ⌜ (At (now plan) node) × (kind ≡ getD (now plan) node 0) × (leafKind kind ≡ true) ⌝ }
+    ensures { λ b. ⌜ b ≡ leafGood (look (now (plan .entry)) node) (now (part .entry)) ⌝ }
+{
+    if kind == 8 {
+        return scalars::enumeration_ok(part);
+    }
+    scalars::scalar_ok(plan::node::second_at(plan, node) as u32, part)
+}
 
 // The head of a container.
 pub fn open_node(plan: &[u32], node: usize, kind: u32, part: &[u8]) -> Opening
@@ -46,46 +67,27 @@ pub fn row_head(plan: &[u32], node: usize, kind: u32, part: &[u8], i: usize, at:
     heads::element::plain_head(part, 0, i, at)
 }
 
-// The head of an element of a sparse object, with the indexes that were given before it.
-pub fn sparse_head(plan: &[u32], node: usize, part: &[u8], seen: Seen, at: usize) -> Head
-    requires { ⌜ (At (now plan) node) × (getD (now plan) node 0 ≡ 6) × (at ≤ length (now part)) ⌝ }
-    ensures { λ r. ⌜ r ≡ sparseHead (now (part .entry)) (cardsAt (now (plan .entry)) node) (seen .marks) at ⌝ }
+// The head of an element of a sparse object, after its index.
+pub fn sparse_head(plan: &[u32], node: usize, part: &[u8], i: usize, at: usize) -> Head
+    requires { ⌜ (At (now plan) node) × (getD (now plan) node 0 ≡ 6) × (i < getD (now plan) (node + 1) 0) × (at + 8 ≤ length (now part)) ⌝ }
+    ensures { λ r. ⌜ r ≡ optional (now (part .entry)) (requires (getD (cardsAt (now (plan .entry)) node) i 0)) i (at + 8) (word (now (part .entry)) (at + 4)) ⌝ }
 {
-    let n = plan::node::second_at(plan, node);
-    let index = heads::sparse::sparse_index(part, n, seen, at);
-    let Index::Known(i) = index else {
-        return Head::Fault(heads::parts::index_fault(index));
-    };
     let required = heads::element::required(plan::node::card_of(plan, node, i));
     heads::element::sparse_length(part, required, i, at)
 }
 
-// Whether the element with an index is required and was not given.
-fn is_lacking(plan: &[u32], node: usize, seen: Seen, i: usize) -> bool
-    requires { ⌜ (At (now plan) node) × (getD (now plan) node 0 ≡ 6) × (i < getD (now plan) (node + 1) 0) ⌝ }
-    ensures { λ b. ⌜ b ≡ lacks (cardsAt (now (plan .entry)) node) (seen .marks) i ⌝ }
-{
-    if heads::element::required(plan::node::card_of(plan, node, i)) {
-        if seen.has(i) {
-            return false;
-        }
-        return true;
-    }
-    false
-}
-
-// Whether any element of a sparse object is required and was not given.
+// Whether any element of a sparse object is required and was not given. The loop has no early end, so that it becomes one over vectors.
 pub fn any_lacking(plan: &[u32], node: usize, seen: Seen) -> bool
     requires { ⌜ (At (now plan) node) × (getD (now plan) node 0 ≡ 6) ⌝ }
     ensures { λ b. ⌜ b ≡ lacking (cardsAt (now (plan .entry)) node) (seen .marks) (length (cardsAt (now (plan .entry)) node)) ⌝ }
 {
     let n = plan::node::second_at(plan, node);
+    let mut missing = false;
     let mut i: usize = 0;
     while i < n {
-        if is_lacking(plan, node, seen, i) {
-            return true;
-        }
+        let required = heads::element::required(plan::node::card_of(plan, node, i));
+        missing = missing | (required & !seen.marks[i]);
         i += 1;
     }
-    false
+    missing
 }

@@ -4,47 +4,78 @@ use crate::Step;
 use crate::entry;
 use crate::node;
 use heads::Head;
+use heads::Index;
 use heads::Opening;
 use heads::sparse::Seen;
 ghost use mathlib.Core.Path.{_≡_};
+ghost use mathlib.Core.Bool.{true};
+ghost use mathlib.Core.Option.{some};
 ghost use Prim.Native.Nat.{ℕ, _+_, _*_, _^_, _<_, _≤_};
 ghost use lib.ListN.{length, getD};
 ghost use Rattle.rules.specs.Node.{refAt};
-ghost use Rattle.rules.specs.Values.{leafRule, member, elements, rowForm, sparseForm, noMarks, valueOf};
+ghost use Rattle.rules.specs.Values.{absent, member, elements, rowForm, sparseForm, noMarks, valueOf};
 ghost use Rattle.plan.specs.Plan.{look, cardsAt, At};
-ghost use Rattle.value.specs.Walk.{walkOf, led, Within, WithinHead, Holds, HeadIn};
+ghost use Rattle.value.specs.declared.Step.the-variants.{Refused, Reached};
+ghost use Rattle.value.specs.Walk.{walkOf, led, leafKind, endStep, Within, WithinHead, Container, Holds, HeadIn};
 
-// A scalar or an enumeration, whose content is permitted or not.
+// A refusal of what stands at a place.
+fn refused(no: u32, place: usize) -> Step
+    requires { ⌜ place ≤ 65535 ⌝ }
+    ensures { λ r. ⌜ r ≡ Refused no place ⌝ }
+{
+    Step::Refused {
+        no,
+        place: place as u32,
+    }
+}
+
+// The end of a container's elements: no byte may be left over (21), and no required index may be lacking (27).
+fn end_elements(whole: bool, lacking: bool, base: usize, to: usize) -> Step
+    requires { ⌜ (base ≤ 65535) × (to < 2 ^ 32) ⌝ }
+    ensures { λ r. ⌜ r ≡ endStep whole lacking base to ⌝ }
+{
+    if whole {
+        if lacking {
+            return refused(27, base);
+        }
+        return Step::Reached { at: to as u32 };
+    }
+    refused(21, base)
+}
+
+// A scalar or an enumeration, whose content is permitted or not (24).
 fn walk_leaf(
-    good: bool,
+    plan: &[u32],
     node: usize,
+    kind: u32,
     index: usize,
     base: usize,
     part: &[u8],
     list: &mut [u32],
     at: usize,
 ) -> Step
-    requires { ⌜ (node < 2 ^ 32) × (index < 2 ^ 32) × (base + length (now part) ≤ 65535) × (4 * at ≤ 5 * base) ⌝ }
-    ensures { λ r. ⌜ walkOf r (now (list .exit)) ≡ led (leafRule good node index base (now (part .entry))) at (now (list .entry)) ⌝ }
+    requires { ⌜ (At (now plan) node) × (kind ≡ getD (now plan) node 0) × (leafKind kind ≡ true) × (index < 2 ^ 32) × (base + length (now part) ≤ 65535) × (4 * at ≤ 5 * base) ⌝ }
+    ensures { λ r. ⌜ walkOf r (now (list .exit)) ≡ led (valueOf (look (now (plan .entry))) node index base (now (part .entry))) at (now (list .entry)) ⌝ }
     ensures within { λ r. ⌜ Within (base + length (now (part .entry))) r ⌝ }
 {
-    if good {
-        entry::put_entry(
-            list,
-            at,
-            node as u32,
-            index as u32,
-            base as u32,
-            part.len() as u32,
-            0,
-        );
+    if node::leaf_ok(plan, node, kind, part) {
+        entry::put_entry(list, at, node, index, base, part.len(), 0);
         return Step::Reached {
-            at: at + entry::WORDS,
+            at: (at + entry::WORDS) as u32,
         };
     }
-    Step::Refused {
-        no: 24,
-        place: base as u32,
+    refused(24, base)
+}
+
+// An element of length -1, which is listed with the length of all ones and nothing below it.
+fn walk_absent(node: usize, index: usize, start: usize, list: &mut [u32], at: usize) -> Step
+    requires { ⌜ (node < 2 ^ 32) × (index < 2 ^ 32) × (start ≤ 65535) × (at ≤ 131072) ⌝ }
+    ensures { λ r. ⌜ walkOf r (now (list .exit)) ≡ led (absent (some node) index start) at (now (list .entry)) ⌝ }
+    ensures within { λ r. ⌜ r ≡ Reached (at + 5) ⌝ }
+{
+    entry::put_entry(list, at, node, index, start, 4294967295, 0);
+    Step::Reached {
+        at: (at + entry::WORDS) as u32,
     }
 }
 
@@ -63,13 +94,8 @@ pub fn walk_value(
     ensures within { λ r. ⌜ Within (base + length (now (part .entry))) r ⌝ }
 {
     let kind = plan::node::kind_at(plan, node);
-    if kind == 1 {
-        let good = scalars::scalar_ok(plan::node::second_at(plan, node) as u32, part);
-        return walk_leaf(good, node, index, base, part, list, at);
-    }
-    if kind == 8 {
-        let good = scalars::enumeration_ok(part);
-        return walk_leaf(good, node, index, base, part, list, at);
+    if node::is_leaf(kind) {
+        return walk_leaf(plan, node, kind, index, base, part, list, at);
     }
     let opening = node::open_node(plan, node, kind, part);
     let Opening::Elements {
@@ -78,34 +104,14 @@ pub fn walk_value(
         at: from,
     } = opening
     else {
-        return Step::Refused {
-            no: heads::parts::opening_fault(opening),
-            place: base as u32,
-        };
+        return refused(heads::parts::opening_fault(opening), base);
     };
-    entry::put_entry(
-        list,
-        at,
-        node as u32,
-        index as u32,
-        base as u32,
-        part.len() as u32,
-        count as u32,
-    );
+    entry::put_entry(list, at, node, index, base, part.len(), count);
+    let to = at + entry::WORDS;
     if kind == 6 {
-        return walk_sparse(plan, node, count, base, from, part, list, at + entry::WORDS);
+        return walk_sparse(plan, node, count, base, from, part, list, to);
     }
-    walk_row(
-        plan,
-        node,
-        count,
-        first,
-        base,
-        from,
-        part,
-        list,
-        at + entry::WORDS,
-    )
+    walk_row(plan, node, count, first, base, from, part, list, to)
 }
 
 // Elements in the order of their indexes.
@@ -120,7 +126,7 @@ fn walk_row(
     list: &mut [u32],
     at: usize,
 ) -> Step
-    requires { ⌜ (At (now plan) node) × (2 ≤ getD (now plan) node 0) × (getD (now plan) node 0 ≤ 7) × (getD (now plan) node 0 ≡ 6 → ⊥) × (Holds (look (now plan) node) (first + count)) × (first + count < 2 ^ 32) × (base + length (now part) ≤ 65535) × (from ≤ length (now part)) × (4 * at ≤ 5 * (base + from) + 20) ⌝ }
+    requires { ⌜ (At (now plan) node) × (Container (now plan) node (getD (now plan) node 0)) × (getD (now plan) node 0 ≡ 6 → ⊥) × (Holds (look (now plan) node) (first + count)) × (first + count < 2 ^ 32) × (base + length (now part) ≤ 65535) × (from ≤ length (now part)) × (4 * at ≤ 5 * (base + from) + 20) ⌝ }
     ensures { λ r. ⌜ walkOf r (now (list .exit)) ≡ led (elements (rowForm (look (now (plan .entry)) node) (now (part .entry))) (valueOf (look (now (plan .entry)))) (refAt (look (now (plan .entry)) node)) base (now (part .entry)) count first from) at (now (list .entry)) ⌝ }
     ensures within { λ r. ⌜ Within (base + length (now (part .entry))) r ⌝ }
 {
@@ -135,18 +141,12 @@ fn walk_row(
         let Step::Reached { at: next } = step else {
             return step;
         };
-        to = next;
+        to = next as usize;
         pos = heads::parts::end_of(head);
         i += 1;
         left -= 1;
     }
-    if pos == part.len() {
-        return Step::Reached { at: to };
-    }
-    Step::Refused {
-        no: 21,
-        place: base as u32,
-    }
+    end_elements(pos == part.len(), false, base, to)
 }
 
 // Elements in any order, each with its index; none is given twice, and none that is required is left out.
@@ -164,34 +164,31 @@ fn walk_sparse(
     ensures { λ r. ⌜ walkOf r (now (list .exit)) ≡ led (elements (sparseForm (cardsAt (now (plan .entry)) node) (now (part .entry))) (valueOf (look (now (plan .entry)))) (refAt (look (now (plan .entry)) node)) base (now (part .entry)) count noMarks from) at (now (list .entry)) ⌝ }
     ensures within { λ r. ⌜ Within (base + length (now (part .entry))) r ⌝ }
 {
+    let n = plan::node::second_at(plan, node);
     let mut seen = Seen::new();
     let mut left = count;
     let mut pos = from;
     let mut to = at;
     while 0 < left {
-        let head = node::sparse_head(plan, node, part, seen, pos);
+        let index = heads::sparse::sparse_index(part, n, pos);
+        let Index::Known(i) = index else {
+            return refused(heads::parts::index_fault(index), base);
+        };
+        seen = seen.mark(i);
+        if seen.twice {
+            return refused(26, base);
+        }
+        let head = node::sparse_head(plan, node, part, i, pos);
         let step = walk_member(plan, node, base, part, head, pos, list, to);
         let Step::Reached { at: next } = step else {
             return step;
         };
-        to = next;
+        to = next as usize;
         pos = heads::parts::end_of(head);
-        seen = seen.with(heads::parts::index_of(head));
         left -= 1;
     }
-    if pos == part.len() {
-        if node::any_lacking(plan, node, seen) {
-            return Step::Refused {
-                no: 27,
-                place: base as u32,
-            };
-        }
-        return Step::Reached { at: to };
-    }
-    Step::Refused {
-        no: 21,
-        place: base as u32,
-    }
+    let lacking = node::any_lacking(plan, node, seen);
+    end_elements(pos == part.len(), lacking, base, to)
 }
 
 // The element with a head that was read at `pos`.
@@ -210,37 +207,21 @@ fn walk_member(
     ensures within { λ r. ⌜ WithinHead base head r ⌝ }
 {
     match head {
-        Head::Fault(n) => Step::Refused {
-            no: n,
-            place: base as u32,
-        },
+        Head::Fault(n) => refused(n, base),
         Head::Absent { index, start } => {
             let child = plan::node::ref_of(plan, node, index);
-            entry::put_entry(
-                list,
-                at,
-                child as u32,
-                index as u32,
-                (base + start) as u32,
-                4294967295,
-                0,
-            );
-            Step::Reached {
-                at: at + entry::WORDS,
-            }
+            walk_absent(child, index, base + start, list, at)
         }
         Head::Present { index, start, size } => {
             let child = plan::node::ref_of(plan, node, index);
             let end = start + size;
-            walk_value(
-                plan,
-                child,
-                index,
-                base + start,
-                &part[start..end],
-                list,
-                at,
-            )
+            let place = base + start;
+            let step = walk_value(plan, child, index, place, &part[start..end], list, at);
+            // Made anew: to hand the whole enum on is a copy that waits until its parts are stored, for every element.
+            let Step::Reached { at: next } = step else {
+                return step;
+            };
+            Step::Reached { at: next }
         }
     }
 }

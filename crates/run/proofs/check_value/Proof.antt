@@ -2,7 +2,6 @@ use mathlib.Core.Path.{_≡_, refl}
 use native.Mathlib.Omega.{arith}
 use Prim.Native.Nat.{ℕ}
 use Rattle.plan.proofs.Nodes.{at-root}
-use Rattle.value.specs.Walk.{Within}
 use Rattle.run.proofs.Runs.{two, root-some, check-nothing, check-bytes, check-refused, check-listed}
 use borrow.Author.Needs.{needs}
 use Rattle.run.proofs.check_value.Statement.{statement}
@@ -35,11 +34,6 @@ enum-known-no c = search needs
 enum-known-at : tie.Need-enum-known-at
 enum-known-at c = search needs
 
-cast-t17 : tie.Need-cast-t17
-unfolding Within
-cast-t17 c =
-    let h = rw (c .before .at .given .1) at (c .before .before .before .before .before .walk-value .ensures .1) in omega (arith, c .before .before .before .before .before .before .before .before .before .before .before .before .pre .1)
-
 same-length : tie.Need-same-length
 same-length c = search needs
 
@@ -65,7 +59,6 @@ check-value-spec =
     walk-value-requires
     enum-known-no
     enum-known-at
-    cast-t17
     same-length
     returns-3
     same-length-2

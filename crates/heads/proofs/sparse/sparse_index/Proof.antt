@@ -1,5 +1,4 @@
 -- `heads::sparse::sparse_index` meets its contract: the tests are those of `sparseIndex`, in its order. Assumes nothing.
-use mathlib.Core.Path.{sym, _∙_}
 use borrow.Author.Tests.{lt-ltb, le-ltb, le-leb, lt-leb}
 use Rattle.wire.specs.Choice.{pick}
 use Rattle.heads.specs.Heads.{sparseIndex, word}
@@ -25,20 +24,10 @@ unfolding sparseIndex word pick
 returns-2 c =
     simp (le-ltb _ _ (c .before .before .if1 .left), ← c .before .u32-at .ensures, le-leb _ _ (c .if2 .taken))
 
-has-requires : tie.Need-has-requires
-has-requires c κs = search needs
-
 returns-3 : tie.Need-returns-3
 unfolding sparseIndex word pick
 returns-3 c =
-    simp (le-ltb _ _ (c .before .before .before .before .if1 .left), ← c .before .before .before .u32-at .ensures, lt-leb _ _ (c .before .before .if2 .left), sym (c .before .has .ensures) ∙ c .if3 .taken)
-
-returns-4 : tie.Need-returns-4
-unfolding sparseIndex word pick
-returns-4 c =
-    simp (le-ltb _ _ (c .before .before .before .before .if1 .left), ← c .before .before .before .u32-at .ensures, lt-leb _ _ (c .before .before .if2 .left), sym (c .before .has .ensures) ∙ c .if3 .left)
+    simp (le-ltb _ _ (c .before .before .if1 .left), ← c .before .u32-at .ensures, lt-leb _ _ (c .if2 .left))
 
 pub sparse-index-spec : {M : Type 1} → statement M
-sparse-index-spec =
-    tie.close
-    (tie.spec sub-if1 returns u32-at-requires cast-i returns-2 has-requires returns-3 returns-4)
+sparse-index-spec = tie.close (tie.spec sub-if1 returns u32-at-requires cast-i returns-2 returns-3)

@@ -1,60 +1,134 @@
-use Rattle.value.proofs.Entries.{five}
-use mathlib.Core.Path.{_≡_, sym, _∙_}
+use native.Mathlib.Omega.{arith}
 use native.Mathlib.Numerals.{towards-suc}
-use borrow.Author.Needs.{needs}
+use lib.ListN.{length-set}
 use borrow.Author.Needs.{needs}
 use Rattle.value.proofs.entry.put_entry.Statement.{statement}
 use Rattle.value.proofs.entry.put_entry.Tie as tie
 use Rattle.value.proofs.entry.put_entry.Reads as reads
 use Rattle.value.proofs.entry.put_entry.Lts as lts
-use Rattle.value.proofs.entry.put_word.Reads as put-word-reads
+use Rattle.value.proofs.entry.put_part.Reads as put-part-reads
 
-put-word-requires : tie.Need-put-word-requires
-put-word-requires c κs = search needs
+add-if1 : tie.Need-add-if1
+add-if1 c = search needs
 
-add-put-word : tie.Need-add-put-word
-add-put-word c = search needs
+cast-list : tie.Need-cast-list
+cast-list c = search needs
 
-put-word-requires-2 : tie.Need-put-word-requires-2
-put-word-requires-2 c κs = search needs
+mul-list : tie.Need-mul-list
+mul-list c = search needs
 
-add-put-word-2 : tie.Need-add-put-word-2
-add-put-word-2 c = search needs
+slice-write-list : tie.Need-slice-write-list
+slice-write-list c = search needs
 
-put-word-requires-3 : tie.Need-put-word-requires-3
-put-word-requires-3 c κs = search needs
+cast-list-2 : tie.Need-cast-list-2
+cast-list-2 c = search needs
 
-add-put-word-3 : tie.Need-add-put-word-3
-add-put-word-3 c = search needs
+add-list : tie.Need-add-list
+add-list c = search needs
 
-put-word-requires-4 : tie.Need-put-word-requires-4
-put-word-requires-4 c κs = search needs
+mul-list-2 : tie.Need-mul-list-2
+mul-list-2 c = search needs
 
-add-put-word-4 : tie.Need-add-put-word-4
-add-put-word-4 c = search needs
+slice-write-list-2 : tie.Need-slice-write-list-2
+slice-write-list-2 c = simp length-set (omega (arith, c .if1 .taken))
 
-put-word-requires-5 : tie.Need-put-word-requires-5
-put-word-requires-5 c κs = search needs
+cast-list-3 : tie.Need-cast-list-3
+cast-list-3 c = search needs
+
+add-list-2 : tie.Need-add-list-2
+add-list-2 c = search needs
+
+mul-list-3 : tie.Need-mul-list-3
+mul-list-3 c = search needs
+
+slice-write-list-3 : tie.Need-slice-write-list-3
+slice-write-list-3 c = simp length-set (omega (arith, c .if1 .taken))
+
+cast-list-4 : tie.Need-cast-list-4
+cast-list-4 c = search needs
+
+add-list-3 : tie.Need-add-list-3
+add-list-3 c = search needs
+
+mul-list-4 : tie.Need-mul-list-4
+mul-list-4 c = search needs
+
+slice-write-list-4 : tie.Need-slice-write-list-4
+slice-write-list-4 c = simp length-set (omega (arith, c .if1 .taken))
+
+cast-list-5 : tie.Need-cast-list-5
+cast-list-5 c = search needs
+
+add-list-4 : tie.Need-add-list-4
+add-list-4 c = search needs
+
+mul-list-5 : tie.Need-mul-list-5
+mul-list-5 c = search needs
+
+slice-write-list-5 : tie.Need-slice-write-list-5
+slice-write-list-5 c = simp length-set (omega (arith, c .if1 .taken))
 
 same-length : tie.Need-same-length
 same-length c = search needs
 
 returns : tie.Need-returns
-returns c =
-    five (c .before .before .before .before .before .before .before .before .before .before .before .before .before .before .before .before .before .before .before .before .before .args .list .now) _ _ _ _ _ (c .before .before .before .before .before .before .before .before .before .before .before .before .before .before .before .before .before .before .before .before .before .args .at) (c .before .before .before .before .before .before .before .before .before .before .before .before .before .before .before .before .before .before .before .before .before .args .node) (c .before .before .before .before .before .before .before .before .before .before .before .before .before .before .before .before .before .before .before .before .before .args .index) (c .before .before .before .before .before .before .before .before .before .before .before .before .before .before .before .before .before .before .before .before .before .args .start) (c .before .before .before .before .before .before .before .before .before .before .before .before .before .before .before .before .before .before .before .before .before .args .size) (c .before .before .before .before .before .before .before .before .before .before .before .before .before .before .before .before .before .before .before .before .before .args .count) (c .before .before .before .before .before .before .before .before .before .before .before .before .before .before .before .before .before .before .put-word .ensures) (c .before .before .before .before .before .before .before .before .before .before .before .before .before .before .put-word2 .ensures) (c .before .before .before .before .before .before .before .before .before .before .put-word3 .ensures) (c .before .before .before .before .before .before .put-word4 .ensures) (c .before .before .put-word5 .ensures)
+returns c = simp towards-suc
+
+cast-put-part : tie.Need-cast-put-part
+cast-put-part c = search needs
+
+cast-put-part-2 : tie.Need-cast-put-part-2
+cast-put-part-2 c = search needs
+
+cast-put-part-3 : tie.Need-cast-put-part-3
+cast-put-part-3 c = search needs
+
+cast-put-part-4 : tie.Need-cast-put-part-4
+cast-put-part-4 c = search needs
+
+cast-put-part-5 : tie.Need-cast-put-part-5
+cast-put-part-5 c = search needs
+
+put-part-requires : tie.Need-put-part-requires
+put-part-requires c κs = search needs
+
+same-length-2 : tie.Need-same-length-2
+same-length-2 c = search needs
+
+returns-2 : tie.Need-returns-2
+returns-2 c = search needs
 
 pub put-entry-spec : {M : Type 1} → statement M
 put-entry-spec =
     tie.close
     (tie.spec
-    put-word-requires
-    add-put-word
-    put-word-requires-2
-    add-put-word-2
-    put-word-requires-3
-    add-put-word-3
-    put-word-requires-4
-    add-put-word-4
-    put-word-requires-5
+    add-if1
+    cast-list
+    mul-list
+    slice-write-list
+    cast-list-2
+    add-list
+    mul-list-2
+    slice-write-list-2
+    cast-list-3
+    add-list-2
+    mul-list-3
+    slice-write-list-3
+    cast-list-4
+    add-list-3
+    mul-list-4
+    slice-write-list-4
+    cast-list-5
+    add-list-4
+    mul-list-5
+    slice-write-list-5
     same-length
-    returns)
+    returns
+    cast-put-part
+    cast-put-part-2
+    cast-put-part-3
+    cast-put-part-4
+    cast-put-part-5
+    put-part-requires
+    same-length-2
+    returns-2)

@@ -1,24 +1,25 @@
 use mathlib.Core.Path.{_≡_, refl, sym, ap, _∙_}
-use mathlib.Core.Bool.{false}
 use native.Mathlib.Omega.{arith}
 use Prim.Native.Nat.{_-_, _≤_}
-use Rattle.heads.specs.Heads.{lacking}
+use Rattle.heads.specs.Heads.{lacking, requires}
 use Rattle.plan.specs.Plan.{cardsAt}
 use Rattle.plan.proofs.Looks.{cards-length}
-use Rattle.value.proofs.Nodes.{lacking-next, lacking-any}
+use Rattle.plan.proofs.Nodes.{at-few}
+use Rattle.value.proofs.Nodes.{lacking-next}
 use borrow.Author.Needs.{needs}
 use Rattle.value.proofs.node.any_lacking.Statement.{statement}
 use Rattle.value.proofs.node.any_lacking.Tie as tie
 use Rattle.value.proofs.node.any_lacking.Reads as reads
 use Rattle.value.proofs.node.any_lacking.Lts as lts
+use Rattle.heads.proofs.element.required.Reads as required-reads
+use Rattle.plan.proofs.node.card_of.Reads as card-of-reads
 use Rattle.plan.proofs.node.second_at.Reads as second-at-reads
-use Rattle.value.proofs.node.is_lacking.Reads as is-lacking-reads
 
 abbrev Inv-loop : tie.InvT-loop
-Inv-loop plan node seen n i₀ i = (i ≤ n) × (lacking (cardsAt plan node) (seen .marks) i ≡ false)
+Inv-loop plan node seen n missing₀ i₀ missing i = (i ≤ n) × (missing ≡ lacking (cardsAt plan node) (seen .marks) i)
 
 abbrev μ-loop : tie.MeasureT-loop
-μ-loop plan node seen n i₀ i = n - i
+μ-loop plan node seen n missing₀ i₀ missing i = n - i
 
 second-at-requires : tie.Need-second-at-requires Inv-loop μ-loop
 second-at-requires c κs = search needs
@@ -27,13 +28,16 @@ loop-holds : tie.Need-loop-holds Inv-loop μ-loop
 unfolding lacking
 loop-holds c = (omega arith, refl)
 
-is-lacking-requires : tie.Need-is-lacking-requires Inv-loop μ-loop
-is-lacking-requires c κs =
-    (c .before .before .before .before .pre .0, c .before .before .before .before .pre .1, omega (arith, c .before .before .second-at .ensures))
+card-of-requires : tie.Need-card-of-requires Inv-loop μ-loop
+card-of-requires c κs =
+    (c .before .before .before .before .pre .0, omega (arith, c .before .before .before .before .pre .1), omega (arith, c .before .before .before .before .pre .1), omega (arith, c .before .before .second-at .ensures))
 
-returns : tie.Need-returns Inv-loop μ-loop
-returns c =
-    lacking-any _ _ (c .before .before .before .loop .i) _ (c .before .before .before .before .second-at .ensures ∙ sym (cards-length _ _)) (c .before .before .loop-test .taken) (lacking-next _ _ _ _ (c .before .before .before .loop .inv .1) (c .before .is-lacking .ensures) ∙ c .if1 .taken)
+required-requires : tie.Need-required-requires Inv-loop μ-loop
+required-requires c κs = search needs
+
+element-copy-out-missing : tie.Need-element-copy-out-missing Inv-loop μ-loop
+element-copy-out-missing c =
+    omega (arith, c .before .before .before .before .second-at .ensures, at-few _ _ (c .before .before .before .before .before .before .pre .0) (omega (arith, c .before .before .before .before .before .before .pre .1)) (omega (arith, c .before .before .before .before .before .before .pre .1)))
 
 add-i : tie.Need-add-i Inv-loop μ-loop
 add-i c = search needs
@@ -43,11 +47,11 @@ loop-less c = search needs
 
 loop-again : tie.Need-loop-again Inv-loop μ-loop
 loop-again c =
-    (omega arith, lacking-next _ _ _ _ (c .before .before .before .loop .inv .1) (c .before .is-lacking .ensures) ∙ c .if1 .left)
+    (omega arith, lacking-next _ _ _ _ _ (c .before .before .before .before .loop .inv .1) (c .before .required .ensures ∙ ap requires (c .before .before .card-of .ensures)))
 
-returns-2 : tie.Need-returns-2 Inv-loop μ-loop
-returns-2 c =
-    sym (ap (lacking _ _) (sym (c .before .before .second-at .ensures ∙ sym (cards-length _ _)) ∙ (omega arith)) ∙ c .before .loop .inv .1)
+returns : tie.Need-returns Inv-loop μ-loop
+returns c =
+    c .before .loop .inv .1 ∙ ap (lacking _ _) (omega (arith, c .before .before .second-at .ensures, cards-length (c .before .before .before .before .args .plan .now) (c .before .before .before .before .args .node)))
 
 pub any-lacking-spec : {M : Type 1} → statement M
 any-lacking-spec =
@@ -57,9 +61,10 @@ any-lacking-spec =
     μ-loop
     second-at-requires
     loop-holds
-    is-lacking-requires
-    returns
+    card-of-requires
+    required-requires
+    element-copy-out-missing
     add-i
     loop-less
     loop-again
-    returns-2)
+    returns)
