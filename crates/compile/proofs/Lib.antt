@@ -9,4 +9,7 @@ pub mod Blocks
 pub mod Formed
 pub mod PlanSize
 pub mod Demand3
+pub mod NodeWords
+pub mod Roots
+pub mod Scans
 pub mod EntryBound

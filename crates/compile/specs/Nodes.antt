@@ -1,6 +1,6 @@
 -- The words of a block's node as the code puts them out. Assumes nothing: these are definitions.
 use mathlib.Core.Path.{_≡_}
-use Prim.Native.Nat.{ℕ, zero, suc, _+_}
+use Prim.Native.Nat.{ℕ, _+_}
 use mathlib.Core.List.{List, [], _∷_, map}
 use lib.Dec.{eqb}
 use lib.ListN.{length, getD}
@@ -14,11 +14,13 @@ pub record Puts (ws : List ℕ) (to r : ℕ) (l l′ : List ℕ) : Type 0 where
   pub end : r ≡ to + length ws
   pub words : l′ ≡ sets l to ws
 
--- a set, an array or a range
+-- a set, an array or a range: its kind, and its reference
+unfoldable pub singleKind : List Known → ℕ → ℕ → ℕ
+singleKind known tag r =
+    pick (eqb tag 9) 7 (pick (eqb tag 0) (pick (eqb (getD known r noBlock .tag) 6) 3 2) 2)
+
 unfoldable pub singleWords : List Known → ℕ → ℕ → List ℕ
-singleWords known tag r =
-    pick (eqb tag 9) (7 ∷ nodeAt known r ∷ [])
-    (pick (eqb tag 0) (pick (eqb (getD known r noBlock .tag) 6) (3 ∷ nodeAt known r ∷ []) (2 ∷ nodeAt known r ∷ [])) (2 ∷ nodeAt known r ∷ []))
+singleWords known tag r = singleKind known tag r ∷ nodeAt known r ∷ []
 
 -- an object or a tuple
 unfoldable pub manyWords : List Known → ℕ → List Element → List ℕ

@@ -7,16 +7,16 @@ use plan::words::put_word;
 use plan::words::wide;
 ghost use mathlib.Core.Path.{_≡_};
 ghost use mathlib.Core.List.{_∷_, [], map};
-ghost use Prim.Native.Nat.{ℕ, _+_, _*_, _≤_};
+ghost use Prim.Native.Nat.{_≤_};
 ghost use lib.ListN.{length, getD};
 ghost use lib.Seq.{sets};
 ghost use Rattle.descriptor.specs.Fields.{noBlock, idAt};
 ghost use Rattle.descriptor.specs.Descriptor.{refs, cards, onlyRef, pairs, nodeAt, wordsOf};
 ghost use Rattle.descriptor.specs.Arrays.{Told, Roomy, knownOf, elementsOf};
-ghost use Rattle.compile.specs.Nodes.{Puts, singleWords, manyWords, indexIn};
+ghost use Rattle.compile.specs.Nodes.{Puts, singleKind, singleWords, manyWords, indexIn};
 
 // The word at which an earlier block's node starts; 0 of a block that is not there.
-fn node_at(d: &[u8], known: &[u32], n: usize, r: u32) -> u32
+pub fn node_at(d: &[u8], known: &[u32], n: usize, r: u32) -> u32
     requires { ⌜ Told (now d) (now known) n ⌝ }
     ensures { λ w. ⌜ w ≡ nodeAt (knownOf (now (d .entry)) (now (known .entry)) n) r ⌝ }
 {
@@ -51,7 +51,7 @@ fn tag_at(d: &[u8], known: &[u32], n: usize, r: u32) -> u32
 }
 
 // Two words.
-fn put_two(plan: &mut [u32], to: usize, a: u32, b: u32)
+pub fn put_two(plan: &mut [u32], to: usize, a: u32, b: u32)
     requires { ⌜ to ≤ 4294967296 ⌝ }
     ensures { λ _. ⌜ now (plan .exit) ≡ sets (now (plan .entry)) to (a ∷ b ∷ []) ⌝ }
 {
@@ -69,7 +69,7 @@ fn put_refs(
     plan: &mut [u32],
     to: usize,
 )
-    requires { ⌜ (Told (now d) (now known) n) × (Roomy (now elements) count) × (to ≤ 4294967296) ⌝ }
+    requires { ⌜ (Told (now d) (now known) n) × (Roomy (now elements) count) × (to ≤ 4194304) ⌝ }
     ensures { λ _. ⌜ now (plan .exit) ≡ sets (now (plan .entry)) to (map (nodeAt (knownOf (now (d .entry)) (now (known .entry)) n)) (refs (elementsOf (now (elements .entry)) count))) ⌝ }
 {
     let mut k: usize = 0;
@@ -89,7 +89,7 @@ fn put_pairs(
     plan: &mut [u32],
     to: usize,
 )
-    requires { ⌜ (Told (now d) (now known) n) × (Roomy (now elements) count) × (to ≤ 4294967296) ⌝ }
+    requires { ⌜ (Told (now d) (now known) n) × (Roomy (now elements) count) × (to ≤ 4194304) ⌝ }
     ensures { λ _. ⌜ now (plan .exit) ≡ sets (now (plan .entry)) to (pairs (map (nodeAt (knownOf (now (d .entry)) (now (known .entry)) n)) (refs (elementsOf (now (elements .entry)) count))) (cards (elementsOf (now (elements .entry)) count))) ⌝ }
 {
     let mut k: usize = 0;
@@ -100,23 +100,30 @@ fn put_pairs(
     }
 }
 
-// A node with one reference.
-fn put_single(d: &[u8], known: &[u32], n: usize, tag: u32, r: u32, plan: &mut [u32], to: usize)
-    requires { ⌜ (Told (now d) (now known) n) × (to ≤ 4294967296) ⌝ }
-    ensures { λ _. ⌜ now (plan .exit) ≡ sets (now (plan .entry)) to (singleWords (knownOf (now (d .entry)) (now (known .entry)) n) tag r) ⌝ }
+// The first word of a node with one reference.
+fn single_kind(d: &[u8], known: &[u32], n: usize, tag: u32, r: u32) -> u32
+    requires { ⌜ Told (now d) (now known) n ⌝ }
+    ensures { λ k. ⌜ k ≡ singleKind (knownOf (now (d .entry)) (now (known .entry)) n) tag r ⌝ }
 {
-    let node = node_at(d, known, n, r);
     if tag == 9 {
-        put_two(plan, to, 7, node);
-        return;
+        return 7;
     }
     if tag == kinds::SET {
         if tag_at(d, known, n, r) == kinds::ARRAY {
-            put_two(plan, to, 3, node);
-            return;
+            return 3;
         }
+        return 2;
     }
-    put_two(plan, to, 2, node);
+    2
+}
+
+// A node with one reference.
+fn put_single(d: &[u8], known: &[u32], n: usize, tag: u32, r: u32, plan: &mut [u32], to: usize)
+    requires { ⌜ (Told (now d) (now known) n) × (to ≤ 4194304) ⌝ }
+    ensures { λ _. ⌜ now (plan .exit) ≡ sets (now (plan .entry)) to (singleWords (knownOf (now (d .entry)) (now (known .entry)) n) tag r) ⌝ }
+{
+    let kind = single_kind(d, known, n, tag, r);
+    put_two(plan, to, kind, node_at(d, known, n, r));
 }
 
 // A node with many references.
@@ -162,11 +169,11 @@ pub fn put_node(
     requires { ⌜ (Told (now d) (now known) n) × (Roomy (now elements) (x .count)) × (to ≤ 2097152) ⌝ }
     ensures { λ r. ⌜ Puts (wordsOf (knownOf (now (d .entry)) (now (known .entry)) n) tag (x .format) (elementsOf (now (elements .entry)) (x .count))) to r (now (plan .entry)) (now (plan .exit)) ⌝ }
 {
+    if !kinds::has_values(tag) {
+        return to;
+    }
     match tag {
-        10 => to,
-        11 => to,
-        13 => to,
-        3 => {
+        kinds::SCALAR => {
             put_two(plan, to, 1, x.format);
             to + 2
         }

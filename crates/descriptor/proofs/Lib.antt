@@ -16,3 +16,4 @@ pub mod Sound
 pub mod Progress
 pub mod BlockFuel
 pub mod Accepted
+pub mod IdFirst

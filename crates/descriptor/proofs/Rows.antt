@@ -10,11 +10,11 @@ use Rattle.descriptor.specs.Layouts.{ID, TEXT, BOOL, ANCESTORS, ANCESTOR
 
 -- what holds of each tag's layout that a test does not rule out holds of the layout
 module _ (P : Layout → Type 0) (tag : ℕ) where
-  among : (k : ℕ) (a b : Layout) → (tag ≡ k → ⊥) → P b → P (pick (eqb tag k) a b)
+  pub among : (k : ℕ) (a b : Layout) → (tag ≡ k → ⊥) → P b → P (pick (eqb tag k) a b)
   unfolding pick
   among k a b n p = rw (ne-eqb tag k n) p
 
-  either : (k : ℕ) (a b : Layout) → P a → P b → P (pick (eqb tag k) a b)
+  pub either : (k : ℕ) (a b : Layout) → P a → P b → P (pick (eqb tag k) a b)
   either k a b p q = pick-case P (eqb tag k) a b (λ e. p) (λ e. q)
 
 module _ (tag : ℕ) (n0 : tag ≡ 0 → ⊥) (n1 : tag ≡ 1 → ⊥) (n8 : tag ≡ 8 → ⊥) (n10 : tag ≡ 10 → ⊥) (n11 : tag ≡ 11 → ⊥) (n13 : tag ≡ 13 → ⊥)

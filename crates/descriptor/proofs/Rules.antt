@@ -16,9 +16,10 @@ use Rattle.wire.proofs.Numbers.{be-below}
 use Rattle.plan.specs.Plan.{atLeast}
 use Rattle.wire.proofs.Picks.{pick-yes, pick-no, pick-case, pick-split}
 use Rattle.descriptor.specs.Fields.{Known, noBlock, Element, idAt, formatOf, widthOf, numberAt, extent, idFault, textFault, numberFault, decides, countFault, formatBy, refFault, fault, formatAfter, heightAfter, kept, grown}
-use Rattle.descriptor.specs.Arrays.{tab, elementAt, elementsOf, push}
+use Rattle.descriptor.specs.Arrays.{tab, elementAt, elementsOf, push, knownAt, knownOf, Told}
 use Rattle.descriptor.specs.declared.Draft.{Draft}
 use Rattle.descriptor.proofs.Tabs.{tab-same}
+use Rattle.descriptor.proofs.Known.{one-more}
 
 -- ---- sizes
 
@@ -173,6 +174,43 @@ module _ (a : List ℕ) (n x y z : ℕ) (h : 3 * n + 2 < length a) where
       ap (tab (elementAt stored)) (add-one n)
       ∙ ap (λ (es : List Element). es ++ (elementAt stored n ∷ [])) (tab-same (elementAt stored) (elementAt a) n earlier)
       ∙ ap (λ (e : Element). elementsOf a n ++ (e ∷ [])) last
+
+  -- ---- and of what is known of blocks, as the start, the height and the node of one more
+
+  module _ (d : List ℕ) where
+    earlier-known : (i : ℕ) → i < n → knownAt d stored i ≡ knownAt d a i
+    unfolding knownAt
+    earlier-known i l =
+        rw (
+          apart (3 * i) (λ e. omega arith) (λ e. omega arith) (λ e. omega arith),
+          apart (3 * i + 1) (λ e. omega arith) (λ e. omega arith) (λ e. omega arith),
+          apart (3 * i + 2) (λ e. omega arith) (λ e. omega arith) (λ e. omega arith),
+        )
+
+    last-known : knownAt d stored n ≡ record { start = x; tag = getD d x 0; height = y; node = z }
+    unfolding knownAt
+    last-known = rw (first, second, third)
+
+    pub known-more : knownOf d stored (n + 1) ≡ knownOf d a n ++ (record { start = x; tag = getD d x 0; height = y; node = z } ∷ [])
+    unfolding tab
+    known-more =
+        ap (tab (knownAt d stored)) (add-one n)
+        ∙ ap (λ (ks : List Known). ks ++ (knownAt d stored n ∷ [])) (tab-same (knownAt d stored) (knownAt d a) n earlier-known)
+        ∙ ap (λ (k : Known). knownOf d a n ++ (k ∷ [])) last-known
+
+    pub told-more : Told d a n → n < 1024 → x + 17 ≤ length d → y ≤ 32 → Told d stored (n + 1)
+    told-more t few inside low =
+        record {
+          room = simp length-set (omega (arith, h));
+          few = omega arith;
+          short = t .short;
+          inside =
+              one-more (λ (i : ℕ). getD stored (3 * i) 0 + 17 ≤ length d) n
+              (λ i l. rw (apart (3 * i) (λ e. omega arith) (λ e. omega arith) (λ e. omega arith)) (t .inside i l)) (rw first inside);
+          low =
+              one-more (λ (i : ℕ). getD stored (3 * i + 1) 0 ≤ 32) n
+              (λ i l. rw (apart (3 * i + 1) (λ e. omega arith) (λ e. omega arith) (λ e. omega arith)) (t .low i l)) (rw second low);
+        }
 
 -- ---- an element reference
 

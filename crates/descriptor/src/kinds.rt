@@ -52,6 +52,8 @@ pub const SCALAR: u32 = 3;
 
 pub const ARRAY: u32 = 6;
 
+pub const ANNOTATION: u32 = 127;
+
 // The first fields of a block.
 pub fn head_of(tag: u32) -> [u8; 6]
     ensures { λ r. ⌜ upToEnd r ≡ layout tag .head ⌝ }
