@@ -12,4 +12,5 @@ pub mod Demand3
 pub mod NodeWords
 pub mod Roots
 pub mod Scans
+pub mod Compiles
 pub mod EntryBound
