@@ -76,7 +76,7 @@ unfolding hasNode
 has-same bs k =
     let m : length (summaries bs) ≡ length bs = length-map bs summary in
     elim (decLt k (length bs)) [
-      yes l ↦ pick-yes _ _ _ (lt-ltb k (length (summaries bs)) (omega arith)) ∙ ap valued (sym (tag-same bs k l))
+      | yes l ↦ pick-yes _ _ _ (lt-ltb k (length (summaries bs)) (omega arith)) ∙ ap valued (sym (tag-same bs k l))
       | no l ↦ pick-no _ _ _ (le-ltb k (length (summaries bs)) (omega arith)) ∙ sym (ap valued (tag-out bs k (omega arith)) ∙ none-valued)
     ]
 
@@ -260,6 +260,6 @@ module _ (d root : List ℕ) (a : Answer) (p p′ : List ℕ) (g : Gives (compil
     unfolding after
     follows-run s l l′ r h =
         let o : run.runOf (take w p′) s (length l) ≡ rulesOf d root s (length l) =
-            ap (λ (ws : List ℕ). run.runOf ws s (length l)) (written .first)
-            ∙ demand-three d root (written .words) (compiled-is d root (length p) (written .words) (written .is)) s (length l) in
+        ap (λ (ws : List ℕ). run.runOf ws s (length l)) (written .first)
+        ∙ demand-three d root (written .words) (compiled-is d root (length p) (written .words) (written .is)) s (length l) in
         record { plan = g .plan; gives = rw (written .is) (rw o at h) }
