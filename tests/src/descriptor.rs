@@ -1,27 +1,33 @@
 //! Descriptors for the comparison, and values by them.
 //!
-//! * `draft` is a descriptor as it is made; `clothing` makes good ones from a plan, with ids and
-//!   names by `naming`; `damage` spoils them, and `byte_damage` those that were put together.
+//! * `draft` is a descriptor as it is made; `clothing` makes good ones from a plan, with the blocks
+//!   of `between` among them, and ids and names by `naming`. `damage` and `faults` spoil them, and
+//!   `byte_damage` those that were put together.
 //! * `making` makes a case from them at random.
-//! * [`bytes`] has blocks by hand. `exact`, `refusals`, `order` and `limits` have cases by
-//!   construction whose answers are known, and `sweep` every value of what has few; `fixed` puts
-//!   them together.
+//! * [`bytes`] has blocks by hand. `exact`, `contents`, `references`, `identities`, `order`,
+//!   `heights` and `limits` have cases by construction whose answers are known, and `sweep` every
+//!   value of what has few; `fixed` puts them together.
 //! * `judge` makes the calls and compares.
 
+mod between;
 mod byte_damage;
 pub mod bytes;
 mod case;
 mod clothing;
+mod contents;
 mod damage;
 mod draft;
 mod exact;
+mod faults;
 mod fixed;
+mod heights;
+mod identities;
 mod judge;
 mod limits;
 mod making;
 mod naming;
 mod order;
-mod refusals;
+mod references;
 mod sweep;
 
 use crate::ffi;
@@ -88,8 +94,11 @@ impl<T: Tested> Comparison for Descriptors<T> {
     fn fixed() -> Vec<Case> {
         let mut cases = Cases::default();
         exact::add(&mut cases);
-        refusals::add(&mut cases);
+        contents::add(&mut cases);
+        references::add(&mut cases);
+        identities::add(&mut cases);
         order::add(&mut cases);
+        heights::add(&mut cases);
         limits::add(&mut cases);
         sweep::add(&mut cases);
         cases.0

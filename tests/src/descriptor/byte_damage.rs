@@ -3,8 +3,8 @@
 use super::draft::Laid;
 use crate::rng::Rng;
 
-/// Cuts the descriptor inside a block. Gives the place of that block's tag: with all before it good,
-/// the answer is 10 there.
+/// Cuts the descriptor inside a block. Gives the place of that block's tag: with all before it
+/// good, the answer is 10 there.
 pub fn cut(rng: &mut Rng, laid: &mut Laid) -> Option<usize> {
     if laid.tags.is_empty() {
         return None;

@@ -55,12 +55,12 @@ fn arrays(rng: &mut Rng, plan: &PlanDraft) -> Vec<bool> {
 
 pub struct Clothing<'a> {
     pub rng: &'a mut Rng,
-    pub naming: Naming,
-    rich: bool,
+    naming: Naming,
+    pub rich: bool,
     arrays: Vec<bool>,
     blocks: Vec<BlockDraft>,
     /// The kinds of the blocks that have an index, by that index.
-    pub kinds: Vec<Kind>,
+    kinds: Vec<Kind>,
     /// The index of the scalar of each known id.
     known: [Option<u16>; 20],
     /// The index of each node's block.
@@ -68,19 +68,6 @@ pub struct Clothing<'a> {
 }
 
 impl Clothing<'_> {
-    /// At times a block without values, or an annotation.
-    fn between(&mut self) {
-        if !self.rich || !self.rng.once_in(4) {
-            return;
-        }
-        match self.rng.below(5) {
-            0 | 1 => self.object(),
-            2 => self.compound(),
-            3 => self.record(),
-            _ => self.annotation(),
-        }
-    }
-
     fn node(&mut self, number: usize, node: &Node) {
         let index = match &node.shape {
             Shape::Leaf(format) => self.scalar(*format),
@@ -97,7 +84,7 @@ impl Clothing<'_> {
     }
 
     /// Adds a block and gives the index that it has or would have.
-    fn add(&mut self, kind: Kind, tag: u32, fields: Vec<Field>) -> u16 {
+    pub fn add(&mut self, kind: Kind, tag: u32, fields: Vec<Field>) -> u16 {
         let index = self.kinds.len() as u16;
         let mut all = vec![Field::number(Role::Tag, 1, tag)];
         if kind.has_index() {
@@ -109,20 +96,20 @@ impl Clothing<'_> {
     }
 
     /// An id that is of no known scalar, unless no scalar of the plan has it.
-    fn id(&mut self, scalar: bool) -> Field {
+    pub fn id(&mut self, scalar: bool) -> Field {
         self.naming.id(self.rng, scalar)
     }
 
-    fn text(&mut self) -> Field {
+    pub fn text(&mut self) -> Field {
         self.naming.text(self.rng)
     }
 
-    fn bool(&mut self) -> Field {
+    pub fn bool(&mut self) -> Field {
         Field::number(Role::Bool, 1, self.rng.below(2) as u32)
     }
 
     /// The index of some block that may be referred to so, if there is one.
-    fn some(&mut self, role: Role) -> Option<u16> {
+    pub fn some(&mut self, role: Role) -> Option<u16> {
         let fits = |index: &u16| self.kinds[usize::from(*index)].fits(role);
         let fitting: Vec<u16> = (0..self.kinds.len() as u16).filter(fits).collect();
         match fitting.is_empty() {
@@ -138,12 +125,12 @@ impl Clothing<'_> {
             false => self.rng.pick(&[0, 0, 0, 1, 2, 5]),
         };
         let count = before + u32::from(last.is_some());
-        let mut fields = vec![self.text(), self.bool(), count_of(count as usize)];
+        let mut fields = vec![self.text(), self.bool(), Field::count(count as usize)];
         for _ in 0..before {
             let index = self.rng.below(self.kinds.len()) as u32;
             fields.push(Field::number(Role::Earlier, 2, index));
         }
-        fields.extend(last.map(|index| reference(Role::Parent, index)));
+        fields.extend(last.map(|index| Field::reference(Role::Parent, index)));
         fields
     }
 
@@ -162,7 +149,7 @@ impl Clothing<'_> {
     }
 
     fn element(&self, wanted: Wanted, number: usize) -> Field {
-        reference(Role::Element(wanted), self.indexes[number])
+        Field::reference(Role::Element(wanted), self.indexes[number])
     }
 
     fn set(&mut self, element: usize) -> u16 {
@@ -190,7 +177,7 @@ impl Clothing<'_> {
     fn tuple(&mut self, elements: &[usize]) -> u16 {
         let mut fields = vec![self.id(false)];
         fields.extend(self.schema(None));
-        fields.push(count_of(elements.len()));
+        fields.push(Field::count(elements.len()));
         fields.extend(
             elements
                 .iter()
@@ -202,7 +189,7 @@ impl Clothing<'_> {
     fn named_tuple(&mut self, elements: &[usize]) -> u16 {
         let mut fields = vec![self.id(false)];
         fields.extend(self.schema(None));
-        fields.push(count_of(elements.len()));
+        fields.push(Field::count(elements.len()));
         let names = self.naming.names(self.rng, elements.len());
         for (&number, name) in elements.iter().zip(names) {
             fields.extend([name, self.element(Wanted::Any, number)]);
@@ -218,7 +205,7 @@ impl Clothing<'_> {
             true => self.rng.pick(&[0, 1, 2, 5]),
             false => 0,
         };
-        fields.push(count_of(members));
+        fields.push(Field::count(members));
         fields.extend((0..members).map(|_| self.text()));
         self.add(Kind::Other, 7, fields)
     }
@@ -235,7 +222,7 @@ impl Clothing<'_> {
             self.id(false),
             Field::number(Role::Bool, 1, u32::from(free)),
             self.object_type(free),
-            count_of(elements.len()),
+            Field::count(elements.len()),
         ];
         for &(number, cardinality) in elements {
             let flags = self.rng.below(8) as u32;
@@ -253,13 +240,13 @@ impl Clothing<'_> {
     /// "in a free shape neither type is checked".
     fn object_type(&mut self, free: bool) -> Field {
         match self.some(Role::ObjectType) {
-            Some(index) if !free => reference(Role::ObjectType, index),
+            Some(index) if !free => Field::reference(Role::ObjectType, index),
             _ => Field::number(Role::Free, 2, self.rng.word() & self.rng.pick(&[0, 0xffff])),
         }
     }
 
     fn input(&mut self, elements: &[(usize, u32)]) -> u16 {
-        let mut fields = vec![self.id(false), count_of(elements.len())];
+        let mut fields = vec![self.id(false), Field::count(elements.len())];
         let names = self.naming.names(self.rng, elements.len());
         for (&(number, cardinality), name) in elements.iter().zip(names) {
             fields.extend([
@@ -271,59 +258,4 @@ impl Clothing<'_> {
         }
         self.add(Kind::Other, 8, fields)
     }
-
-    fn object(&mut self) {
-        let fields = vec![self.id(false), self.text(), self.bool()];
-        self.add(Kind::ObjectType, 10, fields);
-    }
-
-    /// "Operation: 1 or 2."
-    fn compound(&mut self) {
-        let operation = self.rng.between(1, 2) as u32;
-        let mut fields = vec![
-            self.id(false),
-            self.text(),
-            self.bool(),
-            Field::number(Role::Operation, 1, operation),
-        ];
-        let count = self.rng.pick(&[0, 1, 2, 4]);
-        let components: Vec<u16> = (0..count)
-            .filter_map(|_| self.some(Role::ObjectType))
-            .collect();
-        fields.push(count_of(components.len()));
-        fields.extend(
-            components
-                .iter()
-                .map(|&index| reference(Role::ObjectType, index)),
-        );
-        self.add(Kind::ObjectType, 11, fields);
-    }
-
-    /// Names may be twice, and elements of any kind.
-    fn record(&mut self) {
-        let count = self.rng.pick(&[0, 1, 2, 4]);
-        let elements: Vec<u16> = (0..count)
-            .filter_map(|_| self.some(Role::Earlier))
-            .collect();
-        let mut fields = vec![self.id(false), count_of(elements.len())];
-        for index in elements {
-            fields.extend([self.text(), reference(Role::Earlier, index)]);
-        }
-        self.add(Kind::Record, 13, fields);
-    }
-
-    fn annotation(&mut self) {
-        if let Some(index) = self.some(Role::Earlier) {
-            let fields = vec![reference(Role::Earlier, index), self.text(), self.text()];
-            self.add(Kind::Annotation, 0x7f, fields);
-        }
-    }
-}
-
-fn count_of(items: usize) -> Field {
-    Field::number(Role::Count, 2, items as u32)
-}
-
-fn reference(role: Role, index: u16) -> Field {
-    Field::number(role, 2, u32::from(index))
 }

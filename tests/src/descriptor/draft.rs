@@ -187,4 +187,12 @@ impl Field {
             content: Content::Text(text, None),
         }
     }
+
+    pub fn count(items: usize) -> Field {
+        Field::number(Role::Count, 2, items as u32)
+    }
+
+    pub fn reference(role: Role, index: u16) -> Field {
+        Field::number(role, 2, u32::from(index))
+    }
 }

@@ -102,19 +102,6 @@ fn formats(cases: &mut Cases) {
 /// 5, named tuple 6, array 7, set of arrays 8, set of tuples 9, enumeration 10, range 11, output
 /// shape 12, record 13, input shape 14; and annotations.
 pub fn rich_descriptor() -> Vec<u8> {
-    let out = |cardinality, element| Out {
-        flags: 7,
-        cardinality,
-        name: b"same",
-        element,
-        source: 4,
-    };
-    let field = |cardinality, name, element| In {
-        flags: 0,
-        cardinality,
-        name,
-        element,
-    };
     [
         scalar(INT64),
         scalar(STR),
@@ -130,19 +117,34 @@ pub fn rich_descriptor() -> Vec<u8> {
         annotation(3),
         enumeration(id(10), &[b"red", b"red"]),
         range(id(11), 2),
-        output(id(12), 0, 3, &[out(ONE, 8), out(AT_MOST_ONE, 11)]),
+        rich_output(),
         record(id(13), &[(b"", 12), (b"", 3)]),
-        input(
-            id(14),
-            &[
-                field(ONE, b"x", 12),
-                field(0x6d, b"y", 10),
-                field(0x4d, b"", 9),
-            ],
-        ),
+        rich_input(),
         annotation(14),
     ]
     .concat()
+}
+
+fn rich_output() -> Vec<u8> {
+    let out = |cardinality, element| Out {
+        flags: 7,
+        cardinality,
+        name: b"same",
+        element,
+        source: 4,
+    };
+    output(id(12), 0, 3, &[out(ONE, 8), out(AT_MOST_ONE, 11)])
+}
+
+fn rich_input() -> Vec<u8> {
+    let field = |cardinality, name, element| In {
+        flags: 0,
+        cardinality,
+        name,
+        element,
+    };
+    let (x, y) = (field(ONE, b"x", 12), field(0x6d, b"y", 10));
+    input(id(14), &[x, y, field(0x4d, b"", 9)])
 }
 
 /// Nodes start at 2, 4, 6, -, -, 8, 12, 16, 18, 20, 22, 23, 25, -, 31.

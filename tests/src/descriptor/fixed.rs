@@ -1,9 +1,13 @@
 //! Puts together the cases of every run.
 
+use super::bytes::{known, scalar, INT64};
 use super::case::{Case, CompileCall, Running};
 use crate::expected::Expected;
 use crate::fence::Edge;
 use crate::lending::{Lending, FILLS};
+
+/// Where the block after `scalar(INT64)` starts.
+pub const AFTER: usize = 25;
 
 /// Enough for most plans and lists.
 const ROOM: usize = 400;
@@ -30,6 +34,12 @@ impl Cases {
             let refused = || Expected::Refused(number, place as u32);
             self.at_edges(descriptor, root, room, refused);
         }
+    }
+
+    /// A block that is refused by this number where it comes after `scalar(INT64)`.
+    pub fn second(&mut self, block: &[u8], number: u32) {
+        let descriptor = [&scalar(INT64), block].concat();
+        self.bad(&descriptor, &known(INT64), number, AFTER);
     }
 
     /// A descriptor of which nothing is known, and a value that is run if it is accepted.

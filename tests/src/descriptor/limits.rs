@@ -1,7 +1,6 @@
 //! Cases at and past each size that 01 limits.
 
 use super::bytes::*;
-use super::draft::Id;
 use super::fixed::Cases;
 use crate::crossed::list;
 use crate::expected::Expected;
@@ -13,8 +12,6 @@ pub fn add(cases: &mut Cases) {
     ancestors(cases);
     elements(cases);
     members(cases);
-    heights(cases);
-    heights_in_order(cases);
     plan_words(cases);
 }
 
@@ -182,146 +179,6 @@ fn members(cases: &mut Cases) {
             cases.bad(&descriptor, &id(2), 17, first.len());
         }
     }
-}
-
-/// A container of one element, and its node over a node that starts there.
-type Above = fn(Id, u16) -> Vec<u8>;
-
-fn of_output(id: Id, element: u16) -> Vec<u8> {
-    let out = Out {
-        flags: 0,
-        cardinality: ONE,
-        name: b"",
-        element,
-        source: 0xffff,
-    };
-    output(id, 1, 0xffff, &[out])
-}
-
-fn of_input(id: Id, element: u16) -> Vec<u8> {
-    let field = In {
-        flags: 0,
-        cardinality: ONE,
-        name: b"",
-        element,
-    };
-    input(id, &[field])
-}
-
-fn of_tuple(id: Id, element: u16) -> Vec<u8> {
-    tuple(id, &[element])
-}
-
-fn of_named_tuple(id: Id, element: u16) -> Vec<u8> {
-    named_tuple(id, &[(b"", element)])
-}
-
-/// An empty tuple or an int64 under containers, so that the last block has this height.
-fn chain(bottom: Vec<u8>, height: u16, above: Above) -> Vec<u8> {
-    let mut descriptor = bottom;
-    for number in 1..height {
-        descriptor.extend(above(id(number), number - 1));
-    }
-    descriptor
-}
-
-/// The nodes of a chain, and the value and list of its last block: all of the four have the same
-/// bytes.
-fn check_chain(cases: &mut Cases, descriptor: &[u8], height: u16, node: &[u32]) {
-    let mut plan = vec![0, 0, 1, 5];
-    let (mut starts, mut value) = (vec![2], vec![7; 8]);
-    for _ in 1..height {
-        let last = starts[starts.len() - 1];
-        starts.push(plan.len() as u32);
-        plan.extend(node.iter().map(|&word| if word == 0 { last } else { word }));
-        let head = list(&[1, 0, value.len() as u32]);
-        value = [head, value].concat();
-    }
-    plan[0] = plan.len() as u32;
-    plan[1] = starts[starts.len() - 1];
-    cases.good(descriptor, &id(height - 1), &plan);
-    let entry = |(level, &start): (usize, &u32)| {
-        let length = 8 + 12 * (starts.len() - 1 - level);
-        let below = u32::from(level + 1 < starts.len());
-        [start, 0, 12 * level as u32, length as u32, below]
-    };
-    let words: Vec<u32> = starts.iter().rev().enumerate().flat_map(entry).collect();
-    cases.listed(descriptor, &id(height - 1), &value, &words);
-}
-
-fn heights(cases: &mut Cases) {
-    let kinds: [(Above, &[u32]); 4] = [
-        (of_tuple, &[4, 1, 0]),
-        (of_named_tuple, &[4, 1, 0]),
-        (of_output, &[5, 1, 0, 65]),
-        (of_input, &[6, 1, 0, 65]),
-    ];
-    for (above, node) in kinds {
-        for height in [31, 32] {
-            let descriptor = chain(scalar(INT64), height, above);
-            check_chain(cases, &descriptor, height, node);
-        }
-        let most = chain(scalar(INT64), 32, above);
-        for (above, _) in kinds {
-            let descriptor = [&most[..], &above(id(99), 31)].concat();
-            cases.bad(&descriptor, &known(INT64), 17, most.len());
-        }
-        for block in [set(id(99), 31), array(id(99), 31)] {
-            let descriptor = [&most[..], &block].concat();
-            cases.bad(&descriptor, &known(INT64), 17, most.len());
-        }
-        // "an empty container 1".
-        let empty = chain(tuple(id(0), &[]), 33, above);
-        let last = chain(tuple(id(0), &[]), 32, above).len();
-        cases.bad(&empty, &id(0), 17, last);
-    }
-}
-
-/// What comes before and after 17 for a height (reading 3.15).
-fn heights_in_order(cases: &mut Cases) {
-    // An array of what has height 30 under a set of arrays.
-    let thirty = chain(scalar(INT64), 30, of_tuple);
-    let good = [&thirty[..], &array(id(50), 29), &set(id(51), 30)].concat();
-    let mut plan = vec![95, 93, 1, 5, 4, 1, 2];
-    plan.extend((1..29).flat_map(|level| [4, 1, 1 + 3 * level]));
-    plan.extend([2, 88, 3, 91]);
-    cases.good(&good, &id(51), &plan);
-    let higher = chain(scalar(INT64), 31, of_tuple);
-    let array_on_top = [&higher[..], &array(id(50), 30)].concat();
-    let bad = [&array_on_top[..], &set(id(51), 31)].concat();
-    cases.bad(&bad, &id(51), 17, array_on_top.len());
-    // 13 and 14 come before it; the source type and all later elements after it.
-    let most = chain(scalar(INT64), 32, of_tuple);
-    let object = [&most[..], &object(id(50))].concat();
-    let out = |element, source| Out {
-        flags: 0,
-        cardinality: ONE,
-        name: b"",
-        element,
-        source,
-    };
-    for (block, number) in [
-        (range(id(99), 31), 14),
-        (output(id(99), 0, 32, &[out(31, 99)]), 17),
-        (output(id(99), 0, 32, &[out(0, 99), out(31, 32)]), 13),
-        (tuple(id(99), &[31, 99]), 17),
-        (tuple(id(99), &[99, 31]), 13),
-        (tuple(id(99), &[32, 31]), 14),
-        (array(id(99), 31)[..27].to_vec(), 17),
-    ] {
-        let descriptor = [&object[..], &block].concat();
-        cases.bad(&descriptor, &known(INT64), number, object.len());
-    }
-    // Ancestors, records and annotations have no height.
-    let others = [
-        block(7, id(60), &[&schema(&[31]), &[0, 0]]),
-        record(id(61), &[(b"", 31)]),
-        annotation(31),
-    ];
-    let mut plan = vec![98, 97, 1, 5, 4, 1, 2];
-    plan.extend((1..31).flat_map(|level| [4, 1, 1 + 3 * level]));
-    plan.push(8);
-    cases.good(&[most, others.concat()].concat(), &id(60), &plan);
 }
 
 /// An enumeration and tuples of it, so that the plan has so many words, and that plan.

@@ -2,7 +2,7 @@
 
 use super::case::{Case, CompileCall, Running};
 use super::clothing;
-use super::draft::{Content, DescriptorDraft, Field, Laid, Role};
+use super::draft::{Content, DescriptorDraft, Field, Id, Laid, Role};
 use super::{byte_damage, damage};
 use crate::expected::Expected;
 use crate::lending::Lending;
@@ -27,8 +27,8 @@ enum Outcome {
     Unknown,
 }
 
-/// A call on a descriptor that is good or damaged, and a value to run if it is accepted, which may be
-/// damaged or too long.
+/// A call on a descriptor that is good or damaged, and a value to run if it is accepted, which may
+/// be damaged or too long.
 pub fn make(rng: &mut Rng) -> Case {
     let mut pair = making::pair(rng);
     if rng.once_in(512) {
@@ -177,44 +177,45 @@ fn large(rng: &mut Rng, draft: DescriptorDraft, passed: Option<(u32, usize)>) ->
 
 /// An id that is not there, of a block without values, zero, or of another length than 16.
 fn bad_root(rng: &mut Rng, draft: DescriptorDraft, passed: Option<(u32, usize)>) -> Made {
-    let without: Vec<_> = draft
+    let without: Vec<Id> = draft
         .blocks
         .iter()
         .filter(|block| !block.kind.has_values())
         .filter_map(|block| block.id())
         .collect();
     let mut made = whole(draft, passed);
-    let end = made.laid.bytes.len() as u32;
-    let refused = Outcome::Refused(18, end);
-    let after = match made.known {
-        Outcome::Plan => refused,
-        known => known,
+    let missing = match rng.below(8) {
+        0..3 if !without.is_empty() => Some(rng.pick(&without).to_vec()),
+        0..5 => Some(rng.bytes(16)),
+        _ => None,
     };
-    let length = made.root.len();
-    made.known = match rng.below(8) {
-        0..3 if !without.is_empty() => {
-            made.root = rng.pick(&without).to_vec();
-            after
+    let refused = Outcome::Refused(18, made.laid.bytes.len() as u32);
+    match missing {
+        // Faults in the blocks come before it.
+        Some(root) => {
+            made.root = root;
+            if made.known == Outcome::Plan {
+                made.known = refused;
+            }
         }
-        0..5 => {
-            made.root = rng.bytes(16);
-            after
+        None => {
+            spoil_root(rng, &mut made);
+            made.known = refused;
         }
-        5 if end > 0 => {
-            made.root = vec![0; 16];
-            refused
-        }
-        6 => {
-            made.root.truncate(rng.below(length));
-            refused
-        }
+    }
+    made
+}
+
+/// Zero, unless there are no bytes, or another length: this comes before the blocks.
+fn spoil_root(rng: &mut Rng, made: &mut Made) {
+    match rng.below(3) {
+        0 if !made.laid.bytes.is_empty() => made.root = vec![0; 16],
+        1 => made.root.truncate(rng.below(16)),
         _ => {
             let more = rng.pick(&[1, 1, 16]);
             made.root.extend(rng.bytes(more));
-            refused
         }
-    };
-    made
+    }
 }
 
 /// One that ends inside a block: all before it is good.

@@ -2,21 +2,16 @@
 
 use super::bytes::*;
 use super::exact::descriptor_a;
-use super::fixed::Cases;
-use super::refusals::AFTER;
+use super::fixed::{Cases, AFTER};
 
 pub fn add(cases: &mut Cases) {
     of_calls(cases);
     of_fields(cases);
+    of_later_fields(cases);
     of_counts(cases);
     of_names(cases);
     of_elements(cases);
     of_free_shapes(cases);
-}
-
-fn second(cases: &mut Cases, block: &[u8], number: u32) {
-    let descriptor = [&scalar(INT64), block].concat();
-    cases.bad(&descriptor, &known(INT64), number, AFTER);
 }
 
 /// "Total size and then the root id's length and zero rules precede a descriptor's blocks"; a root
@@ -38,46 +33,38 @@ fn of_calls(cases: &mut Cases) {
 /// Field order, and within a field "first whole" (readings 3.1 to 3.3).
 fn of_fields(cases: &mut Cases) {
     // Nothing after a tag that is unknown, or an id that is there already, is looked at.
-    second(cases, &[2], 11);
-    second(cases, &block(0, known(INT64), &[]), 15);
-    second(cases, &block(0, id(1), &[]), 10);
-    second(cases, &[&[0][..], &[0; 15]].concat(), 10);
+    cases.second(&[2], 11);
+    cases.second(&block(0, known(INT64), &[]), 15);
+    cases.second(&block(0, id(1), &[]), 10);
+    cases.second(&[&[0][..], &[0; 15]].concat(), 10);
     // A text that is cut is 10 though its bytes so far are no text.
-    second(cases, &block(10, id(1), &[&[0, 0, 0, 3, 0xff, 0xff]]), 10);
-    second(
-        cases,
-        &block(10, id(1), &[&[0xff, 0xff, 0xff, 0xff, 0xff]]),
-        10,
-    );
-    second(cases, &block(10, id(1), &[&[0, 0, 0, 2, 0xff, 0xff]]), 12);
+    cases.second(&block(10, id(1), &[&[0, 0, 0, 3, 0xff, 0xff]]), 10);
+    cases.second(&block(10, id(1), &[&[0xff, 0xff, 0xff, 0xff, 0xff]]), 10);
+    cases.second(&block(10, id(1), &[&[0, 0, 0, 2, 0xff, 0xff]]), 12);
     // The name's rule comes before the bool's, and the bool's before a missing count.
-    second(cases, &block(3, id(1), &[&text(b"\xff"), &[2]]), 12);
-    second(cases, &block(3, id(1), &[&text(b"a"), &[2]]), 12);
-    second(cases, &block(3, id(1), &[&text(b"a"), &[1]]), 10);
-    second(cases, &block(3, id(1), &[&text(b"a"), &[1, 0, 1]]), 10);
-    second(
-        cases,
-        &block(3, id(1), &[&text(b"a"), &[1, 0, 2, 0, 1]]),
-        13,
-    );
-    second(
-        cases,
-        &block(3, id(1), &[&text(b"a"), &[1, 0, 2, 0, 0]]),
-        10,
-    );
+    cases.second(&block(3, id(1), &[&text(b"\xff"), &[2]]), 12);
+    cases.second(&block(3, id(1), &[&text(b"a"), &[2]]), 12);
+    cases.second(&block(3, id(1), &[&text(b"a"), &[1]]), 10);
+    cases.second(&block(3, id(1), &[&text(b"a"), &[1, 0, 1]]), 10);
+    cases.second(&block(3, id(1), &[&text(b"a"), &[1, 0, 2, 0, 1]]), 13);
+    cases.second(&block(3, id(1), &[&text(b"a"), &[1, 0, 2, 0, 0]]), 10);
+}
+
+/// Field order in compounds, arrays and annotations.
+fn of_later_fields(cases: &mut Cases) {
     // Compound: the operation before the count.
-    second(cases, &block(11, id(1), &[&text(b""), &[0, 3]]), 12);
-    second(cases, &block(11, id(1), &[&text(b""), &[0, 1]]), 10);
+    cases.second(&block(11, id(1), &[&text(b""), &[0, 3]]), 12);
+    cases.second(&block(11, id(1), &[&text(b""), &[0, 1]]), 10);
     // Array: type, dimension count, dimension.
     let array = |rest: &[u8]| block(6, id(1), &[&schema(&[]), rest]);
-    second(cases, &array(&[0, 1, 0, 2]), 13);
-    second(cases, &array(&[0, 0, 0, 2]), 12);
-    second(cases, &array(&[0, 0, 0, 1, 0, 0, 0]), 10);
+    cases.second(&array(&[0, 1, 0, 2]), 13);
+    cases.second(&array(&[0, 0, 0, 2]), 12);
+    cases.second(&array(&[0, 0, 0, 1, 0, 0, 0]), 10);
     // Annotation: index, key, value.
-    second(cases, &[0x7f, 0, 1], 13);
-    second(cases, &[0x7f, 0], 10);
-    second(cases, &[&[0x7f, 0, 0][..], &text(b"\xff")].concat(), 12);
-    second(cases, &[&[0x7f, 0, 0][..], &text(b"k")].concat(), 10);
+    cases.second(&[0x7f, 0, 1], 13);
+    cases.second(&[0x7f, 0], 10);
+    cases.second(&[&[0x7f, 0, 0][..], &text(b"\xff")].concat(), 12);
+    cases.second(&[&[0x7f, 0, 0][..], &text(b"k")].concat(), 10);
 }
 
 /// "513 and nothing after it is 17, 512 and nothing after it is 10" (reading 3.4).
@@ -99,10 +86,10 @@ fn of_counts(cases: &mut Cases) {
     for (tag, head) in heads {
         let block = |count: u16| block(tag, id(1), &[&head, &count.to_be_bytes()]);
         for count in [513, 514, 0x8000, 0xffff] {
-            second(cases, &block(count), 17);
+            cases.second(&block(count), 17);
         }
-        second(cases, &block(512), 10);
-        second(cases, &block(1), 10);
+        cases.second(&block(512), 10);
+        cases.second(&block(1), 10);
     }
 }
 
@@ -122,21 +109,17 @@ fn of_names(cases: &mut Cases) {
         (field(0, ONE, b"n", 9), 16),
         (field(0, ONE, b"m", 9), 13),
     ] {
-        second(cases, &input(id(1), &[first, other]), number);
+        cases.second(&input(id(1), &[first, other]), number);
     }
-    second(cases, &named_tuple(id(1), &[(b"n", 0), (b"n", 9)]), 16);
-    second(cases, &named_tuple(id(1), &[(b"n", 9), (b"n", 0)]), 13);
-    second(
-        cases,
-        &named_tuple(id(1), &[(b"\xff", 0), (b"\xff", 0)]),
-        12,
-    );
+    cases.second(&named_tuple(id(1), &[(b"n", 0), (b"n", 9)]), 16);
+    cases.second(&named_tuple(id(1), &[(b"n", 9), (b"n", 0)]), 13);
+    cases.second(&named_tuple(id(1), &[(b"\xff", 0), (b"\xff", 0)]), 12);
     // The second name is there, what comes after it is not.
     let mut cut = named_tuple(id(1), &[(b"n", 0), (b"n", 0)]);
     cut.truncate(cut.len() - 2);
-    second(cases, &cut, 16);
+    cases.second(&cut, 16);
     cut.truncate(cut.len() - 1);
-    second(cases, &cut, 10);
+    cases.second(&cut, 10);
 }
 
 /// Of an output shape: flags, cardinality, name, type, source. Block 1 is an object type.
