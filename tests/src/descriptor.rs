@@ -53,6 +53,7 @@ pub struct Library;
 impl Tested for Library {
     const NAME: &'static str = "descriptors";
     const CALLS: Calls = Calls {
+        name: "library",
         compile: ffi::compile,
         run: ffi::run,
     };
@@ -65,6 +66,7 @@ pub struct Second;
 impl Tested for Second {
     const NAME: &'static str = "rules";
     const CALLS: Calls = Calls {
+        name: "second program by plan",
         compile: crossing::compile,
         run: crossing::run,
     };

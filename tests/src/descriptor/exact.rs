@@ -20,6 +20,7 @@ pub fn add(cases: &mut Cases) {
     edges(cases);
     values_of_a(cases);
     required_input(cases);
+    cardinalities(cases);
     no_type(cases);
     formats(cases);
     rich(cases);
@@ -74,6 +75,36 @@ fn required_input(cases: &mut Cases) {
     cases.faulty(&descriptor, &id(1), &outside, (25, 0));
     let below = hex("00000001 00000000 fffffffe");
     cases.faulty(&descriptor, &id(1), &below, (23, 0));
+}
+
+/// "Cardinalities 41 and 4d are required; others may be -1", in either shape.
+fn cardinalities(cases: &mut Cases) {
+    let absent = hex("00000001 00000000 ffffffff");
+    let list = [4, 0, 0, 12, 1, 2, 0, 12, 0xffff_ffff, 0];
+    for cardinality in [0x6e, 0x6f, 0x41, 0x6d, 0x4d] {
+        let name = b"n";
+        let out = Out {
+            flags: 0,
+            cardinality,
+            name,
+            element: 0,
+            source: 0,
+        };
+        let field = In {
+            flags: 0,
+            cardinality,
+            name,
+            element: 0,
+        };
+        let shapes = [output(id(1), 1, 0, &[out]), input(id(1), &[field])];
+        for shape in shapes {
+            let descriptor = [scalar(INT64), shape].concat();
+            match cardinality {
+                0x41 | 0x4d => cases.faulty(&descriptor, &id(1), &absent, (27, 0)),
+                _ => cases.listed(&descriptor, &id(1), &absent, &list),
+            }
+        }
+    }
 }
 
 /// "Id zero with no bytes is accepted as "no type"".

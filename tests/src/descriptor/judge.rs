@@ -9,7 +9,7 @@
 use super::case::{Case, CompileCall, Running};
 use crate::fence::{Input, Room};
 use crate::lending::{Lending, FILLS};
-use crate::report::compare;
+use crate::report::compare_named;
 use crate::rng::Rng;
 use second::crossing::{self, Answer};
 
@@ -22,6 +22,8 @@ type Call = fn(&[u8], &[u8], &mut [u8]) -> Answer;
 /// The calls of a tested program.
 #[derive(Clone, Copy)]
 pub struct Calls {
+    /// Whose they are.
+    pub name: &'static str,
     /// From descriptor and root id to a plan.
     pub compile: Call,
     /// From plan and value to a list.
@@ -85,7 +87,8 @@ impl Judge {
         let tested = self
             .memory
             .call(self.calls.compile, inputs, before, lending);
-        compare(call, tested, (second, &self.left))
+        let second = ("second program", (second, &self.left[..]));
+        compare_named(call, (self.calls.name, tested), second)
     }
 
     /// Runs by the plan, and by the rules off the descriptor.
@@ -102,7 +105,8 @@ impl Judge {
         let tested = self
             .memory
             .call(self.calls.run, inputs, before, case.lending);
-        let answer = compare(case, tested, (second, &self.left))?;
+        let rules = ("rules off the descriptor", (second, &self.left[..]));
+        let answer = compare_named(case, (self.calls.name, tested), rules)?;
         running.expected.hold(case, answer, &self.left)
     }
 }
