@@ -36,6 +36,15 @@ enum {
     REMBULFOSE_FIELD_PAST_END = 4, /* field runs past the message's end; place: the field's start */
     REMBULFOSE_BYTES_LEFT = 5,     /* message bytes left over; place: the first of them */
     REMBULFOSE_BAD_FIELD = 6,      /* field content not permitted; place: the field's start */
+    REMBULFOSE_DESCRIPTOR_END = 10, /* descriptor ends inside a field; place: the block's tag */
+    REMBULFOSE_UNKNOWN_TAG = 11,   /* unknown tag; place: the tag */
+    REMBULFOSE_BAD_CONTENT = 12,   /* field content not permitted; place: the block's tag */
+    REMBULFOSE_BAD_REFERENCE = 13, /* reference not to an earlier block; place: the block's tag */
+    REMBULFOSE_WRONG_KIND = 14,    /* reference to a block of the wrong kind; place: the block's tag */
+    REMBULFOSE_BAD_ID = 15,        /* block id zero, or equal to an earlier one; place: the block's tag */
+    REMBULFOSE_NAME_TWICE = 16,    /* name twice in an input shape or named tuple; place: the block's tag */
+    REMBULFOSE_DESCRIPTOR_SIZE = 17, /* a descriptor size is passed; place: the block's tag (total bytes: 0) */
+    REMBULFOSE_NO_ROOT = 18,       /* root missing or without values; place: the descriptor's length */
     REMBULFOSE_CONTAINER_END = 20, /* container ends inside a head, or an element passes its end; place: container */
     REMBULFOSE_VALUE_LEFT = 21,    /* bytes left over in a container; place: container */
     REMBULFOSE_BAD_HEAD = 22,      /* head field not permitted; place: container */
@@ -45,6 +54,7 @@ enum {
     REMBULFOSE_INDEX_TWICE = 26,   /* sparse index given twice; place: container */
     REMBULFOSE_REQUIRED = 27,      /* required index not given, or required element of length -1; place: container */
     REMBULFOSE_VALUE_SIZE = 28,    /* value over 65,535 bytes; place 0 */
+    REMBULFOSE_PLAN_ROOM = 30,     /* plan room too small; place 0 */
     REMBULFOSE_LIST_ROOM = 31,     /* list room too small; place 0 */
     REMBULFOSE_OUTPUT_ROOM = 32,   /* output room too small; place 0 */
     REMBULFOSE_BAD_PLAN = 33       /* plan not well formed; place 0 */
@@ -66,6 +76,13 @@ rembulfose_answer rembulfose_write_message(uint32_t side, uint8_t type,
                                            const uint8_t *list, size_t list_len,
                                            const uint8_t *src, size_t src_len,
                                            uint8_t *out, size_t out_len);
+
+/* Compiles a descriptor's plan for the block whose id is root. first = words written.
+ * Order: 17 for the total size (place 0); 18 for the root id's length and zero rules (place: the descriptor's length); the
+ * blocks left to right, each field first whole (10), then its rule (11 to 17; place: the block's tag); 18; 30 (place 0).
+ * Id zero with no bytes is "no type": the plan 2,0. */
+rembulfose_answer rembulfose_compile(const uint8_t *descriptor, size_t descriptor_len, const uint8_t *root, size_t root_len,
+                                     uint8_t *plan, size_t plan_len);
 
 /* Checks a value by a plan and lists it. The list has five words an entry: node, index in its parent, start, length
  * (ffffffff hex if absent), number of entries directly below; a container first, then each element with all below it.

@@ -1,6 +1,7 @@
 //! Measures the library beside the standard library and the second program, all in one run, and
 //! prints a table. Nothing is demanded of the times: this is no test.
 
+mod descriptors;
 mod messages;
 mod race;
 mod table;
@@ -19,4 +20,6 @@ fn main() {
     messages::print();
     println!();
     values::print();
+    println!();
+    descriptors::print();
 }

@@ -1,6 +1,8 @@
 //! The calls as a C host makes them: numbers and lent bytes in, one answer and written bytes out.
 
+use crate::descriptor;
 use crate::message;
+use crate::off_descriptor;
 use crate::refusal::{self, Refusal};
 use crate::value;
 use crate::words;
@@ -70,10 +72,15 @@ fn written(side: u32, type_byte: u8, list: &[u8], src: &[u8], room: usize) -> Re
 
 /// `rembulfose_run`: first = words written.
 pub fn run(plan: &[u8], value: &[u8], list: &mut [u8]) -> Answer {
-    match listed(plan, value, words::room(list)) {
-        Ok(entries) => {
-            words::put(&entries, list);
-            Answer::accepted(entries.len(), 0)
+    answer(listed(plan, value, words::room(list)), list)
+}
+
+/// Puts out the words of a call that gives nothing else.
+fn answer(given: Result<Vec<u32>, Refusal>, room: &mut [u8]) -> Answer {
+    match given {
+        Ok(given) => {
+            words::put(&given, room);
+            Answer::accepted(given.len(), 0)
         }
         Err(refusal) => Answer::refused(refusal),
     }
@@ -85,4 +92,19 @@ fn listed(plan: &[u8], value: &[u8], room_words: usize) -> Result<Vec<u32>, Refu
         Some(plan) => value::run(&plan, value, room_words),
         None => Err(Refusal::at_start(refusal::BAD_PLAN)),
     }
+}
+
+/// `rembulfose_compile`: first = words written.
+pub fn compile(descriptor: &[u8], root: &[u8], plan: &mut [u8]) -> Answer {
+    answer(
+        descriptor::compile(descriptor, root, words::room(plan)),
+        plan,
+    )
+}
+
+/// What `rembulfose_compile` and then `rembulfose_run` must come to where the plan had room: the
+/// rules read off the descriptor, their list room counted as the call counts it (reading 7.8).
+pub fn run_off_descriptor(descriptor: &[u8], root: &[u8], value: &[u8], list: &mut [u8]) -> Answer {
+    let room = words::room(list);
+    answer(off_descriptor::run(descriptor, root, value, room), list)
 }

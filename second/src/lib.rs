@@ -5,13 +5,17 @@
 //! * [`message`] reads and writes the ten messages on words and bytes.
 //! * [`plan`] reads a plan, [`scalar`] has the twenty formats, and [`value`] checks and lists a
 //!   value.
+//! * [`descriptor`] reads a descriptor and compiles its plan; [`off_descriptor`] checks and lists a
+//!   value by the descriptor itself, with no plan inside.
 //! * [`refusal`] has the refusal numbers of all.
 //! * [`crossing`] is the same as a C host sees it: lists as bytes, and one [`crossing::Answer`].
 //!
 //! "01" in a comment is document 01, "reading" the project's paper on how it is read.
 
 pub mod crossing;
+pub mod descriptor;
 pub mod message;
+pub mod off_descriptor;
 pub mod plan;
 pub mod refusal;
 pub mod scalar;

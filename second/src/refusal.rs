@@ -12,6 +12,24 @@ pub const FIELD_PAST_END: u32 = 4;
 pub const BYTES_LEFT: u32 = 5;
 /// Field content not permitted.
 pub const BAD_FIELD: u32 = 6;
+/// Descriptor ends inside a field.
+pub const CUT_DESCRIPTOR: u32 = 10;
+/// Unknown tag.
+pub const UNKNOWN_TAG: u32 = 11;
+/// Field content not permitted, in a descriptor.
+pub const BAD_CONTENT: u32 = 12;
+/// Reference not to an earlier block.
+pub const BAD_REFERENCE: u32 = 13;
+/// Reference to a block of the wrong kind.
+pub const WRONG_KIND: u32 = 14;
+/// Block id zero, or equal to an earlier one.
+pub const BAD_ID: u32 = 15;
+/// Name twice in an input shape or named tuple.
+pub const NAME_TWICE: u32 = 16;
+/// A descriptor size is passed.
+pub const DESCRIPTOR_SIZE: u32 = 17;
+/// Root missing or without values.
+pub const NO_ROOT: u32 = 18;
 /// Container ends inside a head, or an element passes its end.
 pub const CUT_CONTAINER: u32 = 20;
 /// Bytes left over in a container.
@@ -30,6 +48,8 @@ pub const INDEX_TWICE: u32 = 26;
 pub const REQUIRED: u32 = 27;
 /// Value over 65,535 bytes.
 pub const VALUE_SIZE: u32 = 28;
+/// Plan room too small.
+pub const PLAN_ROOM: u32 = 30;
 /// List room too small.
 pub const LIST_ROOM: u32 = 31;
 /// Output room too small.

@@ -1,10 +1,12 @@
 //! Values by plan: 01, "Values" and "Plan, list, finding".
 //!
 //! * `walk` goes through a value by its node and lists what it passes.
-//! * `set`, `object` and `range` have the containers' rules.
+//! * `set`, `object` and `range` have the containers' rules, and `heads` those of what stands at
+//!   their start.
 //! * `container` reads the bytes of one container from left to right.
 
-mod container;
+pub(crate) mod container;
+pub(crate) mod heads;
 mod object;
 mod range;
 mod set;
@@ -15,7 +17,7 @@ use crate::refusal::{self, Refusal};
 use walk::Walk;
 
 /// "Largest sizes: descriptor and value 65,535 bytes".
-const MOST_BYTES: usize = 65_535;
+pub(crate) const MOST_BYTES: usize = 65_535;
 
 /// "A list has five words an entry".
 pub const ENTRY_WORDS: usize = 5;

@@ -32,6 +32,15 @@ extern "C" {
         out_len: usize,
     ) -> RawAnswer;
 
+    fn rembulfose_compile(
+        descriptor: *const u8,
+        descriptor_len: usize,
+        root: *const u8,
+        root_len: usize,
+        plan: *mut u8,
+        plan_len: usize,
+    ) -> RawAnswer;
+
     fn rembulfose_run(
         plan: *const u8,
         plan_len: usize,
@@ -71,6 +80,21 @@ pub fn write_message(side: u32, type_byte: u8, list: &[u8], src: &[u8], out: &mu
             src.len(),
             out.as_mut_ptr(),
             out.len(),
+        )
+    }
+    .into()
+}
+
+pub fn compile(descriptor: &[u8], root: &[u8], plan: &mut [u8]) -> Answer {
+    // SAFETY: each pointer and length come from one slice, and `plan` overlaps nothing.
+    unsafe {
+        rembulfose_compile(
+            descriptor.as_ptr(),
+            descriptor.len(),
+            root.as_ptr(),
+            root.len(),
+            plan.as_mut_ptr(),
+            plan.len(),
         )
     }
     .into()

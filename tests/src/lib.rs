@@ -5,11 +5,15 @@
 //! * [`fence`] lends memory that faults when touched outside of its ends; [`fault`] tells of it.
 //!   [`lending`] says how a case is lent its memory.
 //! * [`rng`] and [`text`] make input, and [`crossed`] words as bytes.
-//! * [`tally`] counts answers, and [`report`] tells how two differ.
+//! * [`tally`] counts answers, [`expected`] holds them against what is known, and [`report`] tells
+//!   how two differ.
 //! * [`message`] makes, damages and compares messages, for the program `messages`.
-//! * `value` does so with plans and values, for the program `values`.
+//! * `value` does so with plans and values, for the program `values`, and [`descriptor`] with
+//!   descriptors and values, for the programs `descriptors` and `rules`.
 
 pub mod crossed;
+pub mod descriptor;
+pub mod expected;
 pub mod fault;
 pub mod fence;
 pub mod ffi;

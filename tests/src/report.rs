@@ -3,24 +3,33 @@
 use second::crossing::Answer;
 use std::fmt::{self, Display};
 
-/// Compares two outcomes: the answer, and the room after the call.
+/// Compares two outcomes of the library and the second program: the answer, and the room after the
+/// call.
 pub fn compare(
     call: &impl Display,
-    (library, room): (Answer, &[u8]),
-    (second, left): (Answer, &[u8]),
+    library: (Answer, &[u8]),
+    second: (Answer, &[u8]),
 ) -> Result<Answer, String> {
-    if library == second && room == left {
-        return Ok(library);
+    compare_named(call, ("library", library), ("second program", second))
+}
+
+/// Compares two outcomes, each with the name of the program that it is of.
+pub fn compare_named(
+    call: &impl Display,
+    (one, (answer, room)): (&str, (Answer, &[u8])),
+    (other, (second, left)): (&str, (Answer, &[u8])),
+) -> Result<Answer, String> {
+    if answer == second && room == left {
+        return Ok(answer);
     }
-    let answers = [("library", library), ("second program", second)];
     let what = match room.iter().zip(left).position(|(one, other)| one != other) {
         None => "the answers differ".to_string(),
         Some(at) => format!(
-            "byte {at} of the room differs: library {:02x}, second program {:02x}",
+            "byte {at} of the room differs: {one} {:02x}, {other} {:02x}",
             room[at], left[at]
         ),
     };
-    Err(report(&what, call, &answers))
+    Err(report(&what, call, &[(one, answer), (other, second)]))
 }
 
 pub fn report(what: &str, call: &impl Display, answers: &[(&str, Answer)]) -> String {

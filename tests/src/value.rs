@@ -8,24 +8,24 @@
 //!   answers are known, and `sweep` every value of what has few; `fixed` puts them together.
 //! * `judge` makes the calls and compares.
 
-mod byte_damage;
+pub(crate) mod byte_damage;
 mod case;
 mod damage;
 mod draft;
-mod drafting;
+pub(crate) mod drafting;
 mod exact;
 mod examples;
 mod fixed;
 mod judge;
 mod leaves;
 mod limits;
-mod making;
+pub(crate) mod making;
 mod order;
-mod plan;
+pub(crate) mod plan;
 mod plan_damage;
 mod planning;
 mod plans;
-mod scalar;
+pub(crate) mod scalar;
 mod sweep;
 
 use crate::lending::Lending;

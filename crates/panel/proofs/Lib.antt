@@ -1,3 +1,4 @@
 pub mod Words
 pub mod Messages
 pub mod Runs
+pub mod Plans

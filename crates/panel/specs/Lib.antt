@@ -1,3 +1,4 @@
 pub mod Crossing
 pub mod Messages
 pub mod Runs
+pub mod Compiles

@@ -1,5 +1,6 @@
 // The calls of the panel's C host: numbers and byte runs, nothing but the crossing to the proved calls below.
 pub mod crossing;
+pub mod descriptors;
 pub mod message;
 pub mod values;
 

@@ -124,7 +124,7 @@ fn tuple_height(
 }
 
 // "cardinalities": one of five codes
-fn is_cardinality(c: u32) -> bool
+pub fn is_cardinality(c: u32) -> bool
     ensures { λ b. ⌜ b ≡ cardinality c ⌝ }
 {
     match c {

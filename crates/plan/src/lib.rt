@@ -1,4 +1,4 @@
 // Plans (document 01, 'Plan, list, finding'): reading the nodes of a well-formed plan, and whether one is well formed.
 pub mod formed;
 pub mod node;
-mod words;
+pub mod words;

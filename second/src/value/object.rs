@@ -1,6 +1,7 @@
 //! Tuples, output objects and input objects, which are sparse.
 
 use super::container::Container;
+use super::heads::full_count;
 use super::walk::Walk;
 use crate::plan::Element;
 use crate::refusal::{self, Refusal};
@@ -74,11 +75,4 @@ impl Walk<'_> {
             Ok(())
         }
     }
-}
-
-/// "Tuples and objects: count equal to the descriptor's, else 22".
-fn full_count(container: &mut Container, elements: usize) -> Result<u32, Refusal> {
-    let count = container.number()?;
-    container.demand(usize::try_from(count) == Ok(elements))?;
-    Ok(count as u32)
 }

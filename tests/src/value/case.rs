@@ -1,5 +1,6 @@
 //! One case of the comparison: a call with all it is lent.
 
+use crate::expected::Expected;
 use crate::lending::Lending;
 use crate::report::Hex;
 use std::fmt;
@@ -16,15 +17,6 @@ pub struct RunCall {
     pub value: Vec<u8>,
     /// Bytes of room for the list.
     pub room: usize,
-}
-
-/// What is known of the answer without either program: by hand, or by how the value was made.
-pub enum Expected {
-    Unknown,
-    /// The number and place of a refusal.
-    Refused(u32, u32),
-    /// The words of the list.
-    Listed(Vec<u32>),
 }
 
 impl fmt::Display for Case {

@@ -1,7 +1,8 @@
 //! Puts together the cases of every run.
 
-use super::case::{Case, Expected, RunCall};
+use super::case::{Case, RunCall};
 use crate::crossed::list;
+use crate::expected::Expected;
 use crate::fence::Edge;
 use crate::lending::{Lending, FILLS};
 
@@ -16,7 +17,7 @@ impl Cases {
     pub fn good(&mut self, plan: &[u32], value: &[u8], words: &[u32]) {
         let enough = 4 * words.len();
         for room in [enough, enough + 1, enough + 4, enough + 100] {
-            self.at_edges(plan, value, room, || Expected::Listed(words.to_vec()));
+            self.at_edges(plan, value, room, || Expected::Written(words.to_vec()));
         }
         if enough > 0 {
             for room in [enough - 1, enough - 4, 0] {

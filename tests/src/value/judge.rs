@@ -2,12 +2,11 @@
 //! seen of it: the four numbers of the answer and every byte of the room. Plan and value are lent
 //! where the call cannot write. Where the answer is known otherwise, both are held against it.
 
-use super::case::{Case, Expected, RunCall};
-use crate::crossed::{accepted, list, refused};
+use super::case::{Case, RunCall};
 use crate::fence::{Input, Room};
 use crate::ffi;
 use crate::lending::{Lending, FILLS};
-use crate::report::{compare, report};
+use crate::report::compare;
 use crate::rng::Rng;
 use second::crossing::{self, Answer};
 
@@ -38,17 +37,7 @@ impl Judge {
     /// The answer of a case in which nothing differs, or else a report of what does.
     pub fn judge(&mut self, case: &Case) -> Result<Answer, String> {
         let answer = self.compare(&case.call, case.lending)?;
-        let (known, words): (_, &[u32]) = match &case.expected {
-            Expected::Unknown => return Ok(answer),
-            Expected::Refused(number, place) => (refused(*number, *place), &[]),
-            Expected::Listed(words) => (accepted(words.len() as u32, 0), words),
-        };
-        if answer == known && self.left.starts_with(&list(words)) {
-            return Ok(answer);
-        }
-        let what = format!("both programs differ from what is known: list {words:?}");
-        let answers = [("both", answer), ("known", known)];
-        Err(report(&what, &case.call, &answers))
+        case.expected.hold(&case.call, answer, &self.left)
     }
 
     fn compare(&mut self, call: &RunCall, lending: Lending) -> Result<Answer, String> {

@@ -1,12 +1,12 @@
 //! Cases at and past each size that 01 limits.
 
-use super::case::Expected;
 use super::drafting::{self, Size};
 use super::fixed::Cases;
 use super::plan::{PlanDraft, Shape};
 use super::planning;
 use super::scalar::{BOOL, BYTES, INT64, STR};
 use crate::crossed::list;
+use crate::expected::Expected;
 use crate::fence::Edge;
 use crate::rng::Rng;
 
@@ -173,7 +173,7 @@ fn list_words(cases: &mut Cases) {
     let plan = [6, 4, 1, STR, 2, 2];
     let (value, words) = texts(1_637);
     for room in [32_760, 32_763, 32_764, 32_768, 32_769, 32_780, 150_000] {
-        cases.known(&plan, &value, room, Expected::Listed(words.clone()));
+        cases.known(&plan, &value, room, Expected::Written(words.clone()));
     }
     for room in [0, 20, 32_740, 32_756, 32_759] {
         cases.known(&plan, &value, room, Expected::Refused(31, 0));

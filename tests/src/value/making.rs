@@ -1,23 +1,24 @@
 //! Makes a case at random: a plan, a value of it, and what damage there is to either.
 
-use super::case::{Expected, RunCall};
+use super::case::RunCall;
 use super::draft::{Draft, Laid};
 use super::drafting::{self, Size};
 use super::plan::PlanDraft;
 use super::{byte_damage, damage, plan_damage, planning};
 use crate::crossed::list;
+use crate::expected::Expected;
 use crate::rng::Rng;
 use crate::text;
 
 /// A plan and a value, before they are damaged as bytes, and what is known of them.
-struct Pair {
-    plan: PlanDraft,
-    laid: Laid,
-    known: Known,
+pub struct Pair {
+    pub plan: PlanDraft,
+    pub laid: Laid,
+    pub known: Known,
 }
 
 #[derive(Clone, Copy, PartialEq, Eq)]
-enum Known {
+pub enum Known {
     Good,
     BadPlan,
     TooLong,
@@ -30,12 +31,7 @@ pub fn make(rng: &mut Rng) -> (RunCall, Expected) {
         plan,
         mut laid,
         mut known,
-    } = match rng.below(1_024) {
-        0..8 => at_limit(rng),
-        8..12 => long_list(rng),
-        12..16 => large(rng),
-        _ => ordinary(rng),
-    };
+    } = pair(rng);
     let mut words = plan.words();
     if rng.once_in(10) {
         plan_damage::words(rng, &plan, &mut words);
@@ -59,14 +55,24 @@ pub fn make(rng: &mut Rng) -> (RunCall, Expected) {
     (call, expected(known, laid.words, room))
 }
 
+/// A plan and a value that is good or was damaged in one or more ways.
+pub fn pair(rng: &mut Rng) -> Pair {
+    match rng.below(1_024) {
+        0..8 => at_limit(rng),
+        8..12 => long_list(rng),
+        12..16 => large(rng),
+        _ => ordinary(rng),
+    }
+}
+
 /// What the call must answer: "room counts in whole words, 8,192 at most".
-fn expected(known: Known, words: Vec<u32>, room: usize) -> Expected {
+pub fn expected(known: Known, words: Vec<u32>, room: usize) -> Expected {
     match known {
         Known::Nothing => Expected::Unknown,
         Known::BadPlan => Expected::Refused(33, 0),
         Known::TooLong => Expected::Refused(28, 0),
         Known::Good if words.len() > (room / 4).min(8_192) => Expected::Refused(31, 0),
-        Known::Good => Expected::Listed(words),
+        Known::Good => Expected::Written(words),
     }
 }
 
@@ -196,7 +202,7 @@ fn large(rng: &mut Rng) -> Pair {
 }
 
 /// Bytes of list room: just enough, a word or some bytes short, none, odd, or more than can count.
-fn room(rng: &mut Rng, enough: usize) -> usize {
+pub fn room(rng: &mut Rng, enough: usize) -> usize {
     match rng.below(64) {
         0..20 => enough,
         20..26 => enough + rng.between(1, 7),

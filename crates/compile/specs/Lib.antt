@@ -1,0 +1,5 @@
+pub mod OffDescriptor
+pub mod Cases
+pub mod Nodes
+pub mod Scan
+pub mod Compile

@@ -1,0 +1,5 @@
+pub mod Layouts
+pub mod Fields
+pub mod Blocks
+pub mod Descriptor
+pub mod Arrays

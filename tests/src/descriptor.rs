@@ -1,0 +1,126 @@
+//! Descriptors for the comparison, and values by them.
+//!
+//! * `draft` is a descriptor as it is made; `clothing` makes good ones from a plan, with the blocks
+//!   of `between` among them, and ids and names by `naming`. `damage` and `faults` spoil them, and
+//!   `byte_damage` those that were put together.
+//! * `making` makes a case from them at random.
+//! * [`bytes`] has blocks by hand. `exact`, `contents`, `references`, `identities`, `order`,
+//!   `heights` and `limits` have cases by construction whose answers are known, and `sweep` every
+//!   value of what has few; `fixed` puts them together.
+//! * `judge` makes the calls and compares.
+
+mod between;
+mod byte_damage;
+pub mod bytes;
+mod case;
+mod clothing;
+mod contents;
+mod damage;
+mod draft;
+mod exact;
+mod faults;
+mod fixed;
+mod heights;
+mod identities;
+mod judge;
+mod limits;
+mod making;
+mod naming;
+mod order;
+mod references;
+mod sweep;
+
+use crate::ffi;
+use crate::program::Comparison;
+use crate::rng::Rng;
+use crate::tally::Tally;
+use case::Case;
+use fixed::Cases;
+pub use judge::Calls;
+use judge::Judge;
+use second::crossing::{self, Answer};
+use std::marker::PhantomData;
+
+/// A program whose compile and run are compared with the second program's.
+pub trait Tested {
+    const NAME: &'static str;
+    const CALLS: Calls;
+}
+
+/// The library: `rembulfose_compile`, and `rembulfose_run` by its plans.
+pub struct Library;
+
+impl Tested for Library {
+    const NAME: &'static str = "descriptors";
+    const CALLS: Calls = Calls {
+        name: "library",
+        compile: ffi::compile,
+        run: ffi::run,
+    };
+}
+
+/// The second program's own compile and run. Its run knows plans and is held against its rules off
+/// the descriptor, which know none, and both against all that is known otherwise.
+pub struct Second;
+
+impl Tested for Second {
+    const NAME: &'static str = "rules";
+    const CALLS: Calls = Calls {
+        name: "second program by plan",
+        compile: crossing::compile,
+        run: crossing::run,
+    };
+}
+
+/// The comparison of a program's calls.
+pub struct Descriptors<T> {
+    judge: Judge,
+    tallies: [Tally; 2],
+    tested: PhantomData<T>,
+}
+
+impl<T: Tested> Comparison for Descriptors<T> {
+    const NAME: &'static str = T::NAME;
+    type Case = Case;
+
+    fn new(seed: u64) -> Descriptors<T> {
+        let compile = &[10, 11, 12, 13, 14, 15, 16, 17, 18, 30];
+        let run = &[20, 21, 22, 23, 24, 25, 26, 27, 28, 31];
+        Descriptors {
+            judge: Judge::new(seed, T::CALLS),
+            tallies: [Tally::new("compile", compile), Tally::new("run", run)],
+            tested: PhantomData,
+        }
+    }
+
+    fn fixed() -> Vec<Case> {
+        let mut cases = Cases::default();
+        exact::add(&mut cases);
+        contents::add(&mut cases);
+        references::add(&mut cases);
+        identities::add(&mut cases);
+        order::add(&mut cases);
+        heights::add(&mut cases);
+        limits::add(&mut cases);
+        sweep::add(&mut cases);
+        cases.0
+    }
+
+    fn random(seed: u64, number: u64) -> Case {
+        making::make(&mut Rng::of_case(seed, number))
+    }
+
+    /// The answer of the run, if there is one, else that of compile.
+    fn judge(&mut self, case: &Case) -> Result<Answer, String> {
+        let judged = self.judge.judge(case)?;
+        self.tallies[0].count(judged.compiled.number);
+        if let Some(answer) = judged.run {
+            self.tallies[1].count(answer.number);
+        }
+        Ok(judged.run.unwrap_or(judged.compiled))
+    }
+
+    fn tallies(&self) -> &[Tally] {
+        &self.tallies
+    }
+}

@@ -1,0 +1,32 @@
+//! What is known of an answer without either program: by hand, or by how the input was made.
+
+use crate::crossed::{accepted, list, refused};
+use crate::report::report;
+use second::crossing::Answer;
+use std::fmt::Display;
+
+pub enum Expected {
+    Unknown,
+    /// The number and place of a refusal.
+    Refused(u32, u32),
+    /// The words that are written: a list or a plan.
+    Written(Vec<u32>),
+}
+
+impl Expected {
+    /// Holds the answer that both programs give, and the room as they leave it, against what is
+    /// known.
+    pub fn hold(&self, call: &impl Display, answer: Answer, left: &[u8]) -> Result<Answer, String> {
+        let (known, words): (_, &[u32]) = match self {
+            Expected::Unknown => return Ok(answer),
+            Expected::Refused(number, place) => (refused(*number, *place), &[]),
+            Expected::Written(words) => (accepted(words.len() as u32, 0), words),
+        };
+        if answer == known && left.starts_with(&list(words)) {
+            return Ok(answer);
+        }
+        let what = format!("both programs differ from what is known: words {words:?}");
+        let answers = [("both", answer), ("known", known)];
+        Err(report(&what, call, &answers))
+    }
+}
