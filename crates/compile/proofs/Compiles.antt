@@ -212,7 +212,7 @@ module _ (d root : List ℕ) (a : Answer) (k k′ : List ℕ) (c : Checks (planO
 -- ---- compiling, and then running
 
 -- a plan that is given fits its room
-planned-room : (d root : List ℕ) (room : ℕ) (ws : List ℕ) → compileOf d root room ≡ plan ws → length ws ≤ room
+pub planned-room : (d root : List ℕ) (room : ℕ) (ws : List ℕ) → compileOf d root room ≡ plan ws → length ws ≤ room
 unfolding compileOf roomed
 planned-room d root room ws = go (planOf (descriptionOf d root))
   where

@@ -2,3 +2,4 @@ pub mod Words
 pub mod Messages
 pub mod Runs
 pub mod Plans
+pub mod Demand3

@@ -13,7 +13,7 @@ use Rattle.panel.specs.Crossing.{wordsIn, bytesOut}
 
 -- ---- words in
 
-words-next : (s : List ℕ) → 4 ≤ length s → wordsIn s ≡ be (take 4 s) ∷ wordsIn (drop 4 s)
+pub words-next : (s : List ℕ) → 4 ≤ length s → wordsIn s ≡ be (take 4 s) ∷ wordsIn (drop 4 s)
 unfolding wordsIn
 words-next [] h = absurd (omega arith)
 words-next (a ∷ []) h = absurd (omega arith)

@@ -1,0 +1,83 @@
+-- Demand 3 as the C host meets it: the bytes that compiling wrote are a plan that runs, with no descriptor, as the rules read off the
+-- descriptor do. Assumes nothing.
+use mathlib.Core.Path.{_≡_, refl, ap, ap₂, sym, _∙_}
+use mathlib.Core.Bool.{true}
+use mathlib.Core.List.{List, [], _∷_, _++_}
+use Prim.Native.Nat.{ℕ, zero, suc, _+_, _*_, _%_, _^_, _<_, _≤_}
+use native.Mathlib.Omega.{arith}
+use lib.ListN.{length, getD, take, drop, length-append}
+use lib.Seq.{take-at, drop-at}
+use borrow.Author.Tests.{eq-eqb, le-leb}
+use Rattle.wire.specs.Be.{be, bytesBe}
+use Rattle.wire.proofs.Numbers.{be-bytes, length-bytes}
+use Rattle.wire.proofs.Picks.{pick-yes}
+use Rattle.run.specs.Run.{runOf}
+use Rattle.descriptor.specs.Descriptor as descriptor
+use Rattle.descriptor.specs.Descriptor.{Description, refusedBy, noType, described, descriptionOf, planOf, planWords, compileOf}
+use Rattle.descriptor.proofs.Accepted.{described-is}
+use Rattle.compile.specs.OffDescriptor.{rulesOf}
+use Rattle.compile.proofs.Demand3.{demand-three, compiled-is}
+use Rattle.compile.proofs.Compiles.{planned-room}
+use Rattle.compile.proofs.PlanSize.{Small, plan-words}
+use Rattle.panel.specs.Crossing.{wordsIn, bytesOut, crosses, wordRoom}
+use Rattle.panel.specs.Runs.{runFrom}
+use Rattle.panel.specs.Compiles.{compilePlan, CompilesPlan}
+use Rattle.panel.specs.declared.Answer.{Answer}
+use Rattle.panel.proofs.Words.{words-next, length-out}
+use Rattle.panel.proofs.Messages.{room-most}
+
+-- words cross and come back
+pub words-back : (ws : List ℕ) → ((j : ℕ) → getD ws j 0 < 2 ^ 32) → wordsIn (bytesOut ws) ≡ ws
+unfolding wordsIn bytesOut
+words-back [] h = refl
+words-back (w ∷ ws) h =
+    let n : length (bytesBe 4 w) ≡ 4 = length-bytes 4 w in
+    let l : 4 ≤ length (bytesBe 4 w ++ bytesOut ws) = omega (arith, length-append (bytesBe 4 w) (bytesOut ws)) in
+    words-next (bytesBe 4 w ++ bytesOut ws) l
+    ∙ ap₂ (λ (a b : List ℕ). be a ∷ wordsIn b) (take-at (bytesBe 4 w) (bytesOut ws) 4 n) (drop-at (bytesBe 4 w) (bytesOut ws) 4 n)
+    ∙ ap₂ (λ (a : ℕ) (b : List ℕ). a ∷ b) (be-bytes 4 w (h 0)) (words-back ws (λ j. h (suc j)))
+
+-- a compiled plan's words are words
+compiled-words : (d root ws : List ℕ) → planOf (descriptionOf d root) ≡ descriptor.plan ws → (j : ℕ) → getD ws j 0 < 2 ^ 32
+unfolding planOf
+compiled-words d root ws e = go (descriptionOf d root) refl e
+  where
+    none : (j : ℕ) → getD (2 ∷ 0 ∷ []) j 0 < 2 ^ 32
+    none zero = omega arith
+    none (suc zero) = omega arith
+    none (suc (suc j)) = omega arith
+
+    go : (t : Description) → descriptionOf d root ≡ t → planOf t ≡ descriptor.plan ws → (j : ℕ) → getD ws j 0 < 2 ^ 32
+    go (refusedBy n p) w e = let z : _≡_ {A = ℕ} 0 1 = cc in absurd (omega arith)
+    go noType w e = let q : 2 ∷ 0 ∷ [] ≡ ws = cc in rw (← q) none
+    go (described bs i) w e =
+        let q : planWords bs i ≡ ws = cc in
+        let h = described-is d root bs i w in
+        rw (← q) (plan-words bs (h .0) i .each)
+
+crosses-words : (n : ℕ) → n ≤ 8192 → crosses (4 * n) ≡ true
+unfolding crosses
+crosses-words n h =
+    let m : 4 * n % 4 ≡ 0 = omega arith in
+    pick-yes _ _ _ (eq-eqb _ _ m) ∙ le-leb (4 * n) 32768 (omega arith)
+
+module _ (d root p p′ : List ℕ) (r : Answer) (c : CompilesPlan d root r p p′) (ws : List ℕ) (e : compileOf d root (wordRoom (length p)) ≡ descriptor.plan ws) where
+  written : take (4 * length ws) p′ ≡ bytesOut ws
+  unfolding compilePlan
+  written =
+      ap (take (4 * length ws)) (c .plan ∙ ap (λ (o : descriptor.Compiled). compilePlan o p) e)
+      ∙ take-at (bytesOut ws) (drop (4 * length ws) p) (4 * length ws) (length-out ws)
+
+  few : length ws ≤ 8192
+  few = omega (arith, planned-room d root (wordRoom (length p)) ws e, room-most (length p) .0)
+
+  -- the plan's bytes run as the rules read off the descriptor do
+  pub demand-three-bytes : (s : List ℕ) (room : ℕ) → runFrom (take (4 * length ws) p′) s room ≡ rulesOf d root s room
+  unfolding runFrom
+  demand-three-bytes s room =
+      let q = compiled-is d root (wordRoom (length p)) ws e in
+      let n : length (bytesOut ws) ≡ 4 * length ws = length-out ws in
+      ap (λ (b : List ℕ). runFrom b s room) written
+      ∙ pick-yes _ _ _ (ap crosses n ∙ crosses-words (length ws) few)
+      ∙ ap (λ (v : List ℕ). runOf v s room) (words-back ws (compiled-words d root ws q))
+      ∙ demand-three d root ws q s room
