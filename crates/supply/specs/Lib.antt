@@ -1,0 +1,3 @@
+pub mod Supply
+pub mod Build
+pub mod Write

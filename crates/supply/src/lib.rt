@@ -1,0 +1,1 @@
+// Writes a value from a supply: a list and source bytes.
