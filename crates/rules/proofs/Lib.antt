@@ -7,3 +7,4 @@ pub mod Fuel
 pub mod HeadSizes
 pub mod Bound
 pub mod Widths
+pub mod Parts

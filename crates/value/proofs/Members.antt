@@ -121,7 +121,8 @@ kinds P (suc (suc (suc (suc (suc (suc (suc zero))))))) l h a b c d e f = f
 kinds P (suc (suc (suc (suc (suc (suc (suc (suc m)))))))) l h a b c d e f = absurd (omega arith)
 
 module _ (p : List ℕ) (k : ℕ) (a : At p k) where
-  step-is : (i base : ℕ) (s : List ℕ) → valueOf (look p) k i base s ≡ byNode (look p k) (valueOf (look p)) k i base s
+  -- a value by its node
+  pub step-is : (i base : ℕ) (s : List ℕ) → valueOf (look p) k i base s ≡ byNode (look p k) (valueOf (look p)) k i base s
   step-is i base s = value-step (look p) (At p) (λ j i r. at-ref p j i r) k a (a .small) i base s
 
   -- a scalar or an enumeration

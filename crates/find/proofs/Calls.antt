@@ -1,0 +1,79 @@
+-- The laws of the call: what a check says of the value, and where its path then leads. Assumes nothing.
+use mathlib.Core.Path.{_≡_, refl, ap, sym, _∙_}
+use mathlib.Core.Bool.{Bool, true, false}
+use mathlib.Core.List.{List, []}
+use Prim.Native.Nat.{ℕ, _<_, _≤_}
+use native.Mathlib.Omega.{arith}
+use lib.Dec.{eqb, ltb}
+use lib.ListN.{length, getD}
+use borrow.Author.Tests.{ltb-false}
+use Rattle.wire.specs.Choice.{pick}
+use Rattle.rules.specs.Forest.{Forest, empty}
+use Rattle.rules.specs.Values.{Outcome, refused, listed, valueOf}
+use Rattle.rules.proofs.Parts.{stands-self}
+use Rattle.plan.specs.Plan.{look, noType, planFormed, At}
+use Rattle.run.specs.Run.{nothingIn, valueBy, checked, Checks}
+use Rattle.run.specs.declared.Answer.{Answer}
+use Rattle.run.specs.declared.Answer.the-variants.{Refused, Listed}
+use Rattle.run.proofs.Runs.{found, turned-down}
+use Rattle.find.specs.Find.{topOf, follow, Found, unfound, foundAt, foundIn, findOf, partIn, numberIn, placeIn, nodeIn, startIn, Finds}
+use Rattle.find.specs.Descent.{descend}
+use Rattle.find.proofs.Paths.{follow-nowhere, leads}
+
+-- what it takes for a value to be accepted
+pub record Passed (p s : List ℕ) (f : Forest) : Type 0 where
+  pub formed : planFormed p ≡ true
+  pub few : length s ≤ 65535
+  pub value : valueBy p s ≡ listed f
+
+passed-by : (s : List ℕ) (a : Bool) (o : Outcome) (f : Forest) → pick a (pick (ltb 65535 (length s)) (refused 28 0) o) (refused 33 0) ≡ listed f
+    → (a ≡ true) × (length s ≤ 65535) × (o ≡ listed f)
+unfolding pick
+passed-by s true o f e = go (ltb 65535 (length s)) refl e
+  where
+    go : (b : Bool) → ltb 65535 (length s) ≡ b → pick b (refused 28 0) o ≡ listed f → (true ≡ true) × (length s ≤ 65535) × (o ≡ listed f)
+    go true l x = let z : _≡_ {A = ℕ} 0 1 = cc in absurd (omega arith)
+    go false l x = (refl, ltb-false 65535 (length s) l, x)
+passed-by s false o f e = let z : _≡_ {A = ℕ} 0 1 = cc in absurd (omega arith)
+
+pub passed : (p s : List ℕ) (f : Forest) → checked p s ≡ listed f → Passed p s f
+unfolding checked
+passed p s f e = let x = passed-by s (planFormed p) (valueBy p s) f e in record { formed = x .0; few = x .1; value = x .2 }
+
+-- "no type" lists nothing
+none-listed : (b : Bool) (f : Forest) → pick b (listed empty) (refused 21 0) ≡ listed f → f ≡ empty
+unfolding pick
+none-listed true f e = cc
+none-listed false f e = let z : _≡_ {A = ℕ} 0 1 = cc in absurd (omega arith)
+
+module _ (p s : List ℕ) (a : Answer) (k k′ : List ℕ) (c : Checks (length s) (checked p s) a k k′) where
+  pub finds-refused : (path : List ℕ) (n q : ℕ) → a ≡ Refused n q → Finds (findOf p s path) [] n q 0 0
+  unfolding findOf foundIn partIn numberIn placeIn nodeIn startIn
+  finds-refused path n q e =
+      rw (turned-down _ _ a k k′ c n q e) (record { part-is = refl; no-is = refl; place-is = refl; node-is = refl; start-is = refl })
+
+  module _ (w : ℕ) (e : a ≡ Listed w) where
+    abbrev pub forest : Forest
+    forest = found _ _ a k k′ c w e .forest
+
+    accepted : checked p s ≡ listed forest
+    accepted = found _ _ a k k′ c w e .is
+
+    pub sound : Passed p s forest
+    sound = passed p s forest accepted
+
+    pub finds-nothing : (path : List ℕ) → noType p ≡ true → Finds (findOf p s path) [] 35 0 0 0
+    unfolding findOf foundIn foundAt topOf valueBy nothingIn pick partIn numberIn placeIn nodeIn startIn
+    finds-nothing path n =
+        let x = none-listed (eqb (length s) 0) forest (rw n at (sound .value)) in
+        rw (accepted, x, follow-nowhere path) (record { part-is = refl; no-is = refl; place-is = refl; node-is = refl; start-is = refl })
+
+    module _ (n : noType p ≡ false) (r : ℕ) (er : r ≡ getD p 1 0) (at-r : At p r) where
+      root-listed : valueOf (look p) r 0 0 s ≡ listed forest
+      unfolding valueBy pick
+      root-listed = rw (n, ← er) at (sound .value)
+
+      pub finds-down : (path b : List ℕ) (m place node start : ℕ) → Finds (descend (look p) path r 0 s) b m place node start → Finds (findOf p s path) b m place node start
+      unfolding findOf foundIn
+      finds-down path b m place node start x =
+          rw (accepted, leads p s path r at-r 0 0 s forest (sound .few) (stands-self s) root-listed) x

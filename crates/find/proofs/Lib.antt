@@ -1,0 +1,5 @@
+-- The laws of finding. Assumes nothing.
+pub mod Seeks
+pub mod Descents
+pub mod Paths
+pub mod Calls
