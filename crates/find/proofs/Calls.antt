@@ -18,7 +18,7 @@ use Rattle.run.specs.declared.Answer.the-variants.{Refused, Listed}
 use Rattle.run.proofs.Runs.{found, turned-down}
 use Rattle.find.specs.Find.{topOf, follow, Found, unfound, foundAt, foundIn, findOf, partIn, numberIn, placeIn, nodeIn, startIn, Finds}
 use Rattle.find.specs.Descent.{descend}
-use Rattle.find.proofs.Paths.{follow-nowhere, leads}
+use Rattle.find.proofs.Paths.{follow-nowhere, Led, leads}
 
 -- what it takes for a value to be accepted
 pub record Passed (p s : List ℕ) (f : Forest) : Type 0 where
@@ -46,6 +46,19 @@ unfolding pick
 none-listed true f e = cc
 none-listed false f e = let z : _≡_ {A = ℕ} 0 1 = cc in absurd (omega arith)
 
+module _ (p s : List ℕ) (f : Forest) (e : checked p s ≡ listed f) where
+  pub nothing-listed : noType p ≡ true → f ≡ empty
+  unfolding valueBy nothingIn pick
+  nothing-listed n = none-listed (eqb (length s) 0) f (rw n at (passed p s f e .value))
+
+  module _ (n : noType p ≡ false) (r : ℕ) (er : r ≡ getD p 1 0) (a : At p r) where
+    root-listed : valueOf (look p) r 0 0 s ≡ listed f
+    unfolding valueBy pick
+    root-listed = rw (n, ← er) at (passed p s f e .value)
+
+    pub led : (path : List ℕ) → Led s (follow path (topOf f)) (descend (look p) path r 0 s)
+    led path = leads p s (passed p s f e .few) path r a 0 0 s f (omega arith) (stands-self s) root-listed
+
 module _ (p s : List ℕ) (a : Answer) (k k′ : List ℕ) (c : Checks (length s) (checked p s) a k k′) where
   pub finds-refused : (path : List ℕ) (n q : ℕ) → a ≡ Refused n q → Finds (findOf p s path) [] n q 0 0
   unfolding findOf foundIn partIn numberIn placeIn nodeIn startIn
@@ -63,17 +76,12 @@ module _ (p s : List ℕ) (a : Answer) (k k′ : List ℕ) (c : Checks (length s
     sound = passed p s forest accepted
 
     pub finds-nothing : (path : List ℕ) → noType p ≡ true → Finds (findOf p s path) [] 35 0 0 0
-    unfolding findOf foundIn foundAt topOf valueBy nothingIn pick partIn numberIn placeIn nodeIn startIn
+    unfolding findOf foundIn foundAt topOf partIn numberIn placeIn nodeIn startIn
     finds-nothing path n =
-        let x = none-listed (eqb (length s) 0) forest (rw n at (sound .value)) in
-        rw (accepted, x, follow-nowhere path) (record { part-is = refl; no-is = refl; place-is = refl; node-is = refl; start-is = refl })
+        rw (accepted, nothing-listed p s forest accepted n, follow-nowhere path)
+        (record { part-is = refl; no-is = refl; place-is = refl; node-is = refl; start-is = refl })
 
     module _ (n : noType p ≡ false) (r : ℕ) (er : r ≡ getD p 1 0) (at-r : At p r) where
-      root-listed : valueOf (look p) r 0 0 s ≡ listed forest
-      unfolding valueBy pick
-      root-listed = rw (n, ← er) at (sound .value)
-
       pub finds-down : (path b : List ℕ) (m place node start : ℕ) → Finds (descend (look p) path r 0 s) b m place node start → Finds (findOf p s path) b m place node start
       unfolding findOf foundIn
-      finds-down path b m place node start x =
-          rw (accepted, leads p s path r at-r 0 0 s forest (sound .few) (stands-self s) root-listed) x
+      finds-down path b m place node start x = rw (accepted, led p s forest accepted n r er at-r path .found-is) x

@@ -3,3 +3,4 @@ pub mod Seeks
 pub mod Descents
 pub mod Paths
 pub mod Calls
+pub mod Entries

@@ -32,11 +32,11 @@ use Rattle.find.specs.Descent.{headAt, ends, seek, seekIn, childHead, mi
 
 -- ---- an accepted value is one tree, whose entry is its own
 
-pub record Own (e : Entry) (f : Forest) : Type 0 where
-  pub below : Forest
-  pub is : f ≡ tree e below empty
+record Own (e : Entry) (f : Forest) : Type 0 where
+  below : Forest
+  is : f ≡ tree e below empty
 
-abbrev pub Owns : Rule → Type 0
+abbrev Owns : Rule → Type 0
 Owns rule = (k i base : ℕ) (s : List ℕ) (f : Forest) → rule k i base s ≡ listed f → Own (entryOf k i base (length s)) f
 
 under-own : (e : Entry) (o : Outcome) (f : Forest) → under e o ≡ listed f → Own e f
@@ -75,7 +75,7 @@ unfolding value
 value-own look zero k i base s f h = let z : _≡_ {A = ℕ} 0 1 = cc in absurd (omega arith)
 value-own look (suc g) k i base s f h = node-own (look k) (value look g) k i base s f h
 
-pub owns : (look : ℕ → Node) → Owns (valueOf look)
+owns : (look : ℕ → Node) → Owns (valueOf look)
 unfolding valueOf
 owns look = value-own look _
 
@@ -256,40 +256,54 @@ unfolding follow step
 follow-nowhere [] = refl
 follow-nowhere (i ∷ path) = follow-nowhere path
 
--- to an absent element, or below it
-missing-is : (t path : List ℕ) (e : Entry) → e .size ≡ gone → foundAt t (follow path (spot e empty)) ≡ missing path
-unfolding foundAt follow step sibling missing pick
-missing-is t [] e g = rw (eq-eqb (e .size) gone g)
-missing-is t (i ∷ path) e g = rw (follow-nowhere path)
+-- the bytes of a spot that is not absent end within n
+unfoldable pub Within : ℕ → Spot → Type 0
+Within n nowhere = Unit {0}
+Within n (spot e below) = (e .size ≡ gone) ⊎ (e .start + e .size ≤ n)
 
-module _ (p t : List ℕ) where
+-- where a path leads in the top value t: a descent finds it, and it lies in t
+pub record Led (t : List ℕ) (x : Spot) (d : Found) : Type 0 where
+  pub found-is : foundAt t x ≡ d
+  pub within : Within (length t) x
+
+led-nowhere : (t path : List ℕ) → Led t (follow path nowhere) (unfound 35 0)
+unfolding foundAt Within
+led-nowhere t path = rw (follow-nowhere path) (record { found-is = refl; within = tt })
+
+-- to an absent element, or below it
+led-absent : (t path : List ℕ) (e : Entry) → e .size ≡ gone → Led t (follow path (spot e empty)) (missing path)
+unfolding foundAt follow step sibling missing Within pick
+led-absent t [] e g = record { found-is = rw (eq-eqb (e .size) gone g); within = inl g }
+led-absent t (i ∷ path) e g = led-nowhere t path
+
+module _ (p t : List ℕ) (few : length t ≤ 65535) where
   abbrev rule : Rule
   rule = valueOf (look p)
 
   -- what the rest of a path leads to from any node
   abbrev Leads : List ℕ → Type 0
   Leads path =
-      (k : ℕ) → At p k → (i base : ℕ) (s : List ℕ) (f : Forest) → length s ≤ 65535 → Stands t base s → rule k i base s ≡ listed f
-      → foundAt t (follow path (topOf f)) ≡ descend (look p) path k base s
+      (k : ℕ) → At p k → (i base : ℕ) (s : List ℕ) (f : Forest) → base + length s ≤ length t → Stands t base s → rule k i base s ≡ listed f
+      → Led t (follow path (topOf f)) (descend (look p) path k base s)
 
-  module _ (path : List ℕ) (leads : Leads path) (k : ℕ) (a : At p k) (base : ℕ) (s : List ℕ) (few : length s ≤ 65535) (st : Stands t base s) where
+  module _ (path : List ℕ) (leads : Leads path) (k : ℕ) (a : At p k) (base : ℕ) (s : List ℕ) (le : base + length s ≤ length t) (st : Stands t base s) where
     -- from an element that is listed
-    absent-leads : (o : Option ℕ) (i start : ℕ) (g : Forest) → absent o i start ≡ listed g → foundAt t (follow path (topOf g)) ≡ missing path
+    absent-leads : (o : Option ℕ) (i start : ℕ) (g : Forest) → absent o i start ≡ listed g → Led t (follow path (topOf g)) (missing path)
     unfolding absent topOf
     absent-leads none i start g e = let z : _≡_ {A = ℕ} 0 1 = cc in absurd (omega arith)
     absent-leads (some c) i start g e =
-        let q : g ≡ tree (entryOf c i start gone) empty empty = cc in rw q (missing-is t path (entryOf c i start gone) refl)
+        let q : g ≡ tree (entryOf c i start gone) empty empty = cc in rw q (led-absent t path (entryOf c i start gone) refl)
 
     present-leads : (o : Option ℕ) (i start size : ℕ) → refAt (look p k) i ≡ o → start + size ≤ length s → (g : Forest)
         → present rule o i (base + start) (take size (drop start s)) ≡ listed g
-        → foundAt t (follow path (topOf g)) ≡ inPart (descend (look p) path) o (base + start) (take size (drop start s))
+        → Led t (follow path (topOf g)) (inPart (descend (look p) path) o (base + start) (take size (drop start s)))
     unfolding present inPart
     present-leads none i start size r l g e = let z : _≡_ {A = ℕ} 0 1 = cc in absurd (omega arith)
     present-leads (some c) i start size r l g e =
         leads c (at-ref p k i c a r .0) i (base + start) (take size (drop start s)) g (simp (length-take, length-drop) (omega arith)) (stands-part t base s st start size l) e
 
     member-leads : (w : ℕ) (h : Head) → h ≡ childHead (look p k) s w → (g : Forest) → member rule (refAt (look p k)) base s h ≡ listed g
-        → foundAt t (follow path (topOf g)) ≡ onHead (descend (look p) path) (missing path) (look p k) base s h
+        → Led t (follow path (topOf g)) (onHead (descend (look p) path) (missing path) (look p k) base s h)
     unfolding member onHead
     member-leads w (Fault n) eh g e = let z : _≡_ {A = ℕ} 0 1 = cc in absurd (omega arith)
     member-leads w (Absent i start) eh g e = absent-leads (refAt (look p k) i) i (base + start) g e
@@ -297,19 +311,23 @@ module _ (p t : List ℕ) where
         present-leads (refAt (look p k) i) i start size refl (child-in p k a s w _ eh i start size refl .inside) g e
 
     step-leads : (w : ℕ) (f : Forest) → Sought rule (refAt (look p k)) base s w f (childHead (look p k) s w)
-        → foundAt t (follow path (sibling w f)) ≡ onHead (descend (look p) path) (missing path) (look p k) base s (childHead (look p k) s w)
-    unfolding Sought foundAt onHead
+        → Led t (follow path (sibling w f)) (onHead (descend (look p) path) (missing path) (look p k) base s (childHead (look p k) s w))
+    unfolding Sought onHead
     step-leads w f x =
         ⊎-elim
-        (λ y. rw (y .1, y .0, follow-nowhere path))
+        (λ y. rw (y .1, y .0) (led-nowhere t path))
         (λ y. rw (y .2) (member-leads w (childHead (look p k) s w) refl (y .0) (y .1)))
         x
 
   pub leads : (path : List ℕ) → Leads path
-  unfolding follow step topOf descend foundAt pick
-  leads [] k a i base s f few st e =
+  unfolding follow step topOf descend foundAt Within pick
+  leads [] k a i base s f le st e =
       let o = owns (look p) k i base s f e in
-      rw (o .is, ne-eqb (length s) gone (λ (z : length s ≡ gone). omega (arith, z, few)), stands-whole t base s st)
-  leads (w ∷ path) k a i base s f few st e =
+      rw (o .is)
+      (record {
+        found-is = rw (ne-eqb (length s) gone (λ (z : length s ≡ gone). omega (arith, z, few, le)), stands-whole t base s st);
+        within = inr le;
+      })
+  leads (w ∷ path) k a i base s f le st e =
       let o = node-inner rule (owns (look p)) k i base s f (look p k) (sym (step-is p k a i base s) ∙ e) in
-      rw (o .is) (step-leads path (leads path) k a base s few st w (o .below) (o .sought-in w))
+      rw (o .is) (step-leads path (leads path) k a base s le st w (o .below) (o .sought-in w))
