@@ -1,1 +1,2 @@
 -- Laws of supplies.
+pub mod SoundHeads
