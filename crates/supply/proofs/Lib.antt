@@ -1,2 +1,3 @@
 -- Laws of supplies.
 pub mod SoundHeads
+pub mod SoundReads

@@ -10,7 +10,7 @@ use native.Mathlib.Omega.{arith}
 use native.Mathlib.Nat.{add-zero, add-sub-cancel-left}
 use lib.Dec.{ltb, leb, eqb, lit<, lit≤}
 use lib.ListN.{length, take, drop, getD, length-append, length-drop}
-use lib.Seq.{getD-drop, drop-drop, take-at, take-append-seam, drop-append-seam}
+use lib.Seq.{getD-drop, drop-drop, drop-append-le, take-at, take-append-seam, drop-append-seam}
 use borrow.Author.Tests.{ltb-true, eqb-true, eqb-false, lt-leb, le-ltb, eq-eqb, ne-eqb, not-true}
 use Rattle.wire.specs.Choice.{pick}
 use Rattle.wire.specs.Be.{be, beFrom, bytesBe}
@@ -64,6 +64,16 @@ module _ {s : List ℕ} {at : ℕ} where
 
   pub word-next : (n : ℕ) (y : List ℕ) → Tail s at (bytesBe 4 n ++ y) → Tail s (at + 4) y
   word-next n y w = rw (length-bytes 4 n) at (tail-next (bytesBe 4 n) y w)
+
+-- bytes of s, which stands in t
+pub tail-within : {t : List ℕ} {base : ℕ} {s : List ℕ} {at : ℕ} (more b y : List ℕ) → Tail t base (s ++ more) → Tail s at (b ++ y)
+    → Tail t (base + at) (b ++ (y ++ more))
+tail-within {s = s} {at = at} more b y u w =
+    let i : at ≤ length s = w .inside in
+    record {
+      inside = omega (arith, tail-length (s ++ more) u, length-append s more);
+      is = rw (← drop-drop, u .is, drop-append-le, w .is) (append-assoc b y more);
+    }
 
 -- ---- the head of an element
 
