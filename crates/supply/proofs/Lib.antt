@@ -1,3 +1,4 @@
 -- Laws of supplies.
 pub mod SoundHeads
 pub mod SoundReads
+pub mod Sound

@@ -5,13 +5,13 @@ use mathlib.Core.Option.{some}
 use mathlib.Core.Logic.{⊎-elim}
 use mathlib.Core.Bool.{Bool, true, false}
 use mathlib.Core.List.{List, [], _∷_, _++_, append-assoc}
-use Prim.Native.Nat.{ℕ, zero, suc, _+_, _-_, _*_, _^_, _<_, _≤_}
+use Prim.Native.Nat.{ℕ, zero, suc, _+_, _-_, _^_, _<_, _≤_}
 use native.Mathlib.Omega.{arith}
 use native.Mathlib.Nat.{add-zero, add-sub-cancel-left}
-use lib.Dec.{ltb, leb, eqb, lit<, lit≤}
+use lib.Dec.{ltb, lit<, lit≤}
 use lib.ListN.{length, take, drop, getD, length-append, length-drop}
 use lib.Seq.{getD-drop, drop-drop, drop-append-le, take-at, take-append-seam, drop-append-seam}
-use borrow.Author.Tests.{ltb-true, eqb-true, eqb-false, lt-leb, le-ltb, eq-eqb, ne-eqb, not-true}
+use borrow.Author.Tests.{ltb-true, eqb-true, lt-leb, le-ltb, eq-eqb, ne-eqb, not-true}
 use Rattle.wire.specs.Choice.{pick}
 use Rattle.wire.specs.Be.{be, beFrom, bytesBe}
 use Rattle.wire.proofs.Numbers.{be-bytes, length-bytes}
@@ -20,14 +20,13 @@ use Rattle.heads.specs.Heads.{word, negative, gone, setOpening, countOpening, s
 use Rattle.heads.specs.declared.Opening.{Opening}
 use Rattle.heads.specs.declared.Opening.the-variants.{Elements, Wrong}
 use Rattle.heads.specs.declared.Head.{Head}
-use Rattle.heads.specs.declared.Head.the-variants.{Present, Absent, Fault}
-use Rattle.heads.specs.declared.Index.the-variants.{Known, Bad}
+use Rattle.heads.specs.declared.Head.the-variants.{Present, Absent}
 use Rattle.heads.proofs.Cases.{sparse-known}
 use Rattle.rules.specs.Node.{Node, leaf, enum, row, arrays, tuple, object, sparse, range, refAt}
 use Rattle.rules.specs.Values.{rowHead, openingOf}
 use Rattle.value.specs.Walk.{IsRow}
 use Rattle.supply.specs.Supply.{zeros, Claim, SameFlags, SameBytes, zeroOpening, zeroHead, between}
-use Rattle.supply.specs.Build.{Front, faulty, front, setBytes, boundsFront, rangeFront, countFront, frontOf, headBytes, mayLack}
+use Rattle.supply.specs.Build.{faulty, front, setBytes, boundsFront, rangeFront, countFront, frontOf, headBytes, mayLack}
 
 -- ---- bytes from a position on
 
@@ -229,26 +228,24 @@ head-length (range k) i n r e = lit≤ tt
 -- ---- the head of a container
 
 module _ (n : ℕ) (more : List ℕ) where
-  -- a first word
-  module _ (y : List ℕ) where
-    first-word : n < 2 ^ 32 → word (bytesBe 4 n ++ y) 0 ≡ n
-    first-word small = word-is n y small (record { inside = omega arith; is = refl })
+  first-word : n < 2 ^ 32 → word (bytesBe 4 n ++ more) 0 ≡ n
+  first-word small = word-is n more small (record { inside = omega arith; is = refl })
 
-    first-four : 4 ≤ length (bytesBe 4 n ++ y)
-    first-four = omega (arith, length-append (bytesBe 4 n) y, length-bytes 4 n)
+  first-four : 4 ≤ length (bytesBe 4 n ++ more)
+  first-four = omega (arith, length-append (bytesBe 4 n) more, length-bytes 4 n)
 
   count-back : n < 2 ^ 32 → countOpening n (bytesBe 4 n ++ more) ≡ Elements n 0 (length (bytesBe 4 n))
   unfolding countOpening
   count-back small =
       rw (length-bytes 4 n)
-      (pick-no _ _ _ (le-ltb (length (bytesBe 4 n ++ more)) 4 (first-four more)) ∙ pick-yes _ _ _ (eq-eqb _ _ (first-word more small)))
+      (pick-no _ _ _ (le-ltb (length (bytesBe 4 n ++ more)) 4 first-four) ∙ pick-yes _ _ _ (eq-eqb _ _ (first-word small)))
 
   sparse-back : n < 2 ^ 31 → sparseOpening (bytesBe 4 n ++ more) ≡ Elements n 0 (length (bytesBe 4 n))
   unfolding sparseOpening negative
   sparse-back small =
       rw (length-bytes 4 n)
-      (pick-no _ _ _ (le-ltb (length (bytesBe 4 n ++ more)) 4 (first-four more))
-      ∙ rw (first-word more (omega arith)) (pick-no _ _ _ (lt-leb (2 ^ 31) n small)))
+      (pick-no _ _ _ (le-ltb (length (bytesBe 4 n ++ more)) 4 first-four)
+      ∙ rw (first-word (omega arith)) (pick-no _ _ _ (lt-leb (2 ^ 31) n small)))
 
 -- a set's or an array's with elements
 some-back : (s : List ℕ) (n : ℕ) (more : List ℕ) → 0 < n → n < 2 ^ 31 → Tail s 0 (bytesBe 4 1 ++ (zeros 8 ++ (bytesBe 4 n ++ (bytesBe 4 1 ++ more))))
@@ -309,8 +306,9 @@ bounds-start f n first at =
     pick-case P _ _ _ (λ _ e. cc)
     (λ _. pick-case P _ _ _ (λ _. pick-case P _ _ _ (λ _ e. cc) (λ _ e. cc)) (λ _. pick-case P _ _ _ (λ _ e. cc) (λ _ e. cc)))
 
--- ---- what a container's head is good for
+-- ---- a container's head by its node
 
+-- the head o of a container whose entry is c: read back, without reserved fields, and as the supply says
 pub record Opens (v : Node) (src : List ℕ) (c : Claim) (o : List ℕ) (first : ℕ) : Type 0 where
   pub opening : c .count < 2 ^ 31 → (d : List ℕ) → openingOf v (o ++ d) ≡ Elements (c .count) first (length o)
   pub zero-is : zeroOpening v o ≡ o
@@ -330,6 +328,16 @@ module _ (src : List ℕ) (c : Claim) (o : List ℕ) (first : ℕ) where
       let p = count-front n e in
       rw (p .0, ← (p .1), ← (p .2)) (count-back n d (omega (arith, p .0)))
 
+  set-front : front (setBytes (c .count)) 0 ≡ front o first → (setBytes (c .count) ≡ o) × (0 ≡ first)
+  set-front e = (cc, cc)
+
+  set-opening : front (setBytes (c .count)) 0 ≡ front o first → c .count < 2 ^ 31 → (d : List ℕ) → setOpening (o ++ d) ≡ Elements (c .count) first (length o)
+  set-opening e few d = let p = set-front e in rw (← (p .0), ← (p .1)) (set-back (c .count) d few)
+
+  set-is-zero : front (setBytes (c .count)) 0 ≡ front o first → take 4 o ++ (zeros 8 ++ drop 12 o) ≡ o
+  set-is-zero e = rw (← (set-front e .0)) (set-zero (c .count))
+
+  -- a range's flags, in the source
   record Flags : Type 0 where
     flag : ℕ
     start : c .start < length src
@@ -365,14 +373,8 @@ module _ (src : List ℕ) (c : Claim) (o : List ℕ) (first : ℕ) where
   unfolding frontOf openingOf zeroOpening SameBytes SameFlags
   opens (leaf f) e = not-faulty e
   opens enum e = not-faulty e
-  opens (row r) e =
-      let p : setBytes (c .count) ≡ o = cc in
-      let q : 0 ≡ first = cc in
-      record { opening = λ few d. rw (← p, ← q) (set-back (c .count) d few); zero-is = rw (← p) (set-zero (c .count)); same = λ _ _ _ _ _. tt }
-  opens (arrays r) e =
-      let p : setBytes (c .count) ≡ o = cc in
-      let q : 0 ≡ first = cc in
-      record { opening = λ few d. rw (← p, ← q) (set-back (c .count) d few); zero-is = rw (← p) (set-zero (c .count)); same = λ _ _ _ _ _. tt }
+  opens (row r) e = record { opening = set-opening e; zero-is = set-is-zero e; same = λ _ _ _ _ _. tt }
+  opens (arrays r) e = record { opening = set-opening e; zero-is = set-is-zero e; same = λ _ _ _ _ _. tt }
   opens (tuple refs) e = record { opening = count-opening (length refs) e; zero-is = refl; same = λ _ _ _ _ _. tt }
   opens (object refs cards) e = record { opening = count-opening (length refs) e; zero-is = refl; same = λ _ _ _ _ _. tt }
   opens (sparse refs cards) e =

@@ -1,34 +1,34 @@
 -- What was made of a supply's words reads back: laws of one thing after the other, and of a container's elements whatever their order.
 -- Assumes nothing.
-use mathlib.Core.Path.{_≡_, refl, ap, ap₂, sym, _∙_}
+use mathlib.Core.Path.{_≡_, refl, ap, sym, _∙_}
 use mathlib.Core.Logic.{⊎-elim}
 use mathlib.Core.Bool.{Bool, true, false}
-use mathlib.Core.List.{List, [], _∷_, _++_, append-assoc}
+use mathlib.Core.List.{List, [], _++_, append-assoc}
 use mathlib.Core.Option.{Option, none, some}
 use Prim.Native.Nat.{ℕ, zero, suc, _+_, _*_, _^_, _<_, _≤_}
 use native.Mathlib.Omega.{arith}
 use native.Mathlib.Nat.{add-assoc}
 use lib.Dec.{eqb}
-use lib.ListN.{length, take, drop, getD, length-append}
+use lib.ListN.{length, drop, getD, length-append}
 use lib.Seq.{getD-drop}
 use borrow.Author.Tests.{eqb-true, ne-eqb, eq-eqb}
 use Rattle.wire.specs.Choice.{pick}
 use Rattle.wire.proofs.Picks.{pick-split}
 use Rattle.heads.specs.Heads.{gone, endOf, indexOf}
 use Rattle.heads.specs.declared.Head.{Head}
-use Rattle.heads.specs.declared.Head.the-variants.{Present, Absent, Fault}
+use Rattle.heads.specs.declared.Head.the-variants.{Present, Absent}
 use Rattle.rules.specs.Node.{Node, refAt}
 use Rattle.rules.specs.Forest.{Entry, Forest, empty, tree, append, width}
-use Rattle.rules.specs.Values.{Outcome, refused, listed, then, under, entryOf, Rule, absent, present, member, Form, elements}
+use Rattle.rules.specs.Values.{Outcome, listed, then, under, entryOf, Rule, absent, present, member, Form, elements}
 use Rattle.rules.proofs.Forests.{width-append}
-use Rattle.rules.proofs.Loops.{elements-done, elements-next}
-use Rattle.supply.specs.Supply.{Claim, Next, short, next, claimOf, nextOf, SameBytes, SamePart, Agree, AgreeNext, Agrees, zeroHead, zeroPart, zeroMember, zeroElements}
+use Rattle.rules.proofs.Loops.{elements-done}
+use Rattle.supply.specs.Supply.{Claim, Next, short, next, claimOf, nextOf, SameBytes, SamePart, Agree, AgreeNext, Agrees, zeroPart, zeroMember, zeroElements}
 use Rattle.supply.specs.Build.{Made, wrong, made, before, andThen, Builder, headBytes, Order, mayLack, absentMade, headed, partMade, memberMade, stateAfter, elementsMade}
 use Rattle.supply.proofs.SoundHeads.{Tail, tail-length, tail-next, tail-within, tail-take, tail-between, head-zero, head-length}
 
 -- ---- what is made, taken apart
 
-not-made : {A : Type 0} {b rest : List ℕ} → wrong ≡ made b rest → A
+pub not-made : {A : Type 0} {b rest : List ℕ} → wrong ≡ made b rest → A
 not-made e = let z : _≡_ {A = ℕ} 0 1 = cc in absurd (omega arith)
 
 -- a test that was passed, where anything else is a fault
@@ -122,17 +122,17 @@ module _ (look : ℕ → Node) (t src : List ℕ) where
       }
 
   -- an entry whose claim is c, and what is below it
-  pub reads-under : (n : ℕ) (e : Entry) (o : Outcome) (z z′ b b′ ws rest : List ℕ) (c : Claim) (ws′ : List ℕ) → nextOf ws ≡ next c ws′
-      → Agree (look (e .node)) t src e n c → z′ ≡ b′ → Reads n o z b ws′ rest → Reads 1 (under e o) (z′ ++ z) (b′ ++ b) ws rest
+  pub reads-under : (n : ℕ) (e : Entry) (o : Outcome) (z z′ b b′ whole ws rest : List ℕ) (c : Claim) (ws′ : List ℕ) → nextOf ws ≡ next c ws′
+      → Agree (look (e .node)) t src e n c → z′ ≡ b′ → whole ≡ b′ ++ b → Reads n o z b ws′ rest → Reads 1 (under e o) (z′ ++ z) whole ws rest
   unfolding under Agrees AgreeNext width
-  reads-under n e o z z′ b b′ ws rest c ws′ entry agree zero-is x =
+  reads-under n e o z z′ b b′ whole ws rest c ws′ entry agree zero-is parts x =
       let d = next-is ws c ws′ entry in
       record {
         forest = tree e (x .forest) empty;
         is = rw (x .is);
         wide = omega arith;
         agrees = (rw (entry, x .wide) agree, (rest, rw (d .1) (x .agrees), refl));
-        zeros-are = rw (zero-is, x .zeros-are);
+        zeros-are = rw (zero-is, x .zeros-are) (sym parts);
         small = x .small;
       }
 
@@ -184,10 +184,6 @@ Inner look t src rule rules zrule =
 
 module _ (look : ℕ → Node) (t src : List ℕ) (rule : Builder) (rules : Rule) (zrule : ℕ → List ℕ → List ℕ) (inner : Inner look t src rule rules zrule)
     (v : Node) (base : ℕ) (s more : List ℕ) (stands : Tail t base (s ++ more)) (few : length s < 2 ^ 30) where
-  -- a part of the container stands in the top value
-  inside : (at : ℕ) (b y : List ℕ) → Tail s at (b ++ y) → Tail t (base + at) (b ++ (y ++ more))
-  inside at b y w = tail-within more b y stands w
-
   module _ {S : Type 0} (order : Order S) (form : Form S) (laws : Laws order form v s) where
     -- the head at `at`, and the element with the bytes b that it is of
     record Step (st after : S) (at : ℕ) (ws b mid : List ℕ) : Type 0 where
@@ -195,6 +191,7 @@ module _ (look : ℕ → Node) (t src : List ℕ) (rule : Builder) (rules : Rule
       is : form .head st at ≡ head
       onward : form .next st head ≡ after
       end : endOf head ≡ at + length b
+      long : 4 ≤ length b
       read : Reads look t src 1 (member rules (refAt v) base s head) (zeroMember zrule v s at head) b ws mid
 
     module _ (st : S) (at : ℕ) (ws : List ℕ) (c : Claim) (rest : List ℕ) (entry : nextOf ws ≡ next c rest) (small : Words ws)
@@ -213,6 +210,7 @@ module _ (look : ℕ → Node) (t src : List ℕ) (rule : Builder) (rules : Rule
             is = laws .not-there st (c .index) at y admitted index-small may w;
             onward = laws .onward st (Absent (c .index) start);
             end = refl;
+            long = head-length v (c .index) gone r ref;
             read =
                 rw ref
                 (reads-alone look t src (entryOf r (c .index) (base + start) gone) _ h ws c rest entry
@@ -229,12 +227,13 @@ module _ (look : ℕ → Node) (t src : List ℕ) (rule : Builder) (rules : Rule
           let start = at + length h in
           let w1 : Tail s start (d ++ y) = tail-next h (d ++ y) w in
           let l : start + length (d ++ y) ≡ length s = tail-length (d ++ y) w1 in
-          let x = inner r (c .index) ws d mid small e (omega (arith, length-append d y)) (base + start) (y ++ more) (inside start d y w1) in
+          let x = inner r (c .index) ws d mid small e (omega (arith, length-append d y)) (base + start) (y ++ more) (tail-within more d y stands w1) in
           record {
             head = Present (c .index) start (length d);
             is = laws .there st (c .index) at (length d) (d ++ y) admitted index-small (omega (arith, length-append d y)) (omega (arith, length-append d y)) w;
             onward = laws .onward st (Present (c .index) start (length d));
             end = rw length-append (add-assoc at (length h) (length d));
+            long = omega (arith, length-append h d, head-length v (c .index) (length d) r ref);
             read =
                 rw (ref, tail-take d y w1, tail-between h (d ++ y) w, head-zero v (c .index) (length d))
                 (record {
@@ -285,26 +284,31 @@ module _ (look : ℕ → Node) (t src : List ℕ) (rule : Builder) (rules : Rule
         rw (x .is, x .onward, x .end, e) (reads-then look t src n _ _ _ _ b₁ b₂ ws mid rest (x .read) y)
 
     pub elements-back : (n : ℕ) (st : S) (ws b rest : List ℕ) (at : ℕ) → Words ws → elementsMade order rule v n st ws ≡ made b rest → Tail s at b
-        → Reads look t src n (elements form rules (refAt v) base s n st at) (zeroElements form zrule v s n st at) b ws rest
+        → Reads look t src n (elements form rules (refAt v) base s n st at) (zeroElements form zrule v s n st at) b ws rest × (4 * n ≤ length b)
     unfolding elementsMade zeroElements elements Agrees width
     elements-back zero st ws b rest at small e w =
         let p = spared (order .lacks st) (made [] ws) b rest e in
         let m = p .1 in
         let nil : [] ≡ b = cc in
         let same : ws ≡ rest = cc in
-        let l : at ≡ length s = omega (arith, tail-length b w, ap length nil) in
-        record {
-          forest = empty;
-          is = elements-done form rules (refAt v) base s 0 st at refl l (laws .ends st ∙ p .0);
-          wide = refl;
-          agrees = same;
-          zeros-are = nil;
-          small = rw (← same) small;
-        }
+        let l : at ≡ length s = omega (arith, tail-length b w, ap length nil) in (
+          record {
+            forest = empty;
+            is = elements-done form rules (refAt v) base s 0 st at refl l (laws .ends st ∙ p .0);
+            wide = refl;
+            agrees = same;
+            zeros-are = nil;
+            small = rw (← same) small;
+          },
+          omega arith,
+        )
     elements-back (suc n) st ws b rest at small e w =
         let p = then-parts (memberMade order rule v st ws (nextOf ws)) (elementsMade order rule v n (stateAfter order rule v st (nextOf ws))) b rest e in
         let a = p .after in
         let w0 : Tail s at (p .first ++ a .last) = rw (a .bytes) at w in
         let x = member-step st at ws (p .first) (p .mid) (a .last) small w0 (nextOf ws) refl (p .first-is) in
-        let y = elements-back n (stateAfter order rule v st (nextOf ws)) (p .mid) (a .last) rest (at + length (p .first)) (x .read .small) (a .made-is) (tail-next (p .first) (a .last) w0) in
-        step-back n st _ at ws (p .first) (p .mid) (a .last) rest b (a .bytes) x y
+        let y =
+        elements-back n (stateAfter order rule v st (nextOf ws)) (p .mid) (a .last) rest (at + length (p .first)) (x .read .small) (a .made-is)
+        (tail-next (p .first) (a .last) w0)
+        in
+        (step-back n st _ at ws (p .first) (p .mid) (a .last) rest b (a .bytes) x (y .0), omega (arith, x .long, y .1, ap length (a .bytes), length-append (p .first) (a .last)))
