@@ -1,0 +1,99 @@
+-- Completeness: where an accepted value has the supply, what is put out is that value with the reserved fields of its containers zero. So no
+-- two accepted values with the supply differ but in those fields, and 34 is given only where no accepted value has it. Assumes nothing.
+use mathlib.Core.Path.{_≡_, refl, sym, _∙_}
+use mathlib.Core.Bool.{true, false}
+use mathlib.Core.List.{List, [], _∷_, append-nil}
+use Prim.Native.Nat.{ℕ, _≤_, _<_}
+use native.Mathlib.Omega.{arith}
+use lib.Dec.{ltb}
+use lib.ListN.{length, getD}
+use borrow.Author.Tests.{eqb-true, ltb-false, le-ltb}
+use Rattle.wire.specs.Choice.{pick}
+use Rattle.wire.proofs.Picks.{pick-case}
+use Rattle.rules.specs.Forest.{Forest, empty}
+use Rattle.rules.specs.Values.{Outcome, refused, listed, valueOf, fuel}
+use Rattle.plan.specs.Plan.{look, noType, planFormed}
+use Rattle.run.specs.Run.{nothingIn, valueBy, checked}
+use Rattle.supply.specs.Supply.{Agrees, zeroValue, zeroed, HasSupply}
+use Rattle.supply.specs.Build.{buildOf}
+use Rattle.supply.specs.Write.{Put, refusedPut, putOut, madeBy, suppliedBy, roomed, writeOf}
+use Rattle.supply.proofs.Fields.{Stands}
+use Rattle.supply.proofs.Zeros.{Whole, value-whole}
+
+-- ---- the call
+
+-- what an accepted value is: of "no type", none
+data Accepts (p s : List ℕ) (f : Forest) : Type 0 where
+  nothing-in : noType p ≡ true → s ≡ [] → f ≡ empty → Accepts p s f
+  value-in : noType p ≡ false → length s ≤ 65535 → valueOf (look p) (getD p 1 0) 0 0 s ≡ listed f → Accepts p s f
+
+refuse : {A : Type 0} {n p : ℕ} {f : Forest} → refused n p ≡ listed f → A
+refuse e = let z : _≡_ {A = ℕ} 0 1 = cc in absurd (omega arith)
+
+module _ (p s : List ℕ) where
+  accepts : (f : Forest) → checked p s ≡ listed f → (planFormed p ≡ true) × Accepts p s f
+  unfolding checked valueBy nothingIn
+  accepts f =
+      let P : Outcome → Type 0 = λ o. o ≡ listed f → (planFormed p ≡ true) × Accepts p s f in
+      pick-case P _ _ _
+      (λ formed. pick-case P _ _ _ (λ _ e. refuse e)
+      (λ small. pick-case P _ _ _
+      (λ none. pick-case P _ _ _ (λ z e. (formed, nothing-in none (no-bytes s (eqb-true _ _ z)) (cc))) (λ _ e. refuse e))
+      (λ some e. (formed, value-in some (ltb-false _ _ small) e))))
+      (λ _ e. refuse e)
+    where
+      no-bytes : (s : List ℕ) → length s ≡ 0 → s ≡ []
+      no-bytes [] e = refl
+      no-bytes (x ∷ s) e = absurd (omega arith)
+
+module _ (p s : List ℕ) (bytes : (i : ℕ) → getD s i 0 < 256) where
+  -- a value that has a type is whole for any source
+  of-value : (src : List ℕ) (f : Forest) → length s ≤ 65535 → valueOf (look p) (getD p 1 0) 0 0 s ≡ listed f
+      → Whole (look p) s src 0 (buildOf src (look p) (getD p 1 0) 0) (zeroValue (look p) fuel (getD p 1 0) s) (length s) f
+  unfolding valueOf buildOf
+  of-value src f small e =
+      let top : Stands s 0 s = record { rest = []; is = sym (append-nil s) } in
+      rw e at (value-whole (look p) s src fuel (getD p 1 0) 0 0 s top bytes small)
+
+  accepted-length : (f : Forest) → Accepts p s f → length (zeroed p s) ≡ length s
+  unfolding zeroed pick
+  accepted-length f (nothing-in no-type e g) = rw no-type
+  accepted-length f (value-in typed small e) = rw typed (of-value [] f small e .size)
+
+  accepted-supplied : (ws src : List ℕ) (f : Forest) → Accepts p s f → Agrees (look p) s src f ws [] → suppliedBy (madeBy p ws src) ≡ putOut (zeroed p s)
+  unfolding suppliedBy madeBy zeroed pick Agrees
+  accepted-supplied ws src f (nothing-in no-type e g) a = let over : ws ≡ [] = rw g at a in rw (no-type, over, e)
+  accepted-supplied ws src f (value-in typed small e) a =
+      let w = of-value src f small e in
+      rw (typed, w .makes ws [] a .is, w .size, le-ltb 65535 (length s) small)
+
+  -- An accepted value is as long with its containers' reserved fields zero.
+  pub zeroed-length : (f : Forest) → checked p s ≡ listed f → length (zeroed p s) ≡ length s
+  zeroed-length f e = accepted-length f (accepts p s f e .1)
+
+  -- what is made of its supply, whatever the room
+  pub supplied : (ws src : List ℕ) → HasSupply p s ws src → suppliedBy (madeBy p ws src) ≡ putOut (zeroed p s)
+  supplied ws src h = accepted-supplied ws src (h .forest) (accepts p s (h .forest) (h .accepted) .1) (h .agrees)
+
+-- Where an accepted value has the supply, that value is put out with its containers' reserved fields zero, or the room is too small for it.
+pub complete : (p s ws src : List ℕ) (room : ℕ) → ((i : ℕ) → getD s i 0 < 256) → HasSupply p s ws src → writeOf p ws src room ≡ roomed room (putOut (zeroed p s))
+unfolding writeOf pick
+complete p s ws src room bytes h = rw (accepts p s (h .forest) (h .accepted) .0, supplied p s bytes ws src h)
+
+-- Where 34 is given, no accepted value has the supply.
+pub refused-none : (p s ws src : List ℕ) (room : ℕ) → ((i : ℕ) → getD s i 0 < 256) → writeOf p ws src room ≡ refusedPut 34 → HasSupply p s ws src → ⊥
+unfolding roomed
+refused-none p s ws src room bytes e h =
+    let P : Put → Type 0 = λ x. x ≡ refusedPut 34 → ⊥ in
+    pick-case P (ltb room (length (zeroed p s))) (refusedPut 32) (putOut (zeroed p s))
+    (λ _ d. let z : _≡_ {A = ℕ} 32 34 = cc in omega arith)
+    (λ _ d. let z : _≡_ {A = ℕ} 0 1 = cc in omega arith)
+    (sym (complete p s ws src room bytes h) ∙ e)
+
+-- Accepted values that have one supply are the same but for their containers' reserved fields.
+pub one-value : (p s s′ ws src : List ℕ) → ((i : ℕ) → getD s i 0 < 256) → ((i : ℕ) → getD s′ i 0 < 256) → HasSupply p s ws src → HasSupply p s′ ws src
+    → zeroed p s ≡ zeroed p s′
+one-value p s s′ ws src bytes bytes′ h h′ =
+    let x = supplied p s bytes ws src h in
+    let y = supplied p s′ bytes′ ws src h′ in
+    cc
