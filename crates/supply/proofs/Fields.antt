@@ -7,7 +7,7 @@ use native.Mathlib.Omega.{arith}
 use native.Mathlib.Decide.{decLt}
 use native.Mathlib.Nat.{add-zero, suc-add, zero-add}
 use lib.Dec.{lit<}
-use lib.ListN.{length, take, drop, getD, length-append, length-take, take-append-drop, List·getD-append, List·getD-eq-default, set as store}
+use lib.ListN.{length, take, drop, getD, length-append, length-take, length-drop, take-append-drop, List·getD-append, List·getD-eq-default, set as store}
 use lib.Seq.{take-add, drop-drop, take-take, take-nil, length-take-le, take-suc, take-append-seam, drop-append-le, getD-take, getD-drop}
 use borrow.Author.Tests.{eqb-true, eqb-false, ltb-false, lt-ltb, eq-eqb, ne-eqb}
 use Rattle.wire.specs.Choice.{pick}
@@ -40,6 +40,32 @@ bytes-part s b start n i =
           let h : length (take n (drop start s)) ≤ i = simp length-take (omega arith) in
           rw (List·getD-eq-default (take n (drop start s)) 0 h) (lit< tt)
     ]
+
+-- ---- where a value stands
+
+-- s stands in t at a position
+pub record Stands (t : List ℕ) (base : ℕ) (s : List ℕ) : Type 0 where
+  pub rest : List ℕ
+  pub is : drop base t ≡ s ++ rest
+
+module _ (t : List ℕ) (base : ℕ) (s : List ℕ) (st : Stands t base s) where
+  pub stands-first : 1 ≤ length s → getD t base 0 ≡ getD s 0 0
+  stands-first h =
+      let e : getD (drop base t) 0 0 ≡ getD t base 0 = rw add-zero at (getD-drop base t 0 0) in
+      sym e ∙ rw (st .is) (List·getD-append s (st .rest) 0 0 h)
+
+  pub stands-whole : take (length s) (drop base t) ≡ s
+  stands-whole = rw (st .is) (take-append-seam s (st .rest))
+
+  -- a part of it
+  pub stands-part : (start n : ℕ) → start + n ≤ length s → Stands t (base + start) (take n (drop start s))
+  stands-part start n h =
+      record {
+        rest = drop n (drop start s) ++ st .rest;
+        is = rw (← drop-drop, st .is, drop-append-le start s (st .rest) (omega arith), ← append-assoc, take-append-drop);
+      }
+
+-- ---- words
 
 -- what is after n of the first n + m
 drop-take : (n m : ℕ) (l : List ℕ) → drop n (take (n + m) l) ≡ take m (drop n l)
@@ -221,28 +247,6 @@ abbrev pub Opened : Node → (t src : List ℕ) → ℕ → List ℕ → Opening
 Opened v t src base s (Wrong m) = Unit {0}
 Opened v t src base s (Elements n first at) = Opens v t src base s n first at
 
--- s stands in t at a position
-pub record Stands (t : List ℕ) (base : ℕ) (s : List ℕ) : Type 0 where
-  pub rest : List ℕ
-  pub is : drop base t ≡ s ++ rest
-
-module _ (t : List ℕ) (base : ℕ) (s : List ℕ) (st : Stands t base s) where
-  pub stands-first : 1 ≤ length s → getD t base 0 ≡ getD s 0 0
-  stands-first h =
-      let e : getD (drop base t) 0 0 ≡ getD t base 0 = rw add-zero at (getD-drop base t 0 0) in
-      sym e ∙ rw (st .is) (List·getD-append s (st .rest) 0 0 h)
-
-  pub stands-whole : take (length s) (drop base t) ≡ s
-  stands-whole = rw (st .is) (take-append-seam s (st .rest))
-
-  -- a part of it
-  pub stands-part : (start n : ℕ) → start + n ≤ length s → Stands t (base + start) (take n (drop start s))
-  stands-part start n h =
-      record {
-        rest = drop n (drop start s) ++ st .rest;
-        is = rw (← drop-drop, st .is, drop-append-le start s (st .rest) (omega arith), ← append-assoc, take-append-drop);
-      }
-
 -- a range's bounds stand after its flags
 abbrev AtOne : Opening → Type 0
 AtOne (Wrong m) = Unit {0}
@@ -255,59 +259,51 @@ bounds-one fl =
     (λ _. pick-case AtOne _ _ _ (λ _. pick-case AtOne _ _ _ (λ _. refl) (λ _. refl)) (λ _. pick-case AtOne _ _ _ (λ _. refl) (λ _. refl)))
 
 module _ (s : List ℕ) (b : Bytes s) where
-  -- "Empty sets and arrays"
-  none-bytes : 12 ≤ length s → word s 0 ≡ 0 → zeros 12 ≡ take 4 (take 12 s) ++ (zeros 8 ++ drop 12 (take 12 s))
-  unfolding bytesBe
+  -- of no elements, with reserved fields zero
+  none-bytes : 12 ≤ length s → word s 0 ≡ 0 → setBytes 0 ≡ take 4 (take 12 s) ++ (zeros 8 ++ drop 12 (take 12 s))
+  unfolding setBytes bytesBe pick
   none-bytes h e =
       rw (take-take 4 12 s (omega arith), drop-take 12 0 s, ← (word-bytes s b 0 0 (omega arith) e))
 
-  some-bytes : (n : ℕ) → 20 ≤ length s → word s 0 ≡ 1 → word s 12 ≡ n → word s 16 ≡ 1
-      → bytesBe 4 1 ++ (zeros 8 ++ (bytesBe 4 n ++ bytesBe 4 1)) ≡ take 4 (take 20 s) ++ (zeros 8 ++ drop 12 (take 20 s))
-  some-bytes n h one e last =
-      rw (take-take 4 20 s (omega arith), drop-take 12 8 s, ← (word-bytes s b 0 1 (omega arith) one), ← (two-words s b 12 n 1 (omega arith) e last))
+  -- of some
+  some-bytes : (n : ℕ) → (n ≡ 0 → ⊥) → 20 ≤ length s → word s 0 ≡ 1 → word s 12 ≡ n → word s 16 ≡ 1
+      → setBytes n ≡ take 4 (take 20 s) ++ (zeros 8 ++ drop 12 (take 20 s))
+  unfolding setBytes pick
+  some-bytes n many h one e last =
+      rw (ne-eqb n 0 many, take-take 4 20 s (omega arith), drop-take 12 8 s, ← (word-bytes s b 0 1 (omega arith) one), ← (two-words s b 12 n 1 (omega arith) e last))
 
   module _ (t src : List ℕ) (base : ℕ) where
-    set-none : (v : Node) → ((h : List ℕ) → zeroOpening v h ≡ take 4 h ++ (zeros 8 ++ drop 12 h)) → ((d : Claim) → frontOf v src d ≡ front (setBytes (d .count)) 0)
-        → 12 ≤ length s → word s 0 ≡ 0 → Opens v t src base s 0 0 12
-    unfolding setBytes pick
-    set-none v p q h e =
-        let z = none-bytes h e in
-        record {
-          inside = h;
-          whole = rw (p (take 12 s), ← z);
-          front = λ d c _. rw (q d, ← c, p (take 12 s), ← z);
-        }
+    -- a set, an array or a set of arrays
+    module _ (v : Node) (p : (h : List ℕ) → zeroOpening v h ≡ take 4 h ++ (zeros 8 ++ drop 12 h)) (q : (d : Claim) → frontOf v src d ≡ front (setBytes (d .count)) 0) where
+      set-bytes : (n at : ℕ) → 12 ≤ at → at ≤ length s → setBytes n ≡ take 4 (take at s) ++ (zeros 8 ++ drop 12 (take at s)) → Opens v t src base s n 0 at
+      set-bytes n at low h z =
+          record {
+            inside = h;
+            whole = rw (p (take at s)) (simp (length-append, length-take, length-drop) (omega arith));
+            front = λ d c _. rw (q d, ← c, p (take at s), z);
+          }
 
-    set-some : (v : Node) → ((h : List ℕ) → zeroOpening v h ≡ take 4 h ++ (zeros 8 ++ drop 12 h)) → ((d : Claim) → frontOf v src d ≡ front (setBytes (d .count)) 0)
-        → (n : ℕ) → 20 ≤ length s → word s 0 ≡ 1 → word s 12 ≡ n → (n ≡ 0 → ⊥) → word s 16 ≡ 1 → Opens v t src base s n 0 20
-    unfolding setBytes pick
-    set-some v p q n h one e many last =
-        let z = some-bytes n h one e last in
-        record {
-          inside = h;
-          whole = rw (p (take 20 s), ← z) (simp (length-append, length-bytes));
-          front = λ d c _. rw (q d, ← c, ne-eqb n 0 many, p (take 20 s), ← z);
-        }
-
-    set-opens : (v : Node) → ((h : List ℕ) → zeroOpening v h ≡ take 4 h ++ (zeros 8 ++ drop 12 h)) → ((d : Claim) → frontOf v src d ≡ front (setBytes (d .count)) 0)
-        → Opened v t src base s (setOpening s)
-    unfolding setOpening
-    set-opens v p q =
-        let P = Opened v t src base s in
-        pick-case P _ _ _ (λ _. tt)
-        (λ _. pick-case P _ _ _ (λ _. tt)
-        (λ few. pick-case P _ _ _ (λ _. tt)
-        (λ h. pick-case P _ _ _ (λ none. set-none v p q (ltb-false _ _ h) (eqb-true _ _ none))
-        (λ some. pick-case P _ _ _ (λ _. tt)
-        (λ _. pick-case P _ _ _ (λ _. tt)
-        (λ many. pick-case P _ _ _ (λ _. tt)
-        (λ _. pick-case P _ _ _ (λ _. tt)
-        (λ k. pick-case P _ _ _
-        (λ last. set-some v p q (word s 12) (ltb-false _ _ k) (is-one (word s 0) (ltb-false _ _ few) (eqb-false _ _ some)) refl (eqb-false _ _ many) (eqb-true _ _ last))
-        (λ _. tt)))))))))
-      where
-        is-one : (n : ℕ) → n ≤ 1 → (n ≡ 0 → ⊥) → n ≡ 1
-        is-one n h k = omega arith
+      set-opens : Opened v t src base s (setOpening s)
+      unfolding setOpening
+      set-opens =
+          let P = Opened v t src base s in
+          pick-case P _ _ _ (λ _. tt)
+          (λ _. pick-case P _ _ _ (λ _. tt)
+          (λ few. pick-case P _ _ _ (λ _. tt)
+          (λ h. pick-case P _ _ _ (λ none. let k : 12 ≤ length s = ltb-false _ _ h in set-bytes 0 12 (omega arith) k (none-bytes k (eqb-true _ _ none)))
+          (λ some. pick-case P _ _ _ (λ _. tt)
+          (λ _. pick-case P _ _ _ (λ _. tt)
+          (λ many. pick-case P _ _ _ (λ _. tt)
+          (λ _. pick-case P _ _ _ (λ _. tt)
+          (λ h. pick-case P _ _ _
+          (λ last.
+          let k : 20 ≤ length s = ltb-false _ _ h in
+          let one = is-one (word s 0) (ltb-false _ _ few) (eqb-false _ _ some) in
+          set-bytes (word s 12) 20 (omega arith) k (some-bytes (word s 12) (eqb-false _ _ many) k one refl (eqb-true _ _ last)))
+          (λ _. tt)))))))))
+        where
+          is-one : (n : ℕ) → n ≤ 1 → (n ≡ 0 → ⊥) → n ≡ 1
+          is-one n h k = omega arith
 
     -- a count, as it is in the value
     count-bytes : (v : Node) → ((h : List ℕ) → zeroOpening v h ≡ h) → (n : ℕ) → 4 ≤ length s → word s 0 ≡ n
