@@ -261,20 +261,26 @@ unfoldable pub Within : ℕ → Spot → Type 0
 Within n nowhere = Unit {0}
 Within n (spot e below) = (e .size ≡ gone) ⊎ (e .start + e .size ≤ n)
 
--- where a path leads in the top value t: a descent finds it, and it lies in t
-pub record Led (t : List ℕ) (x : Spot) (d : Found) : Type 0 where
+-- what is found is an accepted value of a node of the plan
+unfoldable pub Accepts : List ℕ → Found → Type 0
+Accepts p (unfound n q) = Unit {0}
+Accepts p (found k a b) = (At p k) × ((i : ℕ) × (f : Forest) × (valueOf (look p) k i a b ≡ listed f))
+
+-- where a path leads in the top value t: a descent finds it, it lies in t, and it is accepted
+pub record Led (p t : List ℕ) (x : Spot) (d : Found) : Type 0 where
   pub found-is : foundAt t x ≡ d
   pub within : Within (length t) x
+  pub accepts : Accepts p d
 
-led-nowhere : (t path : List ℕ) → Led t (follow path nowhere) (unfound 35 0)
-unfolding foundAt Within
-led-nowhere t path = rw (follow-nowhere path) (record { found-is = refl; within = tt })
+led-nowhere : (p t path : List ℕ) → Led p t (follow path nowhere) (unfound 35 0)
+unfolding foundAt Within Accepts
+led-nowhere p t path = rw (follow-nowhere path) (record { found-is = refl; within = tt; accepts = tt })
 
 -- to an absent element, or below it
-led-absent : (t path : List ℕ) (e : Entry) → e .size ≡ gone → Led t (follow path (spot e empty)) (missing path)
-unfolding foundAt follow step sibling missing Within pick
-led-absent t [] e g = record { found-is = rw (eq-eqb (e .size) gone g); within = inl g }
-led-absent t (i ∷ path) e g = led-nowhere t path
+led-absent : (p t path : List ℕ) (e : Entry) → e .size ≡ gone → Led p t (follow path (spot e empty)) (missing path)
+unfolding foundAt follow step sibling missing Within Accepts pick
+led-absent p t [] e g = record { found-is = rw (eq-eqb (e .size) gone g); within = inl g; accepts = tt }
+led-absent p t (i ∷ path) e g = led-nowhere p t path
 
 module _ (p t : List ℕ) (few : length t ≤ 65535) where
   abbrev rule : Rule
@@ -284,26 +290,26 @@ module _ (p t : List ℕ) (few : length t ≤ 65535) where
   abbrev Leads : List ℕ → Type 0
   Leads path =
       (k : ℕ) → At p k → (i base : ℕ) (s : List ℕ) (f : Forest) → base + length s ≤ length t → Stands t base s → rule k i base s ≡ listed f
-      → Led t (follow path (topOf f)) (descend (look p) path k base s)
+      → Led p t (follow path (topOf f)) (descend (look p) path k base s)
 
   module _ (path : List ℕ) (leads : Leads path) (k : ℕ) (a : At p k) (base : ℕ) (s : List ℕ) (le : base + length s ≤ length t) (st : Stands t base s) where
     -- from an element that is listed
-    absent-leads : (o : Option ℕ) (i start : ℕ) (g : Forest) → absent o i start ≡ listed g → Led t (follow path (topOf g)) (missing path)
+    absent-leads : (o : Option ℕ) (i start : ℕ) (g : Forest) → absent o i start ≡ listed g → Led p t (follow path (topOf g)) (missing path)
     unfolding absent topOf
     absent-leads none i start g e = let z : _≡_ {A = ℕ} 0 1 = cc in absurd (omega arith)
     absent-leads (some c) i start g e =
-        let q : g ≡ tree (entryOf c i start gone) empty empty = cc in rw q (led-absent t path (entryOf c i start gone) refl)
+        let q : g ≡ tree (entryOf c i start gone) empty empty = cc in rw q (led-absent p t path (entryOf c i start gone) refl)
 
     present-leads : (o : Option ℕ) (i start size : ℕ) → refAt (look p k) i ≡ o → start + size ≤ length s → (g : Forest)
         → present rule o i (base + start) (take size (drop start s)) ≡ listed g
-        → Led t (follow path (topOf g)) (inPart (descend (look p) path) o (base + start) (take size (drop start s)))
+        → Led p t (follow path (topOf g)) (inPart (descend (look p) path) o (base + start) (take size (drop start s)))
     unfolding present inPart
     present-leads none i start size r l g e = let z : _≡_ {A = ℕ} 0 1 = cc in absurd (omega arith)
     present-leads (some c) i start size r l g e =
         leads c (at-ref p k i c a r .0) i (base + start) (take size (drop start s)) g (simp (length-take, length-drop) (omega arith)) (stands-part t base s st start size l) e
 
     member-leads : (w : ℕ) (h : Head) → h ≡ childHead (look p k) s w → (g : Forest) → member rule (refAt (look p k)) base s h ≡ listed g
-        → Led t (follow path (topOf g)) (onHead (descend (look p) path) (missing path) (look p k) base s h)
+        → Led p t (follow path (topOf g)) (onHead (descend (look p) path) (missing path) (look p k) base s h)
     unfolding member onHead
     member-leads w (Fault n) eh g e = let z : _≡_ {A = ℕ} 0 1 = cc in absurd (omega arith)
     member-leads w (Absent i start) eh g e = absent-leads (refAt (look p k) i) i (base + start) g e
@@ -311,23 +317,23 @@ module _ (p t : List ℕ) (few : length t ≤ 65535) where
         present-leads (refAt (look p k) i) i start size refl (child-in p k a s w _ eh i start size refl .inside) g e
 
     step-leads : (w : ℕ) (f : Forest) → Sought rule (refAt (look p k)) base s w f (childHead (look p k) s w)
-        → Led t (follow path (sibling w f)) (onHead (descend (look p) path) (missing path) (look p k) base s (childHead (look p k) s w))
+        → Led p t (follow path (sibling w f)) (onHead (descend (look p) path) (missing path) (look p k) base s (childHead (look p k) s w))
     unfolding Sought onHead
     step-leads w f x =
         ⊎-elim
-        (λ y. rw (y .1, y .0) (led-nowhere t path))
+        (λ y. rw (y .1, y .0) (led-nowhere p t path))
         (λ y. rw (y .2) (member-leads w (childHead (look p k) s w) refl (y .0) (y .1)))
         x
 
   pub leads : (path : List ℕ) → Leads path
-  unfolding follow step topOf descend foundAt Within pick
+  unfolding follow step topOf descend foundAt Within Accepts pick
   leads [] k a i base s f le st e =
       let o = owns (look p) k i base s f e in
-      rw (o .is)
-      (record {
-        found-is = rw (ne-eqb (length s) gone (λ (z : length s ≡ gone). omega (arith, z, few, le)), stands-whole t base s st);
-        within = inr le;
-      })
+      record {
+        found-is = rw (o .is, ne-eqb (length s) gone (λ (z : length s ≡ gone). omega (arith, z, few, le)), stands-whole t base s st);
+        within = rw (o .is) (inr le);
+        accepts = (a, (i, f, e));
+      }
   leads (w ∷ path) k a i base s f le st e =
       let o = node-inner rule (owns (look p)) k i base s f (look p k) (sym (step-is p k a i base s) ∙ e) in
       rw (o .is) (step-leads path (leads path) k a base s le st w (o .below) (o .sought-in w))
