@@ -109,7 +109,7 @@ opening-holds (range r) s n first at x e i h = record { to = r; is = refl }
 
 -- ---- a node's kind
 
-kinds : (P : ℕ → Type 0) (m : ℕ) → 2 ≤ m → m ≤ 7 → P 2 → P 3 → P 4 → P 5 → P 6 → P 7 → P m
+pub kinds : (P : ℕ → Type 0) (m : ℕ) → 2 ≤ m → m ≤ 7 → P 2 → P 3 → P 4 → P 5 → P 6 → P 7 → P m
 kinds P zero l h a b c d e f = absurd (omega arith)
 kinds P (suc zero) l h a b c d e f = absurd (omega arith)
 kinds P (suc (suc zero)) l h a b c d e f = a
