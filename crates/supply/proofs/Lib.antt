@@ -6,3 +6,14 @@ pub mod Fields
 pub mod Zeros
 pub mod Complete
 pub mod RoundTrip
+pub mod Stores
+pub mod Entries
+pub mod Containers
+pub mod Heads
+pub mod Fronts
+pub mod Stands
+pub mod Enough
+pub mod Parts
+pub mod Elements
+pub mod Values
+pub mod Writes

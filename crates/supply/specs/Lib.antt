@@ -1,3 +1,5 @@
 pub mod Supply
 pub mod Build
 pub mod Write
+pub mod Emitting
+pub mod Answers

@@ -1,1 +1,100 @@
-// Writes a value from a supply: a list and source bytes.
+// Writes a value from a supply, which is a list and source bytes: "The writer puts out the accepted value that has the supply and whose
+// containers' reserved fields are zero." A first pass judges and measures, a second puts the bytes out.
+pub mod front;
+pub mod head;
+pub mod list;
+pub mod walk;
+
+ghost use mathlib.Core.Path.{_≡_};
+ghost use mathlib.Core.Bool.{true};
+ghost use lib.ListN.{length};
+ghost use Rattle.plan.specs.Plan.{look, planFormed, At};
+ghost use Rattle.supply.specs.Build.{buildOf};
+ghost use Rattle.supply.specs.Write.{madeBy, writeOf};
+ghost use Rattle.supply.specs.Emitting.{put-at, standOf};
+ghost use Rattle.supply.specs.Answers.{Puts};
+
+// The five words of a list's entry.
+pub struct Entry {
+    pub node: u32,
+    pub index: u32,
+    pub start: u32,
+    pub size: u32,
+    pub count: u32,
+}
+
+// The next entry of a list, if its words are all there.
+pub enum Read {
+    Short,
+    Whole(Entry),
+}
+
+// A container's head that was put out: the index of its first element, and the next byte of the output; or a fault.
+pub enum Opened {
+    Shut,
+    Open { first: usize, at: usize },
+}
+
+// A building so far: a fault, or the next word of the list and the next byte of the output.
+pub enum Built {
+    Failed,
+    Done { word: usize, at: usize },
+}
+
+// What writing a value gives: refused, with the number; or the bytes of the value.
+pub enum Answer {
+    Refused { no: u32 },
+    Written { bytes: u32 },
+}
+
+// The value of a node that is the top of its plan, from the list's first entry: "top 0". The top may not be absent.
+fn build_top(plan: &[u32], node: usize, src: &[u8], list: &[u32], out: &mut [u8]) -> Built
+    requires { ⌜ At (now plan) node ⌝ }
+    ensures { λ r. ⌜ standOf r (now (list .entry)) (now (out .exit)) ≡ put-at (buildOf (now (src .entry)) (look (now (plan .entry))) node 0 (now (list .entry))) 0 (now (out .entry)) ⌝ }
+{
+    let read = list::next_entry(list, 0);
+    let Read::Whole(entry) = read else {
+        return Built::Failed;
+    };
+    if entry.index != 0 {
+        return Built::Failed;
+    }
+    if entry.size == list::ABSENT {
+        return Built::Failed;
+    }
+    walk::build_value(plan, node, src, list, entry, 0, out, 0)
+}
+
+// The value of a well-formed plan. "No type" has no node, and the supply of no words.
+fn build_whole(plan: &[u32], src: &[u8], list: &[u32], out: &mut [u8]) -> Built
+    requires { ⌜ planFormed (now plan) ≡ true ⌝ }
+    ensures { λ r. ⌜ standOf r (now (list .entry)) (now (out .exit)) ≡ put-at (madeBy (now (plan .entry)) (now (list .entry)) (now (src .entry))) 0 (now (out .entry)) ⌝ }
+{
+    let root = plan[1] as usize;
+    if root == 0 {
+        return Built::Done { word: 0, at: 0 };
+    }
+    build_top(plan, root, src, list, out)
+}
+
+// Writes the value of a plan that has the supply of a list and source bytes: "Value writer: 33, 34, 32."
+pub fn write(plan: &[u32], list: &[u32], src: &[u8], out: &mut [u8]) -> Answer
+    ensures { λ r. ⌜ Puts (writeOf (now (plan .entry)) (now (list .entry)) (now (src .entry)) (length (now (out .entry)))) r (now (out .entry)) (now (out .exit)) ⌝ }
+{
+    if plan::formed::plan_ok(plan) {
+        let mut none = [0u8; 0];
+        let built = build_whole(plan, src, list, &mut none);
+        let Built::Done { word, at } = built else {
+            return Answer::Refused { no: 34 };
+        };
+        if word < list.len() {
+            return Answer::Refused { no: 34 };
+        }
+        if out.len() < at {
+            return Answer::Refused { no: 32 };
+        }
+        build_whole(plan, src, list, out);
+        return Answer::Written { bytes: at as u32 };
+    }
+    Answer::Refused { no: 33 }
+}

@@ -1,0 +1,92 @@
+-- The laws of a container's elements, one after the other. Assumes nothing.
+use mathlib.Core.Path.{_≡_, ap, sym, _∙_}
+use mathlib.Core.Bool.{Bool, true, false}
+use mathlib.Core.List.{List, []}
+use Prim.Native.Nat.{ℕ, zero, suc, _+_, _-_, _<_, _≤_}
+use native.Mathlib.Omega.{arith}
+use native.Mathlib.Nat.{add-zero, not-suc-le-zero}
+use native.Mathlib.Numerals.{sub-one}
+use lib.ListN.{length, getD}
+use borrow.Author.Tests.{lt-ltb, le-ltb}
+use Rattle.wire.specs.Choice.{pick}
+use Rattle.rules.specs.Node.{Node, refAt}
+use Rattle.plan.specs.Plan.{cardsAt}
+use Rattle.plan.proofs.Looks.{cards-length}
+use Rattle.supply.specs.Supply.{Claim, short, next, nextOf}
+use Rattle.supply.specs.Build.{Made, wrong, made, andThen, Builder, Order, sparseOrder, partMade, memberMade, stateAfter, elementsMade}
+use Rattle.supply.specs.Emitting.{broken, stands, put-at}
+use Rattle.supply.proofs.Stands.{put-small, stop, go}
+
+module _ {S : Type 0} (order : Order S) (rule : Builder) (v : Node) (st : S) (ws : List ℕ) (at : ℕ) (out : List ℕ) (n : ℕ) where
+  -- ---- a turn of the loop
+
+  module _ (z : 0 < n) where
+    next-one : elementsMade order rule v n st ws
+        ≡ andThen (memberMade order rule v st ws (nextOf ws)) (elementsMade order rule v (n - 1) (stateAfter order rule v st (nextOf ws)))
+    unfolding elementsMade
+    next-one = some n z
+      where
+        some : (m : ℕ) → 0 < m → elementsMade order rule v m st ws
+            ≡ andThen (memberMade order rule v st ws (nextOf ws)) (elementsMade order rule v (m - 1) (stateAfter order rule v st (nextOf ws)))
+        some zero h = absurd (not-suc-le-zero h)
+        some (suc m) h = rw sub-one
+
+    pub turn-short : nextOf ws ≡ short → broken ≡ put-at (elementsMade order rule v n st ws) at out
+    unfolding memberMade andThen put-at
+    turn-short e = sym (ap (λ (m : Made). put-at m at out) next-one ∙ rw e)
+
+    module _ (c : Claim) (rest : List ℕ) (e : nextOf ws ≡ next c rest) where
+      pub turn-barred : order .admits st (c .index) ≡ false → broken ≡ put-at (elementsMade order rule v n st ws) at out
+      unfolding memberMade andThen put-at pick
+      turn-barred f = sym (ap (λ (m : Made). put-at m at out) next-one ∙ rw (e, f))
+
+      module _ (f : order .admits st (c .index) ≡ true) where
+        turn-is : elementsMade order rule v n st ws
+            ≡ andThen (partMade rule v (refAt v (c .index)) c rest ws) (elementsMade order rule v (n - 1) (order .after st (c .index)))
+        unfolding memberMade stateAfter pick
+        turn-is = next-one ∙ rw (e, f)
+
+        pub turn-stop : broken ≡ put-at (partMade rule v (refAt v (c .index)) c rest ws) at out → broken ≡ put-at (elementsMade order rule v n st ws) at out
+        turn-stop q = rw turn-is (stop at out (partMade rule v (refAt v (c .index)) c rest ws) (elementsMade order rule v (n - 1) (order .after st (c .index))) q)
+
+        pub turn-go : (us : List ℕ) (at′ : ℕ) (out′ : List ℕ) → stands us at′ out′ ≡ put-at (partMade rule v (refAt v (c .index)) c rest ws) at out
+            → (st′ : S) → st′ ≡ order .after st (c .index)
+            → put-at (elementsMade order rule v n st ws) at out ≡ put-at (elementsMade order rule v (n - 1) st′ us) at′ out′
+        turn-go us at′ out′ q st′ es =
+            ap (λ (m : Made). put-at m at out) turn-is
+            ∙ go at out (partMade rule v (refAt v (c .index)) c rest ws) (elementsMade order rule v (n - 1) (order .after st (c .index))) us at′ out′ q
+            ∙ rw es
+
+  -- ---- its end
+
+  module _ (z : n ≤ 0) where
+    none-is : elementsMade order rule v n st ws ≡ pick (order .lacks st) wrong (made [] ws)
+    unfolding elementsMade
+    none-is = let e : n ≡ 0 = omega arith in rw e
+
+    pub done : order .lacks st ≡ false → at ≤ 65535 → stands ws at out ≡ put-at (elementsMade order rule v n st ws) at out
+    unfolding pick
+    done e h = sym (ap (λ (m : Made). put-at m at out) (none-is ∙ rw e) ∙ put-small [] ws at out (omega arith) ∙ rw add-zero)
+
+    pub lacks : order .lacks st ≡ true → broken ≡ put-at (elementsMade order rule v n st ws) at out
+    unfolding put-at pick
+    lacks e = rw (none-is, e)
+
+-- ---- which indexes may come
+
+module _ (p : List ℕ) (k : ℕ) (marks : List Bool) (n i : ℕ) (en : n ≡ getD p (k + 1) 0) where
+  count-is : length (cardsAt p k) ≡ n
+  count-is = cards-length p k ∙ sym en
+
+  pub unknown-index : n ≤ i → sparseOrder (cardsAt p k) .admits marks i ≡ false
+  unfolding pick
+  unknown-index h = rw (count-is, le-ltb i n h)
+
+  module _ (h : i < n) where
+    pub same-index : getD marks i false ≡ true → sparseOrder (cardsAt p k) .admits marks i ≡ false
+    unfolding pick
+    same-index e = rw (count-is, lt-ltb i n h, e)
+
+    pub new-index : getD marks i false ≡ false → sparseOrder (cardsAt p k) .admits marks i ≡ true
+    unfolding pick
+    new-index e = rw (count-is, lt-ltb i n h, e)

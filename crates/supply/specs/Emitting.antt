@@ -1,0 +1,69 @@
+-- The building as the code does it: the list by the next word's index, the output by the next byte's. What would pass 65,535 bytes stops
+-- at once, so that a supply costs no more than its own words and the bytes of the largest value. Assumes nothing: these are definitions.
+use Prim.Native.Nat.{ℕ, _+_}
+use mathlib.Core.List.{List, _++_}
+use lib.Dec.{eqb, leb}
+use lib.ListN.{length, drop}
+use lib.Seq.{sets}
+use Rattle.wire.specs.Choice.{pick}
+use Rattle.wire.specs.Be.{bytesBe}
+use Rattle.supply.specs.Supply.{zeros, Claim, Next, short, next}
+use Rattle.supply.specs.Build as Spec
+use Rattle.supply.specs.declared.Entry.{Entry}
+use Rattle.supply.specs.declared.Read.{Read}
+use Rattle.supply.specs.declared.Read.the-variants.{Short, Whole}
+use Rattle.supply.specs.declared.Opened.{Opened}
+use Rattle.supply.specs.declared.Opened.the-variants.{Shut, Open}
+use Rattle.supply.specs.declared.Built.{Built}
+use Rattle.supply.specs.declared.Built.the-variants.{Failed, Done}
+
+-- ---- entries
+
+abbrev pub claim : Entry → Claim
+claim e = record { node = e .node; index = e .index; start = e .start; size = e .size; count = e .count }
+
+-- the next entry, without the words after it
+unfoldable pub readOf : Next → Read
+readOf short = Short
+readOf (next c ws) = Whole (record { node = c .node; index = c .index; start = c .start; size = c .size; count = c .count })
+
+-- ---- heads
+
+-- the head of an element by the kind of its container
+unfoldable pub headOf : ℕ → ℕ → ℕ → List ℕ
+headOf kind i n =
+    pick (eqb kind 3) (bytesBe 4 (12 + n) ++ (bytesBe 4 1 ++ (zeros 4 ++ bytesBe 4 n)))
+    (pick (eqb kind 6) (bytesBe 4 i ++ bytesBe 4 n)
+    (pick (eqb kind 2) (bytesBe 4 n) (pick (eqb kind 7) (bytesBe 4 n) (zeros 4 ++ bytesBe 4 n))))
+
+unfoldable pub headSize : ℕ → ℕ
+headSize kind = pick (eqb kind 3) 16 (pick (eqb kind 2) 4 (pick (eqb kind 7) 4 8))
+
+-- where a container's elements begin: the first's index, the next byte, and the output
+pub data Beginning : Type 0 where
+  shut : Beginning
+  begins : ℕ → ℕ → List ℕ → Beginning
+
+unfoldable pub begin-at : Spec.Front → ℕ → List ℕ → Beginning
+begin-at Spec.faulty at out = shut
+begin-at (Spec.front b first) at out = pick (leb (at + length b) 65535) (begins first (at + length b) (sets out at b)) shut
+
+unfoldable pub beginningOf : Opened → List ℕ → Beginning
+beginningOf Shut out = shut
+beginningOf (Open first at) out = begins first at out
+
+-- ---- values
+
+-- where a building stands: the words left, the next byte, and the output. A fault says nothing of the output.
+pub data Stand : Type 0 where
+  broken : Stand
+  stands : List ℕ → ℕ → List ℕ → Stand
+
+-- where a building from `at` on leads
+unfoldable pub put-at : Spec.Made → ℕ → List ℕ → Stand
+put-at Spec.wrong at out = broken
+put-at (Spec.made b ws) at out = pick (leb (at + length b) 65535) (stands ws (at + length b) (sets out at b)) broken
+
+unfoldable pub standOf : Built → List ℕ → List ℕ → Stand
+standOf Failed ws out = broken
+standOf (Done word at) ws out = stands (drop word ws) at out
