@@ -23,9 +23,9 @@ use Rattle.rules.specs.Forest.{Entry, Forest, empty, tree, append, width}
 use Rattle.rules.specs.Values.{Outcome, refused, listed, then, under, entryOf, Rule, absent, present, member, Form, ending, elements, rowForm, sparseForm, noMarks, leafRule, rowRule, sparseRule, byNode, value}
 use Rattle.rules.proofs.Outcomes.{accepted-listed}
 use Rattle.rules.proofs.Widths.{elements-width}
 use Rattle.supply.specs.Supply.{Claim, Next, next, nextOf, SameLeaf, SameBytes, SamePart, Agree, AgreeNext, Agrees, zeroOpening, zeroHead, between, zeroPart, zeroMember, zeroElements, zeroRow, zeroSparse, zeroNode, zeroValue}
 use Rattle.supply.specs.Build.{Made, made, before, andThen, Builder, front, frontOf, Order, rowOrder, sparseOrder, mayLack, absentMade, headed, partMade, memberMade, stateAfter, elementsMade, leafMade, rowMade, sparseMade, nodeMade, entryMade, build}
-use Rattle.supply.proofs.Fields.{Bytes, bytes-part, Stands, stands-whole, stands-part, HeadOf, Element, Again, row-again, sparse-again, Opens, Opened, opened}
+use Rattle.supply_laws.proofs.Fields.{Bytes, bytes-part, Stands, stands-whole, stands-part, HeadOf, Element, Again, row-again, sparse-again, Opens, Opened, opened}
 
 -- ---- the entries of a supply
 

@@ -22,9 +22,9 @@ use Rattle.rules.specs.Forest.{Entry, Forest, empty, tree, append, width}
 use Rattle.rules.specs.Values.{Outcome, listed, then, under, entryOf, Rule, absent, present, member, Form, elements}
 use Rattle.rules.proofs.Forests.{width-append}
 use Rattle.rules.proofs.Loops.{elements-done}
 use Rattle.supply.specs.Supply.{Claim, Next, short, next, claimOf, nextOf, SameBytes, SamePart, Agree, AgreeNext, Agrees, zeroPart, zeroMember, zeroElements}
 use Rattle.supply.specs.Build.{Made, wrong, made, before, andThen, Builder, headBytes, Order, mayLack, absentMade, headed, partMade, memberMade, stateAfter, elementsMade}
-use Rattle.supply.proofs.SoundHeads.{Tail, tail-length, tail-next, tail-within, tail-take, tail-between, head-zero, head-length}
+use Rattle.supply_laws.proofs.SoundHeads.{Tail, tail-length, tail-next, tail-within, tail-take, tail-between, head-zero, head-length}
 
 -- ---- what is made, taken apart
 

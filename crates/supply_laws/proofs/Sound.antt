@@ -19,11 +19,11 @@ use Rattle.rules.specs.Values.{listed, under, entryOf, Rule, Form, elements, ro
 use Rattle.value.specs.Walk.{IsRow}
 use Rattle.plan.specs.Plan.{look, noType, planFormed}
 use Rattle.run.specs.Run.{nothingIn, valueBy, checked}
 use Rattle.supply.specs.Supply.{Claim, Next, short, next, nextOf, SameLeaf, SameBytes, Agrees, HasSupply, zeroOpening, zeroElements, zeroRow, zeroSparse, zeroNode, zeroValue, zeroed}
 use Rattle.supply.specs.Build.{Made, wrong, made, Builder, Front, faulty, front, frontOf, headBytes, Order, rowOrder, sparseOrder, mayLack, elementsMade, leafMade, rowMade, sparseMade, nodeMade, entryMade, build, buildOf}
 use Rattle.supply.specs.Write.{Put, refusedPut, putOut, madeBy, suppliedBy, roomed, writeOf}
-use Rattle.supply.proofs.SoundHeads.{Tail, tail-take, row-present, row-absent, sparse-present, sparse-absent, Opens, opens}
-use Rattle.supply.proofs.SoundReads.{not-made, passed, spared, After, before-parts, Words, words-drop, next-is, Reads, reads-under, reads-alone, agree-present, Laws, Inner, elements-back}
+use Rattle.supply_laws.proofs.SoundHeads.{Tail, tail-take, row-present, row-absent, sparse-present, sparse-absent, Opens, opens}
+use Rattle.supply_laws.proofs.SoundReads.{not-made, passed, spared, After, before-parts, Words, words-drop, next-is, Reads, reads-under, reads-alone, agree-present, Laws, Inner, elements-back}
 
 -- ---- both orders
 

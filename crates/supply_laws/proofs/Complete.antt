@@ -14,11 +14,11 @@ use Rattle.rules.specs.Forest.{Forest, empty}
 use Rattle.rules.specs.Values.{Outcome, refused, listed, valueOf, fuel}
 use Rattle.plan.specs.Plan.{look, noType, planFormed}
 use Rattle.run.specs.Run.{nothingIn, valueBy, checked}
 use Rattle.supply.specs.Supply.{Agrees, zeroValue, zeroed, HasSupply}
 use Rattle.supply.specs.Build.{buildOf}
 use Rattle.supply.specs.Write.{Put, refusedPut, putOut, madeBy, suppliedBy, roomed, writeOf}
-use Rattle.supply.proofs.Fields.{Stands}
-use Rattle.supply.proofs.Zeros.{Whole, value-whole}
+use Rattle.supply_laws.proofs.Fields.{Stands}
+use Rattle.supply_laws.proofs.Zeros.{Whole, value-whole}
 
 -- ---- the call
 

@@ -24,9 +24,9 @@ use Rattle.rules.proofs.Forests.{words-append}
 use Rattle.rules.proofs.HeadSizes.{Spaced, row-spaced, sparse-spaced, node-opened}
 use Rattle.plan.specs.Plan.{look}
 use Rattle.run.specs.Run.{nothingIn, valueBy, checked}
 use Rattle.supply.specs.Supply.{nextOf, SameLeaf, SameFlags, SameBytes, SamePart, AgreeNext, Agrees, zeroed, HasSupply}
 use Rattle.supply.specs.Write.{putOut, roomed, writeOf}
-use Rattle.supply.proofs.Complete.{zeroed-length, complete}
+use Rattle.supply_laws.proofs.Complete.{zeroed-length, complete}
 
 -- ---- entries that agree with their own words
 

@@ -1,0 +1,8 @@
+-- What is written has the supply, and what has it is written: the theorems of writing values. Assumes nothing.
+pub mod SoundHeads
+pub mod SoundReads
+pub mod Sound
+pub mod Fields
+pub mod Zeros
+pub mod Complete
+pub mod RoundTrip
