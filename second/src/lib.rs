@@ -5,6 +5,8 @@
 //! * [`message`] reads and writes the ten messages on words and bytes.
 //! * [`plan`] reads a plan, [`scalar`] has the twenty formats, and [`value`] checks and lists a
 //!   value.
+//! * [`find`] and [`number`] find an element and its number; [`supply`] writes a value; [`entry`]
+//!   has the entries of the lists that they read.
 //! * [`descriptor`] reads a descriptor and compiles its plan; [`off_descriptor`] checks and lists a
 //!   value by the descriptor itself, with no plan inside.
 //! * [`refusal`] has the refusal numbers of all.
@@ -14,10 +16,14 @@
 
 pub mod crossing;
 pub mod descriptor;
+pub mod entry;
+pub mod find;
 pub mod message;
+pub mod number;
 pub mod off_descriptor;
 pub mod plan;
 pub mod refusal;
 pub mod scalar;
+pub mod supply;
 pub mod value;
 mod words;

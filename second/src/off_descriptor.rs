@@ -7,11 +7,12 @@ mod members;
 
 use crate::descriptor::block::{Block, Body};
 use crate::descriptor::{self, Descriptor};
+use crate::entry::{ABSENT, ENTRY_WORDS};
 use crate::refusal::{self, Refusal};
 use crate::scalar;
 use crate::value::container::{Container, Span};
 use crate::value::heads::{bounds, dimension, envelope, full_count};
-use crate::value::{ABSENT, ENTRY_WORDS, MOST_BYTES};
+use crate::value::MOST_BYTES;
 use members::{members, node_words, Absence, Member};
 use std::collections::HashSet;
 

@@ -56,6 +56,14 @@ pub const LIST_ROOM: u32 = 31;
 pub const OUTPUT_ROOM: u32 = 32;
 /// Plan not well formed.
 pub const BAD_PLAN: u32 = 33;
+/// No accepted value has this supply.
+pub const NO_VALUE: u32 = 34;
+/// Path names no entry.
+pub const NO_ENTRY: u32 = 35;
+/// Path ends at an absent element.
+pub const ABSENT_ELEMENT: u32 = 36;
+/// Element has no single number.
+pub const NO_NUMBER: u32 = 37;
 
 /// Why something was not accepted, and where.
 #[derive(Clone, Copy, Debug, PartialEq, Eq)]

@@ -19,11 +19,6 @@ use walk::Walk;
 /// "Largest sizes: descriptor and value 65,535 bytes".
 pub(crate) const MOST_BYTES: usize = 65_535;
 
-/// "A list has five words an entry".
-pub const ENTRY_WORDS: usize = 5;
-/// An absent element's length.
-pub const ABSENT: u32 = 0xffff_ffff;
-
 /// The list of a value by the words of a plan. "Run: 33, 28, value faults, 31."
 pub fn run(plan: &[u32], value: &[u8], room_words: usize) -> Result<Vec<u32>, Refusal> {
     let Some(plan) = Plan::read(plan) else {

@@ -45,18 +45,23 @@ pub fn full_count(container: &mut Container, elements: usize) -> Result<u32, Ref
 }
 
 /// A range's flags, of which a missing byte is 20 (reading 5.2). Gives the indexes of the bounds on
-/// the wire: "Lower is present unless empty or 08; upper unless empty or 10."
+/// the wire.
 pub fn bounds(range: &mut Container) -> Result<impl Iterator<Item = u32>, Refusal> {
     let flags = range.take(1)?[0];
     range.demand(are_permitted(flags))?;
+    Ok(bounds_on_wire(flags))
+}
+
+/// "Lower is present unless empty or 08; upper unless empty or 10." Gives their indexes.
+pub fn bounds_on_wire(flags: u8) -> impl Iterator<Item = u32> {
     let present = [(0, LOWER_INFINITE), (1, UPPER_INFINITE)]
         .into_iter()
         .filter(move |(_, infinite)| flags & (EMPTY | infinite) == 0);
-    Ok(present.map(|(index, _)| index))
+    present.map(|(index, _)| index)
 }
 
 /// "flags 01 alone; or bits 02, 04, 08, 10, without 02 with 08 or 04 with 10".
-fn are_permitted(flags: u8) -> bool {
+pub fn are_permitted(flags: u8) -> bool {
     let any_of = LOWER_INCLUDED | UPPER_INCLUDED | LOWER_INFINITE | UPPER_INFINITE;
     let both = |bits: u8| flags & bits == bits;
     flags == EMPTY

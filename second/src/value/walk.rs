@@ -1,7 +1,7 @@
 //! The walk through a value, which lists an entry for all that it passes.
 
 use super::container::{Container, Span};
-use super::{ABSENT, ENTRY_WORDS};
+use crate::entry::{ABSENT, ENTRY_WORDS};
 use crate::plan::{Node, Tree};
 use crate::refusal::{self, Refusal};
 use crate::scalar::{self, Format};
