@@ -8,93 +8,10 @@
  * either side. The largest cases run on a thread with a small stack.
  */
 #define _DEFAULT_SOURCE
-#include "../../include/rembulfose.h"
+#include "cases.h"
 
-#include <pthread.h>
-#include <stdio.h>
-#include <stdlib.h>
-#include <string.h>
-#include <sys/mman.h>
-
-/* Bytes of stack that must be enough for any call. */
-#ifdef REMBULFOSE_STACK
-enum { STACK = REMBULFOSE_STACK };
-#else
-enum { STACK = 262144 };
-#endif
-
-enum { FILL = 0xa5, MARGIN = 16, MOST = 1024 };
-enum { MOST_WORDS = 8192, MOST_DESCRIPTOR = 65535 };
+enum { MOST_DESCRIPTOR = 65535 };
 enum { TUPLE = 4, ENUMERATION = 7, INPUT = 8 };
-
-static unsigned passed, failed;
-
-static rembulfose_answer accepted(uint32_t words) {
-    return (rembulfose_answer){0, 0, words, 0};
-}
-
-static rembulfose_answer refused(uint32_t number, uint32_t place) {
-    return (rembulfose_answer){number, place, 0, 0};
-}
-
-static void count(const char *name, int good) {
-    if (good) {
-        passed++;
-    } else {
-        failed++;
-        printf("failed: %s\n", name);
-    }
-}
-
-static int digit(char letter) {
-    return letter <= '9' ? letter - '0' : letter - 'a' + 10;
-}
-
-/* The bytes of a text in hex; how many is returned. */
-static size_t bytes_of(const char *hex, uint8_t *bytes) {
-    size_t length = 0;
-    while (*hex) {
-        if (*hex == ' ') {
-            hex++;
-        } else {
-            bytes[length++] = (uint8_t)(digit(hex[0]) << 4 | digit(hex[1]));
-            hex += 2;
-        }
-    }
-    return length;
-}
-
-static void put_word(uint8_t *at, uint32_t word) {
-    for (int i = 0; i < 4; i++)
-        at[i] = (uint8_t)(word >> (24 - 8 * i));
-}
-
-/* The bytes of decimal words, four to a word; how many is returned. */
-static size_t words_of(const char *decimal, uint8_t *bytes) {
-    size_t length = 0;
-    char *end;
-    for (;;) {
-        unsigned long word = strtoul(decimal, &end, 10);
-        if (end == decimal)
-            return length;
-        put_word(bytes + length, (uint32_t)word);
-        length += 4;
-        decimal = end;
-    }
-}
-
-static int same_answer(rembulfose_answer one, rembulfose_answer other) {
-    return one.number == other.number && one.place == other.place && one.first == other.first &&
-           one.second == other.second;
-}
-
-/* Whether memory with a margin on either side holds these bytes, and all else is as it was. */
-static int holds(const uint8_t *memory, const uint8_t *bytes, size_t length) {
-    uint8_t expected[MARGIN + MOST + MARGIN];
-    memset(expected, FILL, sizeof expected);
-    memcpy(expected + MARGIN, bytes, length);
-    return memcmp(memory, expected, sizeof expected) == 0;
-}
 
 /* Compiles a descriptor; the room of so many bytes must then start with `plan`, and descriptor and
  * root must be as they were. */
@@ -457,36 +374,12 @@ static void large_plans(void) {
     count("plan of 8,193 words in a larger room", refuses(TUPLE, sizeof plan, 30, 0));
 }
 
-static void *on_thread(void *unused) {
+static void large(void) {
     large_blocks();
     large_counts();
     large_heights();
     large_bytes();
     large_plans();
-    return unused;
-}
-
-/* Runs the large cases on a stack of so many bytes, with pages below it that may not be touched. */
-static void small_stack(void) {
-    enum { FENCE = 65536 };
-    pthread_attr_t attributes;
-    pthread_t thread;
-    uint8_t *memory = mmap(NULL, FENCE + STACK, PROT_READ | PROT_WRITE, MAP_PRIVATE | MAP_ANONYMOUS,
-                           -1, 0);
-    int good = memory != MAP_FAILED && mprotect(memory, FENCE, PROT_NONE) == 0;
-    if (good) {
-        memset(memory + FENCE, FILL, STACK);
-        good = pthread_attr_init(&attributes) == 0 &&
-               pthread_attr_setstack(&attributes, memory + FENCE, STACK) == 0 &&
-               pthread_create(&thread, &attributes, on_thread, NULL) == 0 &&
-               pthread_join(thread, NULL) == 0;
-    }
-    count("thread with a small stack", good);
-    size_t untouched = 0;
-    while (good && untouched < STACK && memory[FENCE + untouched] == FILL)
-        untouched++;
-    printf("stack: %zu of %d bytes were used, those of the thread itself included\n",
-           STACK - untouched, STACK);
 }
 
 int main(void) {
@@ -496,7 +389,6 @@ int main(void) {
     reference_refusals();
     null_pointers();
     compile_and_run();
-    small_stack();
-    printf("%u passed, %u failed\n", passed, failed);
-    return failed != 0;
+    small_stack(large);
+    return finish();
 }

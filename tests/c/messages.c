@@ -1,67 +1,15 @@
 /* The message calls as a C host makes them, on cases worked out by hand.
  *
- *     cc -std=c11 -Wall -Wextra tests/c/messages.c target/staticlib/libpanel.a -o target/c-messages
+ *     cc -std=c11 -Wall -Wextra -pthread tests/c/messages.c target/staticlib/libpanel.a \
+ *         -o target/c-messages
  *
  * Bytes are written in hex, spaces for the eye only. Every room is filled before the call and looked
  * at whole after it, with some bytes more on either side.
  */
-#include "../../include/rembulfose.h"
-
-#include <stdio.h>
-#include <string.h>
+#define _DEFAULT_SOURCE
+#include "cases.h"
 
 enum { CLIENT = 0, SERVER = 1 };
-enum { FILL = 0xa5, MARGIN = 16, MOST = 512 };
-
-static unsigned passed, failed;
-
-static rembulfose_answer accepted(uint32_t first, uint32_t second) {
-    return (rembulfose_answer){0, 0, first, second};
-}
-
-static rembulfose_answer refused(uint32_t number, uint32_t place) {
-    return (rembulfose_answer){number, place, 0, 0};
-}
-
-static void count(const char *name, int good) {
-    if (good) {
-        passed++;
-    } else {
-        failed++;
-        printf("failed: %s\n", name);
-    }
-}
-
-static int digit(char letter) {
-    return letter <= '9' ? letter - '0' : letter - 'a' + 10;
-}
-
-/* The bytes of a text in hex; how many is returned. */
-static size_t bytes_of(const char *hex, uint8_t *bytes) {
-    size_t length = 0;
-    while (*hex) {
-        if (*hex == ' ') {
-            hex++;
-        } else {
-            bytes[length++] = (uint8_t)(digit(hex[0]) << 4 | digit(hex[1]));
-            hex += 2;
-        }
-    }
-    return length;
-}
-
-static int same_answer(rembulfose_answer one, rembulfose_answer other) {
-    return one.number == other.number && one.place == other.place && one.first == other.first &&
-           one.second == other.second;
-}
-
-/* Whether memory with a margin on either side holds these bytes, and all else is as it was. */
-static int holds(const uint8_t *memory, const uint8_t *bytes, size_t length) {
-    uint8_t expected[MARGIN + MOST + MARGIN];
-    memset(expected, FILL, sizeof expected);
-    memcpy(expected + MARGIN, bytes, length);
-    return memcmp(memory, expected, sizeof expected) == 0;
-}
 
 /* Reads `source`; the room of so many bytes must then start with `list`. */
 static void reading(const char *name, uint32_t side, const char *source, size_t room,
@@ -93,8 +41,8 @@ static void good(const char *name, uint32_t side, const char *message, const cha
     uint32_t length = (uint32_t)bytes_of(message, bytes);
     uint32_t words_length = (uint32_t)bytes_of(list, words);
     snprintf(followed, sizeof followed, "%s ff", message);
-    reading(name, side, followed, words_length, accepted(length, words_length / 4), list);
-    writing(name, side, bytes[0], list, message, length, accepted(length, 0), message);
+    reading(name, side, followed, words_length, answered(length, words_length / 4), list);
+    writing(name, side, bytes[0], list, message, length, answered(length, 0), message);
 }
 
 #define UUID "00112233 44556677 8899aabb ccddeeff"
@@ -145,13 +93,13 @@ static void reader_refusals(void) {
     reading("second text of an annotation not UTF-8", SERVER,
             "5a 00000012 0001 00000001 6b 00000002 c080 49", 64, refused(6, 12), "");
     reading("room a byte short", SERVER, "5a 00000007 0000 49", 15, refused(31, 0), "");
-    reading("odd room", SERVER, "5a 00000007 0000 49", 19, accepted(8, 4),
+    reading("odd room", SERVER, "5a 00000007 0000 49", 19, answered(8, 4),
             "00000005 00000002 00000007 00000001");
 }
 
 static void writer_refusals(void) {
     const char *z = "00000000 00000002 00000002 00000001";
-    writing("Z", SERVER, 0x5a, z, "0000 54", 9, accepted(8, 0), "5a 00000007 0000 54");
+    writing("Z", SERVER, 0x5a, z, "0000 54", 9, answered(8, 0), "5a 00000007 0000 54");
     writing("room a byte short", SERVER, 0x5a, z, "0000 54", 7, refused(32, 0), "");
     writing("no room", SERVER, 0x5a, z, "0000 54", 0, refused(32, 0), "");
     writing("unknown type, list of 5 bytes", SERVER, 0x56, "00000000 00", "", 9, refused(3, 0), "");
@@ -166,14 +114,9 @@ static void writer_refusals(void) {
     writing("start past 32 bits", SERVER, 0x53, "00000000 00000001 ffffffff 00000001", "07", 20,
             refused(6, 0), "");
     writing("empty pair at the source's end", SERVER, 0x53, "00000000 00000001 00000001 00000000",
-            "07", 14, accepted(14, 0), "53 0000000d 00000001 07 00000000");
+            "07", 14, answered(14, 0), "53 0000000d 00000001 07 00000000");
     writing("empty pair past the source's end", SERVER, 0x53,
             "00000000 00000001 00000002 00000000", "07", 14, refused(6, 0), "");
-}
-
-static void put_word(uint8_t *at, uint32_t word) {
-    for (int i = 0; i < 4; i++)
-        at[i] = (uint8_t)(word >> (24 - 8 * i));
 }
 
 /* D from a source of 0001 and letters, with so many of them. */
@@ -194,11 +137,11 @@ static void large(void) {
                                                                        NULL, 0, out, 5), six));
     count("list of 32,769 bytes", same_answer(rembulfose_write_message(CLIENT, 0x53, list, 32769,
                                                                        NULL, 0, out, 5), six));
-    count("length 65,535", same_answer(write_data(65525, out, 65537), accepted(65536, 0)) &&
+    count("length 65,535", same_answer(write_data(65525, out, 65537), answered(65536, 0)) &&
                                out[0] == 0x44 && out[3] == 0xff && out[4] == 0xff &&
                                out[65535] == 'a' && out[65536] == 0);
     count("length 65,535, read", same_answer(rembulfose_read_message(SERVER, out, 65537, list, 16),
-                                             accepted(65536, 4)));
+                                             answered(65536, 4)));
     count("length 65,536", same_answer(write_data(65526, out, 0), refused(2, 0)));
 }
 
@@ -207,12 +150,12 @@ static void null_pointers(void) {
     const uint8_t sync[5] = {0x53, 0, 0, 0, 4};
     uint8_t out[5] = {0};
     count("no list room", same_answer(rembulfose_read_message(CLIENT, sync, 5, NULL, 0),
-                                      accepted(5, 0)));
+                                      answered(5, 0)));
     count("no source", same_answer(rembulfose_read_message(CLIENT, NULL, 0, NULL, 0),
                                    refused(1, 0)));
     count("no list and no source",
           same_answer(rembulfose_write_message(CLIENT, 0x53, NULL, 0, NULL, 0, out, 5),
-                      accepted(5, 0)) && memcmp(out, sync, 5) == 0);
+                      answered(5, 0)) && memcmp(out, sync, 5) == 0);
     count("no output room",
           same_answer(rembulfose_write_message(CLIENT, 0x53, NULL, 0, NULL, 0, NULL, 0),
                       refused(32, 0)));
@@ -224,6 +167,5 @@ int main(void) {
     writer_refusals();
     large();
     null_pointers();
-    printf("%u passed, %u failed\n", passed, failed);
-    return failed != 0;
+    return finish();
 }

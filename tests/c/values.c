@@ -8,94 +8,7 @@
  * largest cases run on a thread with a small stack.
  */
 #define _DEFAULT_SOURCE
-#include "../../include/rembulfose.h"
-
-#include <pthread.h>
-#include <stdio.h>
-#include <stdlib.h>
-#include <string.h>
-#include <sys/mman.h>
-
-/* Bytes of stack that must be enough for any call. */
-#ifdef REMBULFOSE_STACK
-enum { STACK = REMBULFOSE_STACK };
-#else
-enum { STACK = 262144 };
-#endif
-
-enum { FILL = 0xa5, MARGIN = 16, MOST = 1024 };
-enum { MOST_WORDS = 8192, MOST_VALUE = 65535 };
-enum { LEAF = 1, SET = 2, TUPLE = 4, OUTPUT = 5, INPUT = 6, ENUMERATION = 8 };
-enum { STR = 1, BYTES = 2, ONE = 65 };
-
-static unsigned passed, failed;
-
-static rembulfose_answer accepted(uint32_t words) {
-    return (rembulfose_answer){0, 0, words, 0};
-}
-
-static rembulfose_answer refused(uint32_t number, uint32_t place) {
-    return (rembulfose_answer){number, place, 0, 0};
-}
-
-static void count(const char *name, int good) {
-    if (good) {
-        passed++;
-    } else {
-        failed++;
-        printf("failed: %s\n", name);
-    }
-}
-
-static int digit(char letter) {
-    return letter <= '9' ? letter - '0' : letter - 'a' + 10;
-}
-
-/* The bytes of a text in hex; how many is returned. */
-static size_t bytes_of(const char *hex, uint8_t *bytes) {
-    size_t length = 0;
-    while (*hex) {
-        if (*hex == ' ') {
-            hex++;
-        } else {
-            bytes[length++] = (uint8_t)(digit(hex[0]) << 4 | digit(hex[1]));
-            hex += 2;
-        }
-    }
-    return length;
-}
-
-static void put_word(uint8_t *at, uint32_t word) {
-    for (int i = 0; i < 4; i++)
-        at[i] = (uint8_t)(word >> (24 - 8 * i));
-}
-
-/* The bytes of decimal words, four to a word; how many is returned. */
-static size_t words_of(const char *decimal, uint8_t *bytes) {
-    size_t length = 0;
-    char *end;
-    for (;;) {
-        unsigned long word = strtoul(decimal, &end, 10);
-        if (end == decimal)
-            return length;
-        put_word(bytes + length, (uint32_t)word);
-        length += 4;
-        decimal = end;
-    }
-}
-
-static int same_answer(rembulfose_answer one, rembulfose_answer other) {
-    return one.number == other.number && one.place == other.place && one.first == other.first &&
-           one.second == other.second;
-}
-
-/* Whether memory with a margin on either side holds these bytes, and all else is as it was. */
-static int holds(const uint8_t *memory, const uint8_t *bytes, size_t length) {
-    uint8_t expected[MARGIN + MOST + MARGIN];
-    memset(expected, FILL, sizeof expected);
-    memcpy(expected + MARGIN, bytes, length);
-    return memcmp(memory, expected, sizeof expected) == 0;
-}
+#include "large.h"
 
 /* Runs a value; the room of so many bytes must then start with `list`, and plan and value must be
  * as they were. */
@@ -240,73 +153,7 @@ static void null_pointers(void) {
 
 /* The large cases. */
 
-static uint8_t plan[4 * (MOST_WORDS + 1)], value[MOST_VALUE + 1], list[4 * MOST_WORDS + 4],
-    expected[4 * MOST_WORDS + 4];
-static uint32_t plan_words, value_bytes, list_words;
-
-static uint32_t add(uint32_t kind, uint32_t second) {
-    put_word(plan + 4 * plan_words, kind);
-    put_word(plan + 4 * plan_words + 4, second);
-    plan_words += 2;
-    return plan_words - 2;
-}
-
-static void add_word(uint32_t word) {
-    put_word(plan + 4 * plan_words++, word);
-}
-
-static void finish_plan(uint32_t root) {
-    put_word(plan, plan_words);
-    put_word(plan + 4, root);
-}
-
-static void put_value(uint32_t word) {
-    put_word(value + value_bytes, word);
-    value_bytes += 4;
-}
-
-/* Entries that no list from C can hold are left out. */
-static void expect_entry(uint32_t node, uint32_t index, uint32_t start, uint32_t length,
-                         uint32_t below) {
-    const uint32_t entry[5] = {node, index, start, length, below};
-    for (int i = 0; i < 5 && list_words < MOST_WORDS; i++)
-        put_word(expected + 4 * list_words++, entry[i]);
-}
-
-/* The kinds of the containers above the lowest node, in turn: no set is over a set. */
-static uint32_t kind_at(uint32_t level) {
-    static const uint32_t kinds[4] = {TUPLE, OUTPUT, INPUT, SET};
-    return kinds[level % 4];
-}
-
-/* Puts so many containers of one element over a node, all of whose values then have this length. */
-static void wrap(uint32_t containers, uint32_t lowest, uint32_t length) {
-    uint32_t nodes[33] = {lowest};
-    for (uint32_t level = 0; level < containers; level++) {
-        uint32_t kind = kind_at(level);
-        nodes[level + 1] = add(kind, kind == SET ? nodes[level] : 1);
-        if (kind != SET)
-            add_word(nodes[level]);
-        if (kind == OUTPUT || kind == INPUT)
-            add_word(ONE);
-    }
-    finish_plan(nodes[containers]);
-    for (uint32_t level = 0; level < containers; level++)
-        length += kind_at(level) == SET ? 24 : 12;
-    value_bytes = list_words = 0;
-    for (uint32_t level = containers; level-- > 0;) {
-        expect_entry(nodes[level + 1], 0, value_bytes, length, 1);
-        length -= kind_at(level) == SET ? 24 : 12;
-        put_value(1);
-        put_value(0);
-        if (kind_at(level) == SET) {
-            put_value(0);
-            put_value(1);
-            put_value(1);
-        }
-        put_value(length);
-    }
-}
+static uint8_t list[4 * MOST_WORDS + 4];
 
 static rembulfose_answer run_large(size_t plan_length) {
     memset(list, FILL, sizeof list);
@@ -327,52 +174,6 @@ static int accepts(void) {
 
 static int refuses(uint32_t number, uint32_t place) {
     return same_answer(run_large(4 * plan_words), refused(number, place)) && listed(0);
-}
-
-/* A byte string of this length under so many containers. */
-static void deep_leaf(uint32_t containers, uint32_t length) {
-    plan_words = 2;
-    wrap(containers, add(LEAF, BYTES), length);
-    expect_entry(2, 0, value_bytes, length, 0);
-    memset(value + value_bytes, 0xff, length);
-    value_bytes += length;
-}
-
-/* A set of so many empty texts under 30 containers. */
-static void deep_set(uint32_t elements) {
-    plan_words = 2;
-    wrap(30, add(SET, add(LEAF, STR)), 20 + 4 * elements);
-    uint32_t start = value_bytes;
-    const uint32_t head[5] = {1, 0, 0, elements, 1};
-    for (int i = 0; i < 5; i++)
-        put_value(head[i]);
-    expect_entry(4, 0, start, 20 + 4 * elements, elements);
-    for (uint32_t i = 0; i < elements; i++) {
-        put_value(0);
-        expect_entry(2, i, value_bytes, 0, 0);
-    }
-}
-
-/* So many words: an enumeration, and tuples of it with up to 512 elements. The root is the last. */
-static void long_plan(uint32_t words) {
-    uint32_t last = 0, elements = 0;
-    plan_words = 2;
-    add_word(ENUMERATION);
-    while (plan_words < words) {
-        elements = words - plan_words - 2 < 512 ? words - plan_words - 2 : 512;
-        last = add(TUPLE, elements);
-        for (uint32_t i = 0; i < elements; i++)
-            add_word(2);
-    }
-    finish_plan(last);
-    value_bytes = list_words = 0;
-    expect_entry(last, 0, 0, 4 + 8 * elements, elements);
-    put_value(elements);
-    for (uint32_t i = 0; i < elements; i++) {
-        put_value(i);
-        put_value(0);
-        expect_entry(2, i, value_bytes, 0, 0);
-    }
 }
 
 static void large(void) {
@@ -398,41 +199,12 @@ static void large(void) {
     count("plan of 8,193 words", refuses(33, 0));
 }
 
-static void *on_thread(void *unused) {
-    large();
-    return unused;
-}
-
-/* Runs the large cases on a stack of so many bytes, with pages below it that may not be touched. */
-static void small_stack(void) {
-    enum { FENCE = 65536 };
-    pthread_attr_t attributes;
-    pthread_t thread;
-    uint8_t *memory = mmap(NULL, FENCE + STACK, PROT_READ | PROT_WRITE, MAP_PRIVATE | MAP_ANONYMOUS,
-                           -1, 0);
-    int good = memory != MAP_FAILED && mprotect(memory, FENCE, PROT_NONE) == 0;
-    if (good) {
-        memset(memory + FENCE, FILL, STACK);
-        good = pthread_attr_init(&attributes) == 0 &&
-               pthread_attr_setstack(&attributes, memory + FENCE, STACK) == 0 &&
-               pthread_create(&thread, &attributes, on_thread, NULL) == 0 &&
-               pthread_join(thread, NULL) == 0;
-    }
-    count("thread with a small stack", good);
-    size_t untouched = 0;
-    while (good && untouched < STACK && memory[FENCE + untouched] == FILL)
-        untouched++;
-    printf("stack: %zu of %d bytes were used, those of the thread itself included\n",
-           STACK - untouched, STACK);
-}
-
 int main(void) {
     edges();
     good_values();
     value_refusals();
     plan_refusals();
     null_pointers();
-    small_stack();
-    printf("%u passed, %u failed\n", passed, failed);
-    return failed != 0;
+    small_stack(large);
+    return finish();
 }

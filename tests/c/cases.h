@@ -1,0 +1,131 @@
+/* What the C tests share: how cases are written, counted and compared, and a thread with a small
+ * stack. A test defines _DEFAULT_SOURCE before it includes this. */
+#ifndef CASES_H
+#define CASES_H
+
+#include "../../include/rembulfose.h"
+
+#include <pthread.h>
+#include <stdio.h>
+#include <stdlib.h>
+#include <string.h>
+#include <sys/mman.h>
+
+/* Bytes of stack that must be enough for any call. */
+#ifdef REMBULFOSE_STACK
+enum { STACK = REMBULFOSE_STACK };
+#else
+enum { STACK = 262144 };
+#endif
+
+enum { FILL = 0xa5, MARGIN = 16, MOST = 1024 };
+enum { MOST_WORDS = 8192 };
+
+static unsigned passed, failed;
+
+static inline rembulfose_answer answered(uint32_t first, uint32_t second) {
+    return (rembulfose_answer){0, 0, first, second};
+}
+
+static inline rembulfose_answer accepted(uint32_t first) {
+    return answered(first, 0);
+}
+
+static inline rembulfose_answer refused(uint32_t number, uint32_t place) {
+    return (rembulfose_answer){number, place, 0, 0};
+}
+
+static inline void count(const char *name, int good) {
+    if (good) {
+        passed++;
+    } else {
+        failed++;
+        printf("failed: %s\n", name);
+    }
+}
+
+static inline int digit(char letter) {
+    return letter <= '9' ? letter - '0' : letter - 'a' + 10;
+}
+
+/* The bytes of a text in hex; how many is returned. */
+static inline size_t bytes_of(const char *hex, uint8_t *bytes) {
+    size_t length = 0;
+    while (*hex) {
+        if (*hex == ' ') {
+            hex++;
+        } else {
+            bytes[length++] = (uint8_t)(digit(hex[0]) << 4 | digit(hex[1]));
+            hex += 2;
+        }
+    }
+    return length;
+}
+
+static inline void put_word(uint8_t *at, uint32_t word) {
+    for (int i = 0; i < 4; i++)
+        at[i] = (uint8_t)(word >> (24 - 8 * i));
+}
+
+/* The bytes of decimal words, four to a word; how many is returned. */
+static inline size_t words_of(const char *decimal, uint8_t *bytes) {
+    size_t length = 0;
+    char *end;
+    for (;;) {
+        unsigned long word = strtoul(decimal, &end, 10);
+        if (end == decimal)
+            return length;
+        put_word(bytes + length, (uint32_t)word);
+        length += 4;
+        decimal = end;
+    }
+}
+
+static inline int same_answer(rembulfose_answer one, rembulfose_answer other) {
+    return one.number == other.number && one.place == other.place && one.first == other.first &&
+           one.second == other.second;
+}
+
+/* Whether memory with a margin on either side holds these bytes, and all else is as it was. */
+static inline int holds(const uint8_t *memory, const uint8_t *bytes, size_t length) {
+    uint8_t expected[MARGIN + MOST + MARGIN];
+    memset(expected, FILL, sizeof expected);
+    memcpy(expected + MARGIN, bytes, length);
+    return memcmp(memory, expected, sizeof expected) == 0;
+}
+
+static inline void *on_thread(void *cases) {
+    (*(void (**)(void))cases)();
+    return NULL;
+}
+
+/* Runs cases on a stack of so many bytes, with pages below it that may not be touched. */
+static inline void small_stack(void (*cases)(void)) {
+    enum { FENCE = 65536 };
+    pthread_attr_t attributes;
+    pthread_t thread;
+    uint8_t *memory =
+        mmap(NULL, FENCE + STACK, PROT_READ | PROT_WRITE, MAP_PRIVATE | MAP_ANONYMOUS, -1, 0);
+    int good = memory != MAP_FAILED && mprotect(memory, FENCE, PROT_NONE) == 0;
+    if (good) {
+        memset(memory + FENCE, FILL, STACK);
+        good = pthread_attr_init(&attributes) == 0 &&
+               pthread_attr_setstack(&attributes, memory + FENCE, STACK) == 0 &&
+               pthread_create(&thread, &attributes, on_thread, &cases) == 0 &&
+               pthread_join(thread, NULL) == 0;
+    }
+    count("thread with a small stack", good);
+    size_t untouched = 0;
+    while (good && untouched < STACK && memory[FENCE + untouched] == FILL)
+        untouched++;
+    printf("stack: %zu of %d bytes were used, those of the thread itself included\n",
+           STACK - untouched, STACK);
+}
+
+/* The last line of a test, and its status. */
+static inline int finish(void) {
+    printf("%u passed, %u failed\n", passed, failed);
+    return failed != 0;
+}
+
+#endif
