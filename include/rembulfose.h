@@ -4,7 +4,7 @@
  * number and place, with all else zero, and changes no lent byte. On success number and place are 0, and room
  * past what was written keeps its contents.
  *
- * Plans and lists cross as bytes: four to a word, big-endian, at most 8,192 words. Room for a list counts in whole
+ * Plans, lists and paths cross as bytes: four to a word, big-endian, at most 8,192 words. Room for a list counts in whole
  * words, 8,192 at most. Sizes of input messages, sources and output rooms are not limited.
  *
  * Stack use does not grow with the number of elements, only with nesting, which is at most 32. It is measured and not
@@ -27,6 +27,13 @@ extern "C" {
 typedef struct {
     uint32_t number, place, first, second;
 } rembulfose_answer;
+
+/* An element as one number. format: 3 int16, 4 int32, 5 int64, 6 float32, 7 float64, 9 bool, 19 memory. bits: an
+ * integer's two's complement in 64 bits, 0 or 1 for a bool, a float's own bits (a float32's in the low 32). */
+typedef struct {
+    uint32_t number, place, format;
+    uint64_t bits;
+} rembulfose_number;
 
 /* Refusal numbers. The order in which they are given is said at each call. */
 enum {
@@ -57,7 +64,11 @@ enum {
     REMBULFOSE_PLAN_ROOM = 30,     /* plan room too small; place 0 */
     REMBULFOSE_LIST_ROOM = 31,     /* list room too small; place 0 */
     REMBULFOSE_OUTPUT_ROOM = 32,   /* output room too small; place 0 */
-    REMBULFOSE_BAD_PLAN = 33       /* plan not well formed; place 0 */
+    REMBULFOSE_BAD_PLAN = 33,      /* plan not well formed; place 0 */
+    REMBULFOSE_NO_VALUE = 34,      /* no accepted value has this supply; place 0 */
+    REMBULFOSE_NO_ENTRY = 35,      /* path names no entry: also below a leaf or an absent element; place 0 */
+    REMBULFOSE_ABSENT_ELEMENT = 36, /* path ends at an absent element; place 0 */
+    REMBULFOSE_NO_NUMBER = 37      /* element has no single number; place 0 */
 };
 
 /* Reads the message at the start of src. side: 0 client, 1 server. Bytes after the message are not looked at.
@@ -91,6 +102,29 @@ rembulfose_answer rembulfose_compile(const uint8_t *descriptor, size_t descripto
  * value's faults from left to right and each element before the next, 31. */
 rembulfose_answer rembulfose_run(const uint8_t *plan, size_t plan_len, const uint8_t *value, size_t value_len,
                                  uint8_t *list, size_t list_len);
+
+/* Writes the value that has a supply, a list as rembulfose_run gives it and the bytes of src: node, index, count of entries
+ * directly below, absence, a leaf's bytes at its start and length, and a range's flags byte at its start are those of the
+ * supply. All other starts, and lengths that are not ffffffff hex, may be anything. The reserved fields of containers are
+ * written as zero. Leaves and flags may overlap and lie in any order in src, whose size is not limited.
+ * first = bytes written. Order: 33 (as in rembulfose_run), 34, 32; the place is always 0. 34 is also given where the list is
+ * no whole number of words, has over 8,192, or words that are not a multiple of five, where a leaf or flags lie outside of
+ * src (an empty leaf too), and where the value would have over 65,535 bytes. "No type" has the empty list and no bytes. */
+rembulfose_answer rembulfose_write_value(const uint8_t *plan, size_t plan_len, const uint8_t *list, size_t list_len,
+                                         const uint8_t *src, size_t src_len, uint8_t *out, size_t out_len);
+
+/* Finds the element that a path of indexes leads to from the top: an index is the second word of the element's entry in
+ * the list that rembulfose_run gives (sparse: the index sent; range: 0 lower, 1 upper). The empty path is the whole value.
+ * No list room is needed: a value whose list has over 8,192 words can be searched.
+ * first = start in the value, second = length. Order: 33 (as in rembulfose_run), 28, the value's faults, 35 (also for a path
+ * that is no whole number of words or has over 8,192) or 36. Under "no type" every path is 35. */
+rembulfose_answer rembulfose_find(const uint8_t *plan, size_t plan_len, const uint8_t *value, size_t value_len,
+                                  const uint8_t *path, size_t path_len);
+
+/* Finds an element as rembulfose_find does, and gives it as one number. Order: as there, then 37 for all that is no int16,
+ * int32, int64, float32, float64, bool or memory. */
+rembulfose_number rembulfose_find_number(const uint8_t *plan, size_t plan_len, const uint8_t *value, size_t value_len,
+                                         const uint8_t *path, size_t path_len);
 
 #ifdef __cplusplus
 }

@@ -7,6 +7,12 @@ pub fn list(words: &[u32]) -> Vec<u8> {
     words.iter().flat_map(|word| word.to_be_bytes()).collect()
 }
 
+/// The words of bytes that crossed.
+pub fn words(list: &[u8]) -> Vec<u32> {
+    let word = |four: &[u8]| u32::from_be_bytes([four[0], four[1], four[2], four[3]]);
+    list.chunks_exact(4).map(word).collect()
+}
+
 pub fn accepted(first: u32, second: u32) -> Answer {
     Answer {
         number: 0,

@@ -1,24 +1,14 @@
 //! Telling how two programs differ.
 
-use second::crossing::Answer;
-use std::fmt::{self, Display};
+use std::fmt::{self, Debug, Display};
 
-/// Compares two outcomes of the library and the second program: the answer, and the room after the
-/// call.
-pub fn compare(
+/// Compares two outcomes, the answer and the room after the call, each with the name of the program
+/// that it is of.
+pub fn compare<A: Copy + PartialEq + Debug>(
     call: &impl Display,
-    library: (Answer, &[u8]),
-    second: (Answer, &[u8]),
-) -> Result<Answer, String> {
-    compare_named(call, ("library", library), ("second program", second))
-}
-
-/// Compares two outcomes, each with the name of the program that it is of.
-pub fn compare_named(
-    call: &impl Display,
-    (one, (answer, room)): (&str, (Answer, &[u8])),
-    (other, (second, left)): (&str, (Answer, &[u8])),
-) -> Result<Answer, String> {
+    (one, (answer, room)): (&str, (A, &[u8])),
+    (other, (second, left)): (&str, (A, &[u8])),
+) -> Result<A, String> {
     if answer == second && room == left {
         return Ok(answer);
     }
@@ -32,7 +22,7 @@ pub fn compare_named(
     Err(report(&what, call, &[(one, answer), (other, second)]))
 }
 
-pub fn report(what: &str, call: &impl Display, answers: &[(&str, Answer)]) -> String {
+pub fn report<A: Debug>(what: &str, call: &impl Display, answers: &[(&str, A)]) -> String {
     let mut report = format!("{what}\n{call}");
     for (whose, answer) in answers {
         report += &format!("\n  {whose}: {answer:?}");

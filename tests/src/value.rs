@@ -3,17 +3,17 @@
 //! * `plan` is a plan as it is made, `planning` makes well-formed ones, `plan_damage` others.
 //! * `draft` is a value as it is made, `drafting` makes good ones, `damage` spoils them; `scalar`
 //!   has both for each format. `byte_damage` spoils a value that was put together.
-//! * `making` makes a case from them at random.
+//! * `pairing` makes plans and values of all sizes from them at random, and `making` a case.
 //! * `exact`, `leaves`, `plans`, `order`, `limits` and `examples` have cases by construction whose
 //!   answers are known, and `sweep` every value of what has few; `fixed` puts them together.
 //! * `judge` makes the calls and compares.
 
 pub(crate) mod byte_damage;
-mod case;
+pub(crate) mod case;
 mod damage;
 mod draft;
 pub(crate) mod drafting;
-mod exact;
+pub(crate) mod exact;
 mod examples;
 mod fixed;
 mod judge;
@@ -21,12 +21,13 @@ mod leaves;
 mod limits;
 pub(crate) mod making;
 mod order;
+pub(crate) mod pairing;
 pub(crate) mod plan;
 mod plan_damage;
 mod planning;
 mod plans;
 pub(crate) mod scalar;
-mod sweep;
+pub(crate) mod sweep;
 
 use crate::lending::Lending;
 use crate::program::Comparison;

@@ -7,14 +7,9 @@
 //! must come to what the rules read off the descriptor come to, which see no plan.
 
 use super::case::{Case, CompileCall, Running};
-use crate::fence::{Input, Room};
-use crate::lending::{Lending, FILLS};
-use crate::report::compare_named;
-use crate::rng::Rng;
+use crate::lending::Lending;
+use crate::memory::{Lent, Memory};
 use second::crossing::{self, Answer};
-
-/// The largest run that a case lends.
-const CAPACITY: usize = 262_144;
 
 /// A call that reads two runs of bytes and writes to a room.
 type Call = fn(&[u8], &[u8], &mut [u8]) -> Answer;
@@ -32,17 +27,7 @@ pub struct Calls {
 
 pub struct Judge {
     calls: Calls,
-    memory: Memory,
-    /// What rooms hold before a call.
-    pattern: Vec<u8>,
-    /// The room as the second program leaves it.
-    left: Vec<u8>,
-}
-
-/// What is lent to the tested program.
-struct Memory {
-    inputs: [Input; 2],
-    room: Room,
+    memory: Memory<2>,
 }
 
 /// The answers of a case in which nothing differs.
@@ -55,22 +40,18 @@ impl Judge {
     pub fn new(seed: u64, calls: Calls) -> Judge {
         Judge {
             calls,
-            memory: Memory {
-                inputs: [Input::new(CAPACITY), Input::new(CAPACITY)],
-                room: Room::new(CAPACITY),
-            },
-            pattern: Rng::new(seed).bytes(CAPACITY + FILLS),
-            left: Vec::new(),
+            memory: Memory::new(seed),
         }
     }
 
     /// The answers of a case in which nothing differs, or else a report of what does.
     pub fn judge(&mut self, case: &Case) -> Result<Judged, String> {
         let compiled = self.compile(&case.call, case.lending)?;
-        case.expected.hold(&case.call, compiled, &self.left)?;
+        case.expected
+            .hold(&case.call, compiled, self.memory.left())?;
         let run = match &case.running {
             Some(running) if compiled.number == 0 => {
-                let plan = self.left[..4 * compiled.first as usize].to_vec();
+                let plan = self.memory.left()[..4 * compiled.first as usize].to_vec();
                 Some(self.run(case, &plan, running)?)
             }
             _ => None,
@@ -79,16 +60,14 @@ impl Judge {
     }
 
     fn compile(&mut self, call: &CompileCall, lending: Lending) -> Result<Answer, String> {
-        let before = &self.pattern[lending.fill..][..call.room];
-        self.left.clear();
-        self.left.extend(before);
-        let second = crossing::compile(&call.descriptor, &call.root, &mut self.left);
-        let inputs = [&call.descriptor[..], &call.root];
-        let tested = self
-            .memory
-            .call(self.calls.compile, inputs, before, lending);
-        let second = ("second program", (second, &self.left[..]));
-        compare_named(call, (self.calls.name, tested), second)
+        let lent = Lent {
+            inputs: [&call.descriptor, &call.root],
+            room: call.room,
+            lending,
+        };
+        let tested = (self.calls.name, on_inputs(self.calls.compile));
+        let second = ("second program", on_inputs(crossing::compile));
+        self.memory.compare_named(call, lent, tested, second)
     }
 
     /// Runs by the plan, and by the rules off the descriptor.
@@ -96,36 +75,24 @@ impl Judge {
         let CompileCall {
             descriptor, root, ..
         } = &case.call;
-        let value = &running.value;
-        let before = &self.pattern[case.lending.fill..][..running.room];
-        self.left.clear();
-        self.left.extend(before);
-        let second = crossing::run_off_descriptor(descriptor, root, value, &mut self.left);
-        let inputs = [plan, value];
-        let tested = self
-            .memory
-            .call(self.calls.run, inputs, before, case.lending);
-        let rules = ("rules off the descriptor", (second, &self.left[..]));
-        let answer = compare_named(case, (self.calls.name, tested), rules)?;
-        running.expected.hold(case, answer, &self.left)
+        let lent = Lent {
+            inputs: [plan, &running.value],
+            room: running.room,
+            lending: case.lending,
+        };
+        let tested = (self.calls.name, on_inputs(self.calls.run));
+        let rules = (
+            "rules off the descriptor",
+            |[_, value]: [&[u8]; 2], list: &mut [u8]| {
+                crossing::run_off_descriptor(descriptor, root, value, list)
+            },
+        );
+        let answer = self.memory.compare_named(case, lent, tested, rules)?;
+        running.expected.hold(case, answer, self.memory.left())
     }
 }
 
-impl Memory {
-    /// Makes a call on lent memory. Gives the answer and the room after it.
-    fn call(
-        &mut self,
-        call: Call,
-        inputs: [&[u8]; 2],
-        before: &[u8],
-        lending: Lending,
-    ) -> (Answer, &[u8]) {
-        let [first, second] = &mut self.inputs;
-        let first = first.lend(inputs[0], lending.edge);
-        let second = second.lend(inputs[1], lending.edge);
-        let room = self.room.lend(before.len(), lending.edge);
-        room.copy_from_slice(before);
-        let answer = call(first, second, room);
-        (answer, room)
-    }
+/// A call as it is made on the memory that it is lent.
+fn on_inputs(call: Call) -> impl Fn([&[u8]; 2], &mut [u8]) -> Answer {
+    move |[first, second], room| call(first, second, room)
 }

@@ -9,7 +9,8 @@ use crate::lending::Lending;
 use crate::rng::Rng;
 use crate::text;
 use crate::value::byte_damage as value_damage;
-use crate::value::making::{self, Known, Pair};
+use crate::value::making;
+use crate::value::pairing::{pair, Known, Pair};
 use crate::value::plan::PlanDraft;
 
 /// A descriptor that was put together, and what compiling it comes to if the room is enough.
@@ -30,7 +31,7 @@ enum Outcome {
 /// A call on a descriptor that is good or damaged, and a value to run if it is accepted, which may
 /// be damaged or too long.
 pub fn make(rng: &mut Rng) -> Case {
-    let mut pair = making::pair(rng);
+    let mut pair = pair(rng);
     if rng.once_in(512) {
         pair.laid.bytes.resize(rng.between(65_536, 65_540), 0);
         pair.known = Known::TooLong;

@@ -3,34 +3,22 @@
 //! reads are lent where it cannot write.
 
 use super::case::{Call, Case, ReadCall, WriteCall};
-use crate::fence::{Input, Room};
 use crate::ffi;
-use crate::lending::{Lending, FILLS};
-use crate::report::{compare, report};
-use crate::rng::Rng;
+use crate::lending::Lending;
+use crate::memory::{Lent, Memory};
+use crate::report::report;
 use second::crossing::{self, Answer};
 
-/// The largest run that a case lends.
-const CAPACITY: usize = 262_144;
-
 pub struct Judge {
-    list: Input,
-    src: Input,
-    room: Room,
-    /// What rooms hold before a call.
-    pattern: Vec<u8>,
-    /// The room as the second program leaves it.
-    left: Vec<u8>,
+    reading: Memory<1>,
+    writing: Memory<2>,
 }
 
 impl Judge {
     pub fn new(seed: u64) -> Judge {
         Judge {
-            list: Input::new(CAPACITY),
-            src: Input::new(CAPACITY),
-            room: Room::new(CAPACITY),
-            pattern: Rng::new(seed).bytes(CAPACITY + FILLS),
-            left: Vec::new(),
+            reading: Memory::new(seed),
+            writing: Memory::new(seed),
         }
     }
 
@@ -60,12 +48,12 @@ impl Judge {
         let back = WriteCall {
             side: call.side,
             type_byte: message[0],
-            list: self.left[..4 * answer.second as usize].to_vec(),
+            list: self.reading.left()[..4 * answer.second as usize].to_vec(),
             src: call.src.clone(),
             room: message.len(),
         };
         let written = self.compare_write(&back, lending)?;
-        if written.number != 0 || self.left != message {
+        if written.number != 0 || self.writing.left() != message {
             let what = "an accepted message does not come back from its list";
             return Err(report(what, &back, &[("both", written)]));
         }
@@ -80,12 +68,12 @@ impl Judge {
         }
         let back = ReadCall {
             side: call.side,
-            src: self.left[..answer.first as usize].to_vec(),
+            src: self.writing.left()[..answer.first as usize].to_vec(),
             room: call.list.len(),
         };
         let read = self.compare_read(&back, lending)?;
         let whole = read.number == 0 && read.first == answer.first;
-        if !whole || !same_fields((&call.list, &call.src), (&self.left, &back.src)) {
+        if !whole || !same_fields((&call.list, &call.src), (self.reading.left(), &back.src)) {
             let what = "a written message is not read back as it was asked for";
             return Err(report(what, &back, &[("both", read)]));
         }
@@ -93,35 +81,35 @@ impl Judge {
     }
 
     fn compare_read(&mut self, call: &ReadCall, lending: Lending) -> Result<Answer, String> {
-        let before = &self.pattern[lending.fill..][..call.room];
-        self.left.clear();
-        self.left.extend(before);
-        let second = crossing::read_message(call.side, &call.src, &mut self.left);
-        let src = self.src.lend(&call.src, lending.edge);
-        let room = self.room.lend(call.room, lending.edge);
-        room.copy_from_slice(before);
-        let library = ffi::read_message(call.side, src, room);
-        compare(call, (library, room), (second, &self.left))
+        let ReadCall {
+            side,
+            ref src,
+            room,
+        } = *call;
+        let lent = Lent {
+            inputs: [src],
+            room,
+            lending,
+        };
+        let library = |[src]: [&[u8]; 1], list: &mut [u8]| ffi::read_message(side, src, list);
+        let second = |[src]: [&[u8]; 1], list: &mut [u8]| crossing::read_message(side, src, list);
+        self.reading.compare(call, lent, library, second)
     }
 
     fn compare_write(&mut self, call: &WriteCall, lending: Lending) -> Result<Answer, String> {
-        let WriteCall {
-            side,
-            type_byte,
-            list,
-            src,
-            room,
-        } = call;
-        let before = &self.pattern[lending.fill..][..*room];
-        self.left.clear();
-        self.left.extend(before);
-        let second = crossing::write_message(*side, *type_byte, list, src, &mut self.left);
-        let list = self.list.lend(list, lending.edge);
-        let src = self.src.lend(src, lending.edge);
-        let room = self.room.lend(*room, lending.edge);
-        room.copy_from_slice(before);
-        let library = ffi::write_message(*side, *type_byte, list, src, room);
-        compare(call, (library, room), (second, &self.left))
+        let (side, kind) = (call.side, call.type_byte);
+        let lent = Lent {
+            inputs: [&call.list, &call.src],
+            room: call.room,
+            lending,
+        };
+        let library = |[list, src]: [&[u8]; 2], out: &mut [u8]| {
+            ffi::write_message(side, kind, list, src, out)
+        };
+        let second = |[list, src]: [&[u8]; 2], out: &mut [u8]| {
+            crossing::write_message(side, kind, list, src, out)
+        };
+        self.writing.compare(call, lent, library, second)
     }
 }
 

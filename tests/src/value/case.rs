@@ -1,15 +1,9 @@
-//! One case of the comparison: a call with all it is lent.
+//! The call of the comparison.
 
-use crate::expected::Expected;
-use crate::lending::Lending;
 use crate::report::Hex;
 use std::fmt;
 
-pub struct Case {
-    pub call: RunCall,
-    pub lending: Lending,
-    pub expected: Expected,
-}
+pub type Case = crate::case::Case<RunCall>;
 
 /// `rembulfose_run`.
 pub struct RunCall {
@@ -17,12 +11,6 @@ pub struct RunCall {
     pub value: Vec<u8>,
     /// Bytes of room for the list.
     pub room: usize,
-}
-
-impl fmt::Display for Case {
-    fn fmt(&self, f: &mut fmt::Formatter) -> fmt::Result {
-        write!(f, "{:?}\n{}", self.lending, self.call)
-    }
 }
 
 impl fmt::Display for RunCall {

@@ -7,7 +7,7 @@ use crate::crossed::hex;
 
 /// A plan of all kinds. str at 2, int16 at 4, enumeration at 6, array of int16 at 7, set of arrays
 /// at 9, range at 11, tuple at 13, output object at 17, set of tuples at 23, input object at 25.
-const RICH: [u32; 37] = [
+pub const RICH: [u32; 37] = [
     37, 25, 1, 1, 1, 3, 8, 2, 4, 3, 7, 7, 4, 4, 2, 2, 6, 5, 2, 9, 0x6f, 11, 0x41, 2, 13, 6, 5, 17,
     0x41, 23, 0x4d, 2, 0x6f, 4, 0x6e, 7, 0x6d,
 ];
@@ -21,7 +21,7 @@ pub fn add(cases: &mut Cases) {
 }
 
 /// A value of the rich plan: its elements in the order 1, 2 (absent), 0, 4.
-fn rich_value() -> Vec<u8> {
+pub fn rich_value() -> Vec<u8> {
     let set = |count: u32| format!("00000001 0000000000000000 {count:08x} 00000001");
     let tuple = "00000002 00000000 00000002 6162 00000000 00000000";
     let tuples = format!("{} 00000016 {tuple} 00000016 {tuple}", set(2));
@@ -160,7 +160,7 @@ fn rich(cases: &mut Cases) {
 }
 
 /// The list of the rich value, worked out by hand.
-fn rich_list() -> Vec<[u32; 5]> {
+pub fn rich_list() -> Vec<[u32; 5]> {
     vec![
         [25, 0, 0, 257, 4],
         [23, 1, 12, 72, 2],

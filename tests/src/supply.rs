@@ -1,0 +1,71 @@
+//! Writing values for the comparison.
+//!
+//! * `having` says when a value has a supply, and which bytes of a value are reserved.
+//! * `making` makes a case at random from the plans and values of `value`: `moving` changes a supply
+//!   so that it stays one of the same value, `damage` and `order_damage` so that it is of another or
+//!   of none.
+//! * `exact`, `containers` and `limits` have cases by construction whose answers are known, and
+//!   `sweep` every change of what has few; `fixed` puts them together.
+//! * `judge` makes the calls and compares.
+
+mod case;
+mod containers;
+mod damage;
+mod exact;
+mod fixed;
+mod having;
+mod judge;
+mod limits;
+mod making;
+mod moving;
+mod order_damage;
+mod sweep;
+
+use crate::program::Comparison;
+use crate::rng::Rng;
+use crate::tally::Tally;
+use case::Case;
+use fixed::Cases;
+use judge::Judge;
+use second::crossing::Answer;
+
+/// The comparison of `rembulfose_write_value`.
+pub struct Supplies {
+    judge: Judge,
+    tallies: [Tally; 1],
+}
+
+impl Comparison for Supplies {
+    const NAME: &'static str = "supplies";
+    type Case = Case;
+
+    fn new(seed: u64) -> Supplies {
+        Supplies {
+            judge: Judge::new(seed),
+            tallies: [Tally::new("write_value", &[32, 33, 34])],
+        }
+    }
+
+    fn fixed() -> Vec<Case> {
+        let mut cases = Cases::default();
+        exact::add(&mut cases);
+        containers::add(&mut cases);
+        limits::add(&mut cases);
+        sweep::add(&mut cases);
+        cases.0
+    }
+
+    fn random(seed: u64, number: u64) -> Case {
+        making::make(&mut Rng::of_case(seed, number))
+    }
+
+    fn judge(&mut self, case: &Case) -> Result<Answer, String> {
+        let answer = self.judge.judge(case)?;
+        self.tallies[0].count(answer.number);
+        Ok(answer)
+    }
+
+    fn tallies(&self) -> &[Tally] {
+        &self.tallies
+    }
+}
