@@ -2,8 +2,11 @@
 //! prints a table. Nothing is demanded of the times: this is no test.
 
 mod descriptors;
+mod finding;
 mod messages;
 mod race;
+mod shapes;
+mod supplies;
 mod table;
 mod texts;
 mod values;
@@ -20,6 +23,10 @@ fn main() {
     messages::print();
     println!();
     values::print();
+    println!();
+    supplies::print();
+    println!();
+    finding::print();
     println!();
     descriptors::print();
 }
