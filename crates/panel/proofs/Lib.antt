@@ -3,3 +3,4 @@ pub mod Messages
 pub mod Runs
 pub mod Plans
 pub mod Demand3
+pub mod Findings

@@ -2,3 +2,4 @@ pub mod Crossing
 pub mod Messages
 pub mod Runs
 pub mod Compiles
+pub mod Finds

@@ -1,0 +1,67 @@
+-- The laws of finding on bytes. Assumes nothing.
+use mathlib.Core.Path.{_≡_, refl, ap, sym, _∙_}
+use mathlib.Core.Bool.{Bool, true, false}
+use mathlib.Core.List.{List, []}
+use Prim.Native.Nat.{ℕ, _+_, _*_, _^_, _<_, _≤_}
+use native.Mathlib.Omega.{arith}
+use lib.Dec.{eqb}
+use lib.ListN.{length, take, drop, length-take, length-drop}
+use Rattle.wire.specs.Choice.{pick}
+use Rattle.wire.proofs.Picks.{pick-case}
+use Rattle.heads.specs.Heads.{gone}
+use Rattle.rules.specs.Values.{Outcome, refused, listed}
+use Rattle.run.specs.Run.{checked, Checks}
+use Rattle.run.specs.declared.Answer as Run
+use Rattle.run.specs.declared.Answer.the-variants.{Refused, Listed}
+use Rattle.run.proofs.Runs.{found, turned-down}
+use Rattle.find.specs.Find.{Spot, nowhere, spot, topOf, follow, Found, unfound, found as foundPart, foundAt, foundIn, findOf, partIn, numberIn, placeIn, startIn, Finds}
+use Rattle.find.proofs.Calls.{passed}
+use Rattle.panel.specs.Crossing.{wordsIn, crosses}
+use Rattle.panel.specs.Messages.{refusal, success}
+use Rattle.panel.specs.Finds.{noPath, findFrom, findAnswer, numberFrom, numberAnswer}
+use Rattle.panel.specs.declared.Answer.{Answer}
+
+-- ---- a path that does not cross
+
+module _ (p s : List ℕ) (a : Run.Answer) (k k′ : List ℕ) (c : Checks (length s) (checked p s) a k k′) where
+  pub none-refused : (n q : ℕ) → a ≡ Refused n q → refusal n q ≡ findAnswer (noPath (checked p s))
+  unfolding noPath findAnswer
+  none-refused n q e = rw (turned-down _ _ a k k′ c n q e)
+
+  pub none-listed : (w : ℕ) → a ≡ Listed w → refusal 35 0 ≡ findAnswer (noPath (checked p s))
+  unfolding noPath findAnswer
+  none-listed w e = rw (found _ _ a k k′ c w e .is)
+
+-- ---- one that does
+
+-- a part is no longer than the value, which is short
+no-part : (t : List ℕ) (n q : ℕ) → length (partIn (unfound n q)) ≤ length t
+unfolding partIn
+no-part t n q = omega arith
+
+spot-few : (t : List ℕ) (x : Spot) → length (partIn (foundAt t x)) ≤ length t
+unfolding foundAt partIn
+spot-few t nowhere = no-part t 35 0
+spot-few t (spot e below) =
+    pick-case (λ (y : Found). length (partIn y) ≤ length t) (eqb (e .size) gone) (unfound 36 0) _
+    (λ _. no-part t 36 0) (λ _. simp (length-take, length-drop) (omega arith))
+
+outcome-few : (p s path : List ℕ) (o : Outcome) → checked p s ≡ o → length (partIn (foundIn s path o)) ≤ 65535
+unfolding foundIn
+outcome-few p s path (refused n q) e = omega (arith, no-part [] n q)
+outcome-few p s path (listed f) e = omega (arith, spot-few s (follow path (topOf f)), passed p s f e .few)
+
+module _ (p s path b : List ℕ) (m place node start : ℕ) (g : Finds (findOf p s path) b m place node start) where
+  pub part-few : length b ≤ 65535
+  unfolding findOf
+  part-few = rw (g .part-is) (outcome-few p s path (checked p s) refl)
+
+answer-of : (x : Found) (b : List ℕ) (m place node start : ℕ) → Finds x b m place node start
+    → record { number = m; place = place; first = start; second = length b } ≡ findAnswer x
+unfolding findAnswer refusal success partIn numberIn placeIn startIn
+answer-of (unfound n q) b m place node start g = rw (g .no-is, g .place-is, g .start-is, g .part-is)
+answer-of (foundPart k a c) b m place node start g = rw (g .no-is, g .place-is, g .start-is, g .part-is)
+
+pub answers-found : (p s path b : List ℕ) (m place node start : ℕ) → Finds (findOf p s path) b m place node start
+    → record { number = m; place = place; first = start; second = length b } ≡ findAnswer (findOf p s path)
+answers-found p s path b m place node start g = answer-of (findOf p s path) b m place node start g
