@@ -1,11 +1,15 @@
 -- The laws of words that cross as bytes. Assumes nothing.
-use mathlib.Core.Path.{_≡_, refl, sym, _∙_}
-use mathlib.Core.List.{List, [], _∷_}
-use Prim.Native.Nat.{ℕ, suc, _+_, _*_, _/_, _<_, _≤_}
+use mathlib.Core.Path.{_≡_, refl, ap, sym, _∙_}
+use mathlib.Core.List.{List, [], _∷_, _++_, append-nil, append-assoc}
+use Prim.Native.Nat.{ℕ, suc, _+_, _*_, _-_, _/_, _<_, _≤_}
+use mathlib.Core.Bool.{Bool, true, false}
 use native.Mathlib.Omega.{arith}
 use native.Mathlib.Numerals.{add-one}
+use lib.Dec.{leb}
 use lib.ListN.{length, take, drop, getD, set, length-drop, length-append, drop-of-length-le}
-use lib.Seq.{sets, drop-cons, drop-drop}
+use lib.Seq.{sets, sets-eq, length-sets, drop-cons, drop-drop, take-all, take-at, drop-at}
+use borrow.Author.Tests.{le-leb, lt-leb, leb-true, leb-false}
+use borrow.Rule.Slice.PartMut.{putMid}
 use Rattle.wire.specs.Be.{be, bytesBe}
 use Rattle.wire.proofs.Numbers.{length-bytes}
 use Rattle.wire.proofs.Stores.{sets-append}
@@ -47,6 +51,64 @@ length-in (a ∷ []) = refl
 length-in (a ∷ b ∷ []) = refl
 length-in (a ∷ b ∷ c ∷ []) = refl
 length-in (a ∷ b ∷ c ∷ d ∷ s) = omega (arith, length-in s)
+
+-- ---- the words of two runs, one run after the other
+
+-- two runs are few words together when the second is in what the first leaves
+pub few-left : (n m k : ℕ) → n ≤ k → leb m (k - n) ≡ leb (n + m) k
+few-left n m k h = go (leb m (k - n)) refl
+  where
+    go : (t : Bool) → leb m (k - n) ≡ t → t ≡ leb (n + m) k
+    go true e = sym (le-leb (n + m) k (omega (arith, leb-true m (k - n) e)))
+    go false e = sym (lt-leb (n + m) k (omega (arith, leb-false m (k - n) e)))
+
+pub few-not : (n m k : ℕ) → k < n → false ≡ leb (n + m) k
+few-not n m k h = sym (lt-leb (n + m) k (omega arith))
+
+-- what is stored into all of a list from its n-th element on is stored into the list
+part-stored : (l vs : List ℕ) (n k : ℕ) → n + k ≡ length l → length vs ≤ k → putMid n k l (sets (take k (drop n l)) 0 vs) ≡ sets l n vs
+part-stored l vs n k e h =
+    let d : length (drop n l) ≡ k = simp length-drop (omega arith) in
+    let t : take k (drop n l) ≡ drop n l = take-all k (drop n l) (omega arith) in
+    let q : length (drop n l) ≤ k = omega arith in
+    let z : drop k (drop n l) ≡ [] = drop-of-length-le (drop n l) q in
+    let o : n + (0 + length vs) ≡ n + length vs = omega arith in
+    rw (t, z, append-nil, sets-eq vs (drop n l) 0 (omega arith), drop-drop, o, sets-eq vs l n (omega arith), append-assoc)
+
+module _ (first second words : List ℕ) (h : length first + length second ≤ 4 * length words) where
+  pub both-taken : (w : List ℕ) → w ≡ sets words 0 (wordsIn first) → (part : List ℕ)
+      → part ≡ sets (take (length w - length first / 4) (drop (length first / 4) w)) 0 (wordsIn second)
+      → putMid (length first / 4) (length w - length first / 4) w part ≡ sets words 0 (wordsIn first ++ wordsIn second)
+  both-taken w e part f =
+      let l : length w ≡ length words = ap length e ∙ length-sets words 0 (wordsIn first) in
+      let n : length first / 4 ≡ 0 + length (wordsIn first) = omega (arith, length-in first) in
+      ap (putMid (length first / 4) (length w - length first / 4) w) f
+      ∙ part-stored w (wordsIn second) (length first / 4) (length w - length first / 4) (omega arith) (omega (arith, length-in second))
+      ∙ rw (e, n) (sets-append words 0 (wordsIn first) (wordsIn second))
+
+  -- the two runs' words are found again
+  module _ (words′ : List ℕ) (e : words′ ≡ sets words 0 (wordsIn first ++ wordsIn second)) where
+    a : List ℕ
+    a = wordsIn first
+
+    b : List ℕ
+    b = wordsIn second
+
+    rest : List ℕ
+    rest = drop (0 + length (a ++ b)) words
+
+    stored : words′ ≡ a ++ (b ++ rest)
+    unfolding a b rest
+    stored = e ∙ sets-eq (a ++ b) words 0 (simp length-append (omega (arith, length-in first, length-in second))) ∙ append-assoc a b rest
+
+    pub first-taken : take (length first / 4) words′ ≡ wordsIn first
+    unfolding a
+    first-taken = rw stored (take-at a (b ++ rest) (length first / 4) (length-in first))
+
+    pub second-taken : (k : ℕ) → k ≡ length second / 4 → take k (drop (length first / 4) words′) ≡ wordsIn second
+    unfolding a b
+    second-taken k q =
+        rw (stored, drop-at a (b ++ rest) (length first / 4) (length-in first)) (take-at b rest k (length-in second ∙ sym q))
 
 -- ---- words out
 

@@ -1,7 +1,9 @@
 // Words cross as bytes, four to a word, the highest first.
 ghost use mathlib.Core.Path.{_≡_};
 ghost use mathlib.Core.Bool.{Bool};
-ghost use Prim.Native.Nat.{ℕ, _*_, _≤_};
+ghost use mathlib.Core.List.{_++_};
+ghost use Prim.Native.Nat.{ℕ, _+_, _*_, _≤_};
+ghost use lib.Dec.{leb};
 ghost use lib.ListN.{length};
 ghost use lib.Seq.{sets};
 ghost use Rattle.panel.specs.Crossing.{wordsIn, bytesOut, crosses, wordRoom};
@@ -43,6 +45,26 @@ pub fn take_words(bytes: &[u8], words: &mut [u32])
         words[i] = wire::be::u32_at(bytes, 4 * i);
         i += 1;
     }
+}
+
+// Whether runs of n and of m bytes are few words together.
+pub fn few_words(n: usize, m: usize) -> bool
+    ensures { λ r. ⌜ r ≡ leb (n + m) 4096 ⌝ }
+{
+    if n <= 4 * FEW {
+        return m <= 4 * FEW - n;
+    }
+    false
+}
+
+// The words of two runs of bytes, the first run's and then the second's, put at the start of `words`.
+pub fn take_both(first: &[u8], second: &[u8], words: &mut [u32])
+    requires { ⌜ length (now first) + length (now second) ≤ 4 * length (now words) ⌝ }
+    ensures { λ _. ⌜ now (words .exit) ≡ sets (now (words .entry)) 0 (wordsIn (now (first .entry)) ++ wordsIn (now (second .entry))) ⌝ }
+{
+    take_words(first, words);
+    let n = first.len() / 4;
+    take_words(second, &mut words[n..]);
 }
 
 // The bytes of the words, put at the start of `out`.
