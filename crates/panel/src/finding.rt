@@ -64,11 +64,11 @@ fn known(format: u32, bits: u64) -> Number
 }
 
 // The bits of a float of 32 bits.
-fn single_bits(x: f32) -> u64
+fn single_bits(x: f32) -> u32
     requires { ⌜ T (not (isNan x)) ⌝ }
     ensures { λ r. ⌜ r ≡ toBits binary32 x ⌝ }
 {
-    f32::to_bits(x) as u64
+    f32::to_bits(x)
 }
 
 // The format and the bits of a number, or a refusal.
@@ -90,7 +90,7 @@ fn number_answer(number: find::Number) -> Number
             }
             known(9, 0)
         }
-        find::Number::Single(x) => known(6, single_bits(x)),
+        find::Number::Single(x) => known(6, single_bits(x) as u64),
         find::Number::Double(x) => known(7, f64::to_bits(x)),
         find::Number::SingleNan(bits) => known(6, bits as u64),
         find::Number::DoubleNan(bits) => known(7, bits),

@@ -2,8 +2,6 @@
 use mathlib.Core.Path.{_≡_, refl, sym, _∙_, ap}
 use mathlib.Core.Bool.{cond}
 use native.Mathlib.Omega.{arith}
-use lib.Ieee.{binary32}
-use lib.Ieee.Bits.{toBits-lt}
 use Rattle.find.specs.Number.{Real, shown}
 use Rattle.panel.specs.Finds.{numberAnswer}
 use borrow.Author.Needs.{needs}
@@ -13,6 +11,7 @@ use Rattle.panel.proofs.finding.number_answer.Tie as tie
 use Rattle.panel.proofs.finding.number_answer.Reads as reads
 use Rattle.panel.proofs.finding.number_answer.Lts as lts
 use Rattle.panel.proofs.finding.known.Reads as known-reads
+use Rattle.panel.proofs.finding.single_bits.Reads as single-bits-reads
 
 enum-known-number : tie.Need-enum-known-number
 enum-known-number c = search needs
@@ -40,12 +39,12 @@ known-requires-3 c κs = search needs
 enum-known-number-4 : tie.Need-enum-known-number-4
 enum-known-number-4 c = search needs
 
-float-to-bits-known : tie.Need-float-to-bits-known
+single-bits-requires : tie.Need-single-bits-requires
 unfolding Real
-float-to-bits-known c = rw (c .before .number4 .given .1) at (c .before .before .before .pre)
+single-bits-requires c κs = rw (c .before .number4 .given .1) at (c .before .before .before .pre)
 
 cast-known : tie.Need-cast-known
-cast-known c = omega (arith, toBits-lt binary32 _ (c .known-told4 .given .0))
+cast-known c = search needs
 
 known-requires-4 : tie.Need-known-requires-4
 known-requires-4 c κs = search needs
@@ -53,9 +52,9 @@ known-requires-4 c κs = search needs
 enum-known-number-5 : tie.Need-enum-known-number-5
 enum-known-number-5 c = search needs
 
-float-to-bits-known-2 : tie.Need-float-to-bits-known-2
+float-to-bits-known : tie.Need-float-to-bits-known
 unfolding Real
-float-to-bits-known-2 c = rw (c .before .number5 .given .1) at (c .before .before .before .pre)
+float-to-bits-known c = rw (c .before .number5 .given .1) at (c .before .before .before .pre)
 
 known-requires-5 : tie.Need-known-requires-5
 known-requires-5 c κs = search needs
@@ -90,7 +89,8 @@ returns-4 c =
 
 returns-5 : tie.Need-returns-5
 unfolding shown
-returns-5 c = c .known4 .ensures ∙ rw (c .before .before .number4 .given .1)
+returns-5 c =
+    c .known4 .ensures ∙ rw (c .before .before .before .number4 .given .1, c .before .single-bits .ensures)
 
 returns-6 : tie.Need-returns-6
 unfolding shown
@@ -116,11 +116,11 @@ number-answer-spec =
     returns
     known-requires-3
     enum-known-number-4
-    float-to-bits-known
+    single-bits-requires
     cast-known
     known-requires-4
     enum-known-number-5
-    float-to-bits-known-2
+    float-to-bits-known
     known-requires-5
     enum-known-number-6
     cast-known-2
