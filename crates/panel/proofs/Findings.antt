@@ -2,7 +2,7 @@
 use mathlib.Core.Path.{_≡_, refl, ap, sym, _∙_}
 use mathlib.Core.Bool.{Bool, true, false}
 use mathlib.Core.List.{List, []}
-use Prim.Native.Nat.{ℕ, _+_, _*_, _^_, _<_, _≤_}
+use Prim.Native.Nat.{ℕ, _+_, _*_, _<_, _≤_}
 use native.Mathlib.Omega.{arith}
 use lib.Dec.{eqb}
 use lib.ListN.{length, take, drop, length-take, length-drop}
@@ -15,11 +15,13 @@ use Rattle.run.specs.declared.Answer as Run
 use Rattle.run.specs.declared.Answer.the-variants.{Refused, Listed}
 use Rattle.run.proofs.Runs.{found, turned-down}
 use Rattle.find.specs.Find.{Spot, nowhere, spot, topOf, follow, Found, unfound, found as foundPart, foundAt, foundIn, findOf, partIn, numberIn, placeIn, startIn, Finds}
+use Rattle.find.specs.Number.{unnumbered, ofFound, numberOf}
 use Rattle.find.proofs.Calls.{passed}
 use Rattle.panel.specs.Crossing.{wordsIn, crosses}
 use Rattle.panel.specs.Messages.{refusal, success}
 use Rattle.panel.specs.Finds.{noPath, findFrom, findAnswer, numberFrom, numberAnswer}
 use Rattle.panel.specs.declared.Answer.{Answer}
+use Rattle.panel.specs.declared.Number.{Number}
 
 -- ---- a path that does not cross
 
@@ -31,6 +33,10 @@ module _ (p s : List ℕ) (a : Run.Answer) (k k′ : List ℕ) (c : Checks (leng
   pub none-listed : (w : ℕ) → a ≡ Listed w → refusal 35 0 ≡ findAnswer (noPath (checked p s))
   unfolding noPath findAnswer
   none-listed w e = rw (found _ _ a k k′ c w e .is)
+
+-- by the words of the plan's bytes
+pub lost-words : (plan value p : List ℕ) (r : Answer) → p ≡ wordsIn plan → r ≡ findAnswer (noPath (checked p value)) → r ≡ findAnswer (noPath (checked (wordsIn plan) value))
+lost-words plan value p r e x = x ∙ rw e
 
 -- ---- one that does
 
@@ -65,3 +71,42 @@ answer-of (foundPart k a c) b m place node start g = rw (g .no-is, g .place-is, 
 pub answers-found : (p s path b : List ℕ) (m place node start : ℕ) → Finds (findOf p s path) b m place node start
     → record { number = m; place = place; first = start; second = length b } ≡ findAnswer (findOf p s path)
 answers-found p s path b m place node start g = answer-of (findOf p s path) b m place node start g
+
+-- ---- the crossing
+
+lost-number : (p : List ℕ) (o : Outcome) (r : Answer) → r ≡ findAnswer (noPath o) → unnumbered (r .number) (r .place) ≡ ofFound p (noPath o)
+unfolding noPath findAnswer ofFound
+lost-number p (refused n q) r x = rw x
+lost-number p (listed f) r x = rw x
+
+module _ (plan value path : List ℕ) where
+  pub find-uncrossed : crosses (length plan) ≡ false → refusal 33 0 ≡ findAnswer (findFrom plan value path)
+  unfolding findFrom findAnswer pick
+  find-uncrossed e = rw e
+
+  pub number-uncrossed : crosses (length plan) ≡ false → numberAnswer (unnumbered 33 0) ≡ numberAnswer (numberFrom plan value path)
+  unfolding numberFrom findFrom ofFound pick
+  number-uncrossed e = rw e
+
+  module _ (e : crosses (length plan) ≡ true) where
+    module _ (d : crosses (length path) ≡ false) where
+      lost-is : noPath (checked (wordsIn plan) value) ≡ findFrom plan value path
+      unfolding findFrom pick
+      lost-is = rw (e, d)
+
+      pub find-lost : (r : Answer) → r ≡ findAnswer (noPath (checked (wordsIn plan) value)) → r ≡ findAnswer (findFrom plan value path)
+      find-lost r x = x ∙ ap findAnswer lost-is
+
+      pub number-lost : (r : Answer) → r ≡ findAnswer (noPath (checked (wordsIn plan) value))
+          → numberAnswer (unnumbered (r .number) (r .place)) ≡ numberAnswer (numberFrom plan value path)
+      unfolding numberFrom
+      number-lost r x = ap numberAnswer (lost-number (wordsIn plan) (checked (wordsIn plan) value) r x ∙ ap (ofFound (wordsIn plan)) lost-is)
+
+    module _ (d : crosses (length path) ≡ true) (p q : List ℕ) (ep : p ≡ wordsIn plan) (eq : q ≡ wordsIn path) where
+      pub find-crossed : (r : Answer) → r ≡ findAnswer (findOf p value q) → r ≡ findAnswer (findFrom plan value path)
+      unfolding findFrom pick
+      find-crossed r x = x ∙ rw (e, d, ep, eq)
+
+      pub number-crossed : (r : Number) → r ≡ numberAnswer (numberOf p value q) → r ≡ numberAnswer (numberFrom plan value path)
+      unfolding numberFrom numberOf findFrom pick
+      number-crossed r x = x ∙ rw (e, d, ep, eq)

@@ -5,15 +5,18 @@ use crate::crossing;
 use crate::refused;
 ghost use mathlib.Core.Path.{_≡_};
 ghost use mathlib.Core.Bool.{true, not};
-ghost use Prim.Native.Nat.{_+_, _*_, _≤_};
+ghost use Prim.Native.Nat.{_+_, _-_, _*_, _≤_};
 ghost use lib.Dec.{T};
 ghost use lib.Ieee.{binary32, toBits, isNan};
-ghost use lib.ListN.{length};
+ghost use lib.ListN.{length, take, drop};
 ghost use Rattle.run.specs.Run.{checked};
 ghost use Rattle.find.specs.Find.{findOf};
-ghost use Rattle.find.specs.Number.{numbered, numberOf, Real, shown};
-ghost use Rattle.panel.specs.Crossing.{crosses};
+ghost use Rattle.find.specs.Number.{unnumbered, numbered, numberOf, Real, shown};
+ghost use Rattle.panel.specs.Crossing.{wordsIn, crosses};
 ghost use Rattle.panel.specs.Finds.{noPath, findFrom, findAnswer, numberFrom, numberAnswer};
+
+// The most words of a plan and a path together.
+const BOTH: usize = 16384;
 
 // A path that does not cross: the value's own faults come first.
 fn find_none(plan: &[u32], value: &[u8]) -> Answer
@@ -51,6 +54,18 @@ fn find_words(plan: &[u32], value: &[u8], path: &[u32]) -> Answer
     }
 }
 
+// No number.
+fn number_refused(number: u32, place: u32) -> Number
+    ensures { λ r. ⌜ r ≡ numberAnswer (unnumbered number place) ⌝ }
+{
+    Number {
+        number,
+        place,
+        format: 0,
+        bits: 0,
+    }
+}
+
 // A number of a format.
 fn known(format: u32, bits: u64) -> Number
     ensures { λ r. ⌜ r ≡ numberAnswer (numbered format bits) ⌝ }
@@ -77,12 +92,7 @@ fn number_answer(number: find::Number) -> Number
     ensures { λ r. ⌜ r ≡ numberAnswer (shown number) ⌝ }
 {
     match number {
-        find::Number::Refused { no, place } => Number {
-            number: no,
-            place,
-            format: 0,
-            bits: 0,
-        },
+        find::Number::Refused { no, place } => number_refused(no, place),
         find::Number::Integer { format, bits } => known(format, bits),
         find::Number::Truth(b) => {
             if b {
@@ -95,4 +105,91 @@ fn number_answer(number: find::Number) -> Number
         find::Number::SingleNan(bits) => known(6, bits as u64),
         find::Number::DoubleNan(bits) => known(7, bits),
     }
+}
+
+// The words of the plan are the first n, and the path's are those up to `end`.
+fn find_both(words: &[u32], n: usize, end: usize, value: &[u8]) -> Answer
+    requires { ⌜ (n ≤ end) × (end ≤ length (now words)) ⌝ }
+    ensures { λ r. ⌜ r ≡ findAnswer (findOf (take n (now (words .entry))) (now (value .entry)) (take (end - n) (drop n (now (words .entry))))) ⌝ }
+{
+    find_words(&words[..n], value, &words[n..end])
+}
+
+// Finds by the words of a plan and a path, in scratch room for both.
+fn find_in(plan: &[u8], value: &[u8], path: &[u8], scratch: &mut [u32]) -> Answer
+    requires { ⌜ (crosses (length (now plan)) ≡ true) × (crosses (length (now path)) ≡ true) × (length (now plan) + length (now path) ≤ 4 * length (now scratch)) ⌝ }
+    ensures { λ r. ⌜ r ≡ findAnswer (findFrom (now (plan .entry)) (now (value .entry)) (now (path .entry))) ⌝ }
+{
+    let n = plan.len() / 4;
+    let end = n + path.len() / 4;
+    crossing::take_both(plan, path, scratch);
+    find_both(scratch, n, end, value)
+}
+
+// A path that does not cross.
+fn find_lost(plan: &[u8], value: &[u8]) -> Answer
+    requires { ⌜ crosses (length (now plan)) ≡ true ⌝ }
+    ensures { λ r. ⌜ r ≡ findAnswer (noPath (checked (wordsIn (now (plan .entry))) (now (value .entry)))) ⌝ }
+{
+    let n = plan.len() / 4;
+    let mut words = [0u32; crossing::MOST];
+    crossing::take_words(plan, &mut words);
+    find_none(&words[..n], value)
+}
+
+// Finds the element that a path leads to.
+#[no_mangle]
+pub extern "C" fn rembulfose_find(plan: &[u8], value: &[u8], path: &[u8]) -> Answer
+    ensures { λ r. ⌜ r ≡ findAnswer (findFrom (now (plan .entry)) (now (value .entry)) (now (path .entry))) ⌝ }
+{
+    if !crossing::whole_words(plan.len()) {
+        return refused(33, 0);
+    }
+    if !crossing::whole_words(path.len()) {
+        return find_lost(plan, value);
+    }
+    if crossing::few_words(plan.len(), path.len()) {
+        let mut few = [0u32; crossing::FEW];
+        return find_in(plan, value, path, &mut few);
+    }
+    let mut many = [0u32; BOTH];
+    find_in(plan, value, path, &mut many)
+}
+
+// The number of the element, by the words of a plan and a path.
+fn number_both(words: &[u32], n: usize, end: usize, value: &[u8]) -> Number
+    requires { ⌜ (n ≤ end) × (end ≤ length (now words)) ⌝ }
+    ensures { λ r. ⌜ r ≡ numberAnswer (numberOf (take n (now (words .entry))) (now (value .entry)) (take (end - n) (drop n (now (words .entry))))) ⌝ }
+{
+    number_answer(find::numbers::find_number(&words[..n], value, &words[n..end]))
+}
+
+fn number_in(plan: &[u8], value: &[u8], path: &[u8], scratch: &mut [u32]) -> Number
+    requires { ⌜ (crosses (length (now plan)) ≡ true) × (crosses (length (now path)) ≡ true) × (length (now plan) + length (now path) ≤ 4 * length (now scratch)) ⌝ }
+    ensures { λ r. ⌜ r ≡ numberAnswer (numberFrom (now (plan .entry)) (now (value .entry)) (now (path .entry))) ⌝ }
+{
+    let n = plan.len() / 4;
+    let end = n + path.len() / 4;
+    crossing::take_both(plan, path, scratch);
+    number_both(scratch, n, end, value)
+}
+
+// The number of the element that a path leads to.
+#[no_mangle]
+pub extern "C" fn rembulfose_find_number(plan: &[u8], value: &[u8], path: &[u8]) -> Number
+    ensures { λ r. ⌜ r ≡ numberAnswer (numberFrom (now (plan .entry)) (now (value .entry)) (now (path .entry))) ⌝ }
+{
+    if !crossing::whole_words(plan.len()) {
+        return number_refused(33, 0);
+    }
+    if !crossing::whole_words(path.len()) {
+        let lost = find_lost(plan, value);
+        return number_refused(lost.number, lost.place);
+    }
+    if crossing::few_words(plan.len(), path.len()) {
+        let mut few = [0u32; crossing::FEW];
+        return number_in(plan, value, path, &mut few);
+    }
+    let mut many = [0u32; BOTH];
+    number_in(plan, value, path, &mut many)
 }

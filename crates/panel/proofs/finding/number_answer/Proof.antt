@@ -11,10 +11,14 @@ use Rattle.panel.proofs.finding.number_answer.Tie as tie
 use Rattle.panel.proofs.finding.number_answer.Reads as reads
 use Rattle.panel.proofs.finding.number_answer.Lts as lts
 use Rattle.panel.proofs.finding.known.Reads as known-reads
+use Rattle.panel.proofs.finding.number_refused.Reads as number-refused-reads
 use Rattle.panel.proofs.finding.single_bits.Reads as single-bits-reads
 
 enum-known-number : tie.Need-enum-known-number
 enum-known-number c = search needs
+
+number-refused-requires : tie.Need-number-refused-requires
+number-refused-requires c κs = search needs
 
 enum-known-number-2 : tie.Need-enum-known-number-2
 enum-known-number-2 c = search needs
@@ -75,8 +79,8 @@ known-requires-7 : tie.Need-known-requires-7
 known-requires-7 c κs = search needs
 
 returns-2 : tie.Need-returns-2
-unfolding shown numberAnswer
-returns-2 c = rw (c .before .number .given .1)
+unfolding shown
+returns-2 c = c .number-refused .ensures ∙ rw (c .before .before .number .given .1)
 
 returns-3 : tie.Need-returns-3
 unfolding shown
@@ -109,6 +113,7 @@ number-answer-spec =
     tie.close
     (tie.spec
     enum-known-number
+    number-refused-requires
     enum-known-number-2
     known-requires
     enum-known-number-3
