@@ -3,3 +3,4 @@ pub mod Messages
 pub mod Runs
 pub mod Compiles
 pub mod Finds
+pub mod Supplies

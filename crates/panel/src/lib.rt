@@ -3,6 +3,7 @@ pub mod crossing;
 pub mod descriptors;
 pub mod finding;
 pub mod message;
+pub mod supplies;
 pub mod values;
 
 ghost use mathlib.Core.Path.{_≡_};
