@@ -65,6 +65,10 @@ few-left n m k h = go (leb m (k - n)) refl
 pub few-not : (n m k : ℕ) → k < n → false ≡ leb (n + m) k
 few-not n m k h = sym (lt-leb (n + m) k (omega arith))
 
+-- few words together are in the short room
+pub few-fit : (n m : ℕ) (b : Bool) → b ≡ leb (n + m) 4096 → b ≡ true → n + m ≤ 4096
+few-fit n m b e t = leb-true (n + m) 4096 (sym e ∙ t)
+
 -- what is stored into all of a list from its n-th element on is stored into the list
 part-stored : (l vs : List ℕ) (n k : ℕ) → n + k ≡ length l → length vs ≤ k → putMid n k l (sets (take k (drop n l)) 0 vs) ≡ sets l n vs
 part-stored l vs n k e h =

@@ -4,9 +4,7 @@ use mathlib.Core.Bool.{Bool, true, false}
 use mathlib.Core.List.{List, _++_}
 use Prim.Native.Nat.{ℕ, _+_, _*_, _-_, _/_, _≤_}
 use native.Mathlib.Omega.{arith}
-use lib.Dec.{leb}
 use lib.ListN.{length, take, drop}
-use borrow.Author.Tests.{leb-true}
 use lib.Seq.{sets}
 use Rattle.wire.specs.Choice.{pick}
 use Rattle.plan.specs.Plan.{planFormed}
@@ -75,7 +73,3 @@ module _ (ws plan : List ℕ) (w : ws ≡ wordsIn plan) (b : Bool) (e : b ≡ pl
   pub uncrossed-unformed : b ≡ false → refusal 33 0 ≡ supplyAnswer (uncrossedSupply (wordsIn plan))
   unfolding uncrossedSupply supplyAnswer pick
   uncrossed-unformed t = rw (← w, ← e, t)
-
--- few words together are in the short room
-pub few-fit : (n m : ℕ) (b : Bool) → b ≡ leb (n + m) 4096 → b ≡ true → n + m ≤ 4096
-few-fit n m b e t = leb-true (n + m) 4096 (sym e ∙ t)

@@ -1,6 +1,6 @@
 use native.Mathlib.Omega.{arith}
 use Rattle.panel.proofs.Messages.{crosses-most}
-use Rattle.panel.proofs.Writes.{few-fit}
+use Rattle.panel.proofs.Words.{few-fit}
 use borrow.Author.Needs.{needs}
 use Rattle.panel.proofs.supplies.write_crossed.Statement.{statement}
 use Rattle.panel.proofs.supplies.write_crossed.Tie as tie
