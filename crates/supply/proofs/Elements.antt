@@ -50,12 +50,12 @@ module _ {S : Type 0} (order : Order S) (rule : Builder) (v : Node) (st : S) (ws
         turn-stop q = rw turn-is (stop at out (partMade rule v (refAt v (c .index)) c rest ws) (elementsMade order rule v (n - 1) (order .after st (c .index))) q)
 
         pub turn-go : (us : List ℕ) (at′ : ℕ) (out′ : List ℕ) → stands us at′ out′ ≡ put-at (partMade rule v (refAt v (c .index)) c rest ws) at out
-            → (st′ : S) → st′ ≡ order .after st (c .index)
-            → put-at (elementsMade order rule v n st ws) at out ≡ put-at (elementsMade order rule v (n - 1) st′ us) at′ out′
-        turn-go us at′ out′ q st′ es =
+            → (st′ : S) → st′ ≡ order .after st (c .index) → (m : ℕ) → m ≡ n - 1
+            → put-at (elementsMade order rule v n st ws) at out ≡ put-at (elementsMade order rule v m st′ us) at′ out′
+        turn-go us at′ out′ q st′ es m em =
             ap (λ (m : Made). put-at m at out) turn-is
             ∙ go at out (partMade rule v (refAt v (c .index)) c rest ws) (elementsMade order rule v (n - 1) (order .after st (c .index))) us at′ out′ q
-            ∙ rw es
+            ∙ rw (es, em)
 
   -- ---- its end
 
@@ -71,6 +71,20 @@ module _ {S : Type 0} (order : Order S) (rule : Builder) (v : Node) (st : S) (ws
     pub lacks : order .lacks st ≡ true → broken ≡ put-at (elementsMade order rule v n st ws) at out
     unfolding put-at pick
     lacks e = rw (none-is, e)
+
+  pub as-many : (m : ℕ) → m ≡ n → put-at (elementsMade order rule v n st ws) at out ≡ put-at (elementsMade order rule v m st ws) at out
+  as-many m e = rw e
+
+-- ---- how many are left, at i of n
+
+pub some-left : (i n : ℕ) → i < n → 0 < n - i
+some-left i n h = omega arith
+
+pub none-left : (i n : ℕ) → n ≤ i → n - i ≤ 0
+none-left i n h = omega arith
+
+pub one-fewer : (i n : ℕ) → n - (i + 1) ≡ n - i - 1
+one-fewer i n = omega arith
 
 -- ---- which indexes may come
 

@@ -52,8 +52,7 @@ fn build_top(plan: &[u32], node: usize, src: &[u8], list: &[u32], out: &mut [u8]
     requires { ⌜ At (now plan) node ⌝ }
     ensures { λ r. ⌜ standOf r (now (list .entry)) (now (out .exit)) ≡ put-at (buildOf (now (src .entry)) (look (now (plan .entry))) node 0 (now (list .entry))) 0 (now (out .entry)) ⌝ }
 {
-    let read = list::next_entry(list, 0);
-    let Read::Whole(entry) = read else {
+    let Read::Whole(entry) = list::next_entry(list, 0) else {
         return Built::Failed;
     };
     if entry.index != 0 {

@@ -143,35 +143,29 @@ fn build_row(
     list: &[u32],
     count: usize,
     first: usize,
-    word: usize,
+    mut word: usize,
     out: &mut [u8],
-    at: usize,
+    mut at: usize,
 ) -> Built
     requires { ⌜ (At (now plan) node) × (Holds (look (now plan) node) (first + count)) × (first + count < 2 ^ 33) × (at ≤ 65535) ⌝ }
     ensures { λ r. ⌜ standOf r (now (list .entry)) (now (out .exit)) ≡ put-at (elementsMade rowOrder (buildOf (now (src .entry)) (look (now (plan .entry)))) (look (now (plan .entry)) node) count first (drop word (now (list .entry)))) at (now (out .entry)) ⌝ }
 {
-    let mut left = count;
-    let mut i = first;
-    let mut next = word;
-    let mut to = at;
-    while 0 < left {
-        let read = list::next_entry(list, next);
-        let Read::Whole(entry) = read else {
+    let end = first + count;
+    for i in first..end {
+        let Read::Whole(entry) = list::next_entry(list, word) else {
             return Built::Failed;
         };
         if entry.index as usize != i {
             return Built::Failed;
         }
-        let built = build_member(plan, node, src, list, entry, next, out, to);
+        let built = build_member(plan, node, src, list, entry, word, out, at);
         let Built::Done { word: w, at: a } = built else {
             return Built::Failed;
         };
-        next = w;
-        to = a;
-        i += 1;
-        left -= 1;
+        word = w;
+        at = a;
     }
-    Built::Done { word: next, at: to }
+    Built::Done { word, at }
 }
 
 // Elements in any order, each with its index; none is given twice, and none that is required is left out.
@@ -181,21 +175,17 @@ fn build_sparse(
     src: &[u8],
     list: &[u32],
     count: usize,
-    word: usize,
+    mut word: usize,
     out: &mut [u8],
-    at: usize,
+    mut at: usize,
 ) -> Built
     requires { ⌜ (At (now plan) node) × (getD (now plan) node 0 ≡ 6) × (at ≤ 65535) ⌝ }
     ensures { λ r. ⌜ standOf r (now (list .entry)) (now (out .exit)) ≡ put-at (elementsMade (sparseOrder (cardsAt (now (plan .entry)) node)) (buildOf (now (src .entry)) (look (now (plan .entry)))) (look (now (plan .entry)) node) count noMarks (drop word (now (list .entry)))) at (now (out .entry)) ⌝ }
 {
     let n = plan::node::second_at(plan, node);
     let mut seen = Seen::new();
-    let mut left = count;
-    let mut next = word;
-    let mut to = at;
-    while 0 < left {
-        let read = list::next_entry(list, next);
-        let Read::Whole(entry) = read else {
+    for _ in 0..count {
+        let Read::Whole(entry) = list::next_entry(list, word) else {
             return Built::Failed;
         };
         let i = entry.index as usize;
@@ -206,18 +196,17 @@ fn build_sparse(
         if seen.twice {
             return Built::Failed;
         }
-        let built = build_member(plan, node, src, list, entry, next, out, to);
-        let Built::Done { word: w, at: end } = built else {
+        let built = build_member(plan, node, src, list, entry, word, out, at);
+        let Built::Done { word: w, at: a } = built else {
             return Built::Failed;
         };
-        next = w;
-        to = end;
-        left -= 1;
+        word = w;
+        at = a;
     }
     if value::node::any_lacking(plan, node, seen) {
         return Built::Failed;
     }
-    Built::Done { word: next, at: to }
+    Built::Done { word, at }
 }
 
 // The element whose entry is at a word of the list. Its head has the length of its data, which is known once that was built, so the head is

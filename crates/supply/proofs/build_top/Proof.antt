@@ -14,8 +14,8 @@ use Rattle.supply.proofs.build_top.Tie as tie
 next-entry-requires : tie.Need-next-entry-requires
 next-entry-requires c κs = search needs
 
-enum-known-read : tie.Need-enum-known-read
-enum-known-read c = search needs
+enum-known-entry : tie.Need-enum-known-entry
+enum-known-entry c = search needs
 
 enum-told : tie.Need-enum-told
 enum-told c = search needs
@@ -28,16 +28,16 @@ returns c =
 returns-2 : tie.Need-returns-2
 unfolding standOf
 returns-2 c =
-    value-index _ _ _ (c .before .before .before .before .before .before .before .before .before .before .pre) _ _ _ _ _ _ (entry-at (c .before .before .before .before .before .before .before .before .before .before .args .list .now) 0 _ (c .before .before .before .before .before .next-entry .ensures) _ (c .before .before .before .read .given .1)) (c .if1 .taken)
+    value-index _ _ _ (c .before .before .before .before .before .before .before .before .before .before .pre) _ _ _ _ _ _ (entry-at (c .before .before .before .before .before .before .before .before .before .before .args .list .now) 0 _ (c .before .before .before .before .before .next-entry .ensures) _ (c .before .before .before .entry .given .1)) (c .if1 .taken)
 
 returns-3 : tie.Need-returns-3
 unfolding standOf
 returns-3 c =
-    value-absent _ _ _ (c .before .before .before .before .before .before .before .before .before .before .before .before .pre) _ _ _ _ _ _ (entry-at (c .before .before .before .before .before .before .before .before .before .before .before .before .args .list .now) 0 _ (c .before .before .before .before .before .before .before .next-entry .ensures) _ (c .before .before .before .before .before .read .given .1)) (c .if2 .taken)
+    value-absent _ _ _ (c .before .before .before .before .before .before .before .before .before .before .before .before .pre) _ _ _ _ _ _ (entry-at (c .before .before .before .before .before .before .before .before .before .before .before .before .args .list .now) 0 _ (c .before .before .before .before .before .before .before .next-entry .ensures) _ (c .before .before .before .before .before .entry .given .1)) (c .if2 .taken)
 
 build-value-requires : tie.Need-build-value-requires
 build-value-requires c κs =
-    (c .before .before .before .before .before .before .before .before .before .before .before .before .before .pre, entry-at (c .before .before .before .before .before .before .before .before .before .before .before .before .before .args .list .now) 0 _ (c .before .before .before .before .before .before .before .before .next-entry .ensures) _ (c .before .before .before .before .before .before .read .given .1), c .before .if2 .left, entry-inside (c .before .before .before .before .before .before .before .before .before .before .before .before .before .args .list .now) 0 _ (c .before .before .before .before .before .before .before .before .next-entry .ensures) _ (c .before .before .before .before .before .before .read .given .1), omega arith)
+    (c .before .before .before .before .before .before .before .before .before .before .before .before .before .pre, entry-at (c .before .before .before .before .before .before .before .before .before .before .before .before .before .args .list .now) 0 _ (c .before .before .before .before .before .before .before .before .next-entry .ensures) _ (c .before .before .before .before .before .before .entry .given .1), c .before .if2 .left, entry-inside (c .before .before .before .before .before .before .before .before .before .before .before .before .before .args .list .now) 0 _ (c .before .before .before .before .before .before .before .before .next-entry .ensures) _ (c .before .before .before .before .before .before .entry .given .1), omega arith)
 
 same-length : tie.Need-same-length
 same-length c = search needs
@@ -51,7 +51,7 @@ build-top-spec =
     tie.close
     (tie.spec
     next-entry-requires
-    enum-known-read
+    enum-known-entry
     enum-told
     returns
     returns-2

@@ -2,7 +2,8 @@
 -- elements' values. Assumes nothing.
 use mathlib.Core.Path.{_≡_, refl, sym, ap, _∙_}
 use native.Mathlib.Omega.{arith}
-use Prim.Native.Nat.{_+_, _*_, _≤_, ℕ, _<_}
+use Prim.Native.Nat.{_+_, _-_, _*_, _≤_, ℕ, _<_}
+use native.Mathlib.Nat.{add-sub-cancel-left, sub-zero}
 use lib.ListN.{length, drop}
 use borrow.Author.Tests.{eq-eqb, ne-eqb}
 use Rattle.rules.specs.Values.{noMarks}
@@ -18,7 +19,7 @@ use Rattle.supply.proofs.Containers.{refers-inner}
 use Rattle.supply.proofs.Heads.{size-few}
 use Rattle.supply.proofs.Stands.{failed-is, done-is, stood}
 use Rattle.supply.proofs.Parts.{member-absent, member-stop, member-go}
-use Rattle.supply.proofs.Elements.{turn-short, turn-barred, turn-stop, turn-go, done, lacks, unknown-index, same-index, new-index}
+use Rattle.supply.proofs.Elements.{turn-short, turn-barred, turn-stop, turn-go, done, lacks, as-many, some-left, none-left, one-fewer, unknown-index, same-index, new-index}
 use Rattle.supply.proofs.Values.{value-node, value-leaf, value-shut, value-sparse, value-row, opened-small, opened-holds, opened-first}
 use borrow.Author.Needs.{needs}
 use borrow.Fn.Kinds.{In}
@@ -40,12 +41,12 @@ use Rattle.heads.proofs.sparse.Seen.new.Reads as new-reads
 use Rattle.plan.proofs.node.kind_at.Reads as kind-at-reads
 use Rattle.plan.proofs.node.ref_of.Reads as ref-of-reads
 use Rattle.plan.proofs.node.second_at.Reads as second-at-reads
-use Rattle.supply.proofs.walk.build_absent.Reads as build-absent-reads
-use Rattle.supply.proofs.walk.build_leaf.Reads as build-leaf-reads
 use Rattle.supply.proofs.front.put_front.Reads as put-front-reads
 use Rattle.supply.proofs.head.head_size.Reads as head-size-reads
 use Rattle.supply.proofs.head.put_head.Reads as put-head-reads
 use Rattle.supply.proofs.list.next_entry.Reads as next-entry-reads
+use Rattle.supply.proofs.walk.build_absent.Reads as build-absent-reads
+use Rattle.supply.proofs.walk.build_leaf.Reads as build-leaf-reads
 use Rattle.value.proofs.node.any_lacking.Reads as any-lacking-reads
 use Rattle.value.proofs.node.is_leaf.Reads as is-leaf-reads
 use Rattle.supply.proofs.walk.+build_member+build_row+build_sparse+build_value.{statement}
@@ -194,22 +195,26 @@ build-member-returns-3 t c =
     member-go _ _ _ (refers-inner _ _ _ _ (c .before .before .before .before .before .before .before .before .before .before .before .before .before .before .before .before .kind-at .ensures) (c .before .before .before .before .before .before .before .before .before .before .before .before .before .before .before .before .before .before .before .before .before .pre .1 .1)) _ _ _ _ _ (c .before .before .before .before .before .before .before .before .before .before .before .before .before .before .ref-of .ensures) _ _ (c .before .before .before .before .before .before .before .before .before .before .before .before .if1 .left) _ (c .before .before .before .before .before .before .before .before .before .before .before .head-size .ensures) _ _ _ (done-is _ _ _ _ (c .before .before .before .before .before .before .before .before .before .build-value .ensures) _ _ (c .before .before .before .before .before .built .given .1)) _ (c .before .before .put-head .ensures)
 
 abbrev build-row-Inv-loop : build-row-lts.InvT-loop
-build-row-Inv-loop plan node src list count first word out₀ at left₀ i₀ next₀ to₀ out left i next to =
-    (i + left ≡ first + count) × (to ≤ 65535) × (length out ≡ length out₀)
-    × (put-at (elementsMade rowOrder (buildOf src (look plan)) (look plan node) left₀ i₀ (drop next₀ list)) to₀ out₀
-    ≡ put-at (elementsMade rowOrder (buildOf src (look plan)) (look plan node) left i (drop next list)) to out)
+build-row-Inv-loop plan node src list count first word₀ out₀ at₀ end i₀ word out at i =
+    (i ≤ end) × (at ≤ 65535) × (length out ≡ length out₀)
+    × (put-at (elementsMade rowOrder (buildOf src (look plan)) (look plan node) count first (drop word₀ list)) at₀ out₀
+    ≡ put-at (elementsMade rowOrder (buildOf src (look plan)) (look plan node) (end - i) i (drop word list)) at out)
 
 abbrev build-row-μ-loop : build-row-lts.MeasureT-loop
-build-row-μ-loop plan node src list count first word out₀ at left₀ i₀ next₀ to₀ out left i next to = left
+build-row-μ-loop plan node src list count first word₀ out₀ at₀ end i₀ word out at i = end - i
+
+build-row-add-end : (t : ℕ) → build-row-lts.Need-add-end (build-row-claims t) (build-row-at t) build-row.Post build-row-Inv-loop build-row-μ-loop
+build-row-add-end t c = omega (arith, c .before .before .before .before .pre .1 .2)
 
 build-row-loop-holds : (t : ℕ) → build-row-lts.Need-loop-holds (build-row-claims t) (build-row-at t) build-row.Post build-row-Inv-loop build-row-μ-loop
-build-row-loop-holds t c = (omega arith, c .before .before .before .before .pre .1 .3, refl, refl)
+build-row-loop-holds t c =
+    (omega arith, c .before .before .before .before .pre .1 .3, refl, as-many rowOrder _ _ (c .before .before .before .before .args .first) _ _ _ _ _ (add-sub-cancel-left (c .before .before .before .before .args .first) (c .before .before .before .before .args .count)))
 
 build-row-next-entry-requires : (t : ℕ) → build-row-lts.Need-next-entry-requires (build-row-claims t) (build-row-at t) build-row.Post build-row-Inv-loop build-row-μ-loop
 build-row-next-entry-requires t c κs = search needs
 
-build-row-enum-known-read : (t : ℕ) → build-row-lts.Need-enum-known-read (build-row-claims t) (build-row-at t) build-row.Post build-row-Inv-loop build-row-μ-loop
-build-row-enum-known-read t c = search needs
+build-row-enum-known-entry : (t : ℕ) → build-row-lts.Need-enum-known-entry (build-row-claims t) (build-row-at t) build-row.Post build-row-Inv-loop build-row-μ-loop
+build-row-enum-known-entry t c = search needs
 
 build-row-enum-told : (t : ℕ) → build-row-lts.Need-enum-told (build-row-claims t) (build-row-at t) build-row.Post build-row-Inv-loop build-row-μ-loop
 build-row-enum-told t c = search needs
@@ -220,7 +225,7 @@ build-row-same-length t c = c .before .before .before .before .loop .inv .2
 build-row-returns : (t : ℕ) → build-row-lts.Need-returns (build-row-claims t) (build-row-at t) build-row.Post build-row-Inv-loop build-row-μ-loop
 unfolding standOf
 build-row-returns t c =
-    turn-short rowOrder _ _ (c .before .before .before .before .loop .i) _ _ _ _ (c .before .before .before .loop-test .taken) (no-entry (c .before .before .before .before .before .before .before .before .before .args .list .now) (c .before .before .before .before .loop .next) _ (c .before .before .next-entry .ensures) (c .enum-told .given .1)) ∙ sym (c .before .before .before .before .loop .inv .3)
+    turn-short rowOrder _ _ (c .before .before .before .before .loop .i) _ _ _ _ (some-left _ _ (c .before .before .before .loop-test .taken)) (no-entry (c .before .before .before .before .before .before .before .before .before .args .list .now) (c .before .before .before .before .loop .word) _ (c .before .before .next-entry .ensures) (c .enum-told .given .1)) ∙ sym (c .before .before .before .before .loop .inv .3)
 
 build-row-cast-if1 : (t : ℕ) → build-row-lts.Need-cast-if1 (build-row-claims t) (build-row-at t) build-row.Post build-row-Inv-loop build-row-μ-loop
 build-row-cast-if1 t c = search needs
@@ -231,11 +236,11 @@ build-row-same-length-2 t c = c .before .before .before .before .before .before 
 build-row-returns-2 : (t : ℕ) → build-row-lts.Need-returns-2 (build-row-claims t) (build-row-at t) build-row.Post build-row-Inv-loop build-row-μ-loop
 unfolding standOf
 build-row-returns-2 t c =
-    turn-barred rowOrder _ _ (c .before .before .before .before .before .before .before .loop .i) _ _ _ _ (c .before .before .before .before .before .before .loop-test .taken) _ _ (entry-at (c .before .before .before .before .before .before .before .before .before .before .before .before .args .list .now) (c .before .before .before .before .before .before .before .loop .next) _ (c .before .before .before .before .before .next-entry .ensures) _ (c .before .before .before .read .given .1)) (ne-eqb _ _ (λ e. c .if1 .taken (sym e))) ∙ sym (c .before .before .before .before .before .before .before .loop .inv .3)
+    turn-barred rowOrder _ _ (c .before .before .before .before .before .before .before .loop .i) _ _ _ _ (some-left _ _ (c .before .before .before .before .before .before .loop-test .taken)) _ _ (entry-at (c .before .before .before .before .before .before .before .before .before .before .before .before .args .list .now) (c .before .before .before .before .before .before .before .loop .word) _ (c .before .before .before .before .before .next-entry .ensures) _ (c .before .before .before .entry .given .1)) (ne-eqb _ _ (λ e. c .if1 .taken (sym e))) ∙ sym (c .before .before .before .before .before .before .before .loop .inv .3)
 
 build-row-build-member-requires : (t : ℕ) → build-row-lts.Need-build-member-requires (build-row-claims t) (build-row-at t) build-row.Post build-row-Inv-loop build-row-μ-loop
 build-row-build-member-requires t c κs =
-    (omega (arith, c .before .before .before .before .before .before .before .before .before .before .before .before .before .pre .0), (c .before .before .before .before .before .before .before .before .before .before .before .before .before .pre .1 .0, c .before .before .before .before .before .before .before .before .before .before .before .before .before .pre .1 .1 _ (omega (arith, c .before .if1 .left, c .before .before .before .before .before .before .before .before .loop .inv .0, c .before .before .before .before .before .before .before .loop-test .taken)), entry-at (c .before .before .before .before .before .before .before .before .before .before .before .before .before .args .list .now) (c .before .before .before .before .before .before .before .before .loop .next) _ (c .before .before .before .before .before .before .next-entry .ensures) _ (c .before .before .before .before .read .given .1), entry-inside (c .before .before .before .before .before .before .before .before .before .before .before .before .before .args .list .now) (c .before .before .before .before .before .before .before .before .loop .next) _ (c .before .before .before .before .before .before .next-entry .ensures) _ (c .before .before .before .before .read .given .1), c .before .before .before .before .before .before .before .before .loop .inv .1))
+    (omega (arith, c .before .before .before .before .before .before .before .before .before .before .before .before .before .pre .0), (c .before .before .before .before .before .before .before .before .before .before .before .before .before .pre .1 .0, c .before .before .before .before .before .before .before .before .before .before .before .before .before .pre .1 .1 _ (omega (arith, c .before .if1 .left, c .before .before .before .before .before .before .before .loop-test .taken)), entry-at (c .before .before .before .before .before .before .before .before .before .before .before .before .before .args .list .now) (c .before .before .before .before .before .before .before .before .loop .word) _ (c .before .before .before .before .before .before .next-entry .ensures) _ (c .before .before .before .before .entry .given .1), entry-inside (c .before .before .before .before .before .before .before .before .before .before .before .before .before .args .list .now) (c .before .before .before .before .before .before .before .before .loop .word) _ (c .before .before .before .before .before .before .next-entry .ensures) _ (c .before .before .before .before .entry .given .1), c .before .before .before .before .before .before .before .before .loop .inv .1))
 
 build-row-enum-known-built : (t : ℕ) → build-row-lts.Need-enum-known-built (build-row-claims t) (build-row-at t) build-row.Post build-row-Inv-loop build-row-μ-loop
 build-row-enum-known-built t c = search needs
@@ -250,14 +255,11 @@ build-row-same-length-3 t c =
 build-row-returns-3 : (t : ℕ) → build-row-lts.Need-returns-3 (build-row-claims t) (build-row-at t) build-row.Post build-row-Inv-loop build-row-μ-loop
 unfolding standOf
 build-row-returns-3 t c =
-    turn-stop rowOrder _ _ (c .before .before .before .before .before .before .before .before .before .before .before .before .before .loop .i) _ _ _ _ (c .before .before .before .before .before .before .before .before .before .before .before .before .loop-test .taken) _ _ (entry-at (c .before .before .before .before .before .before .before .before .before .before .before .before .before .before .before .before .before .before .args .list .now) (c .before .before .before .before .before .before .before .before .before .before .before .before .before .loop .next) _ (c .before .before .before .before .before .before .before .before .before .before .before .next-entry .ensures) _ (c .before .before .before .before .before .before .before .before .before .read .given .1)) (eq-eqb _ _ (sym (c .before .before .before .before .before .before .if1 .left))) (failed-is _ _ _ _ (c .before .before .before .before .build-member .ensures) (c .enum-told2 .given .1)) ∙ sym (c .before .before .before .before .before .before .before .before .before .before .before .before .before .loop .inv .3)
+    turn-stop rowOrder _ _ (c .before .before .before .before .before .before .before .before .before .before .before .before .before .loop .i) _ _ _ _ (some-left _ _ (c .before .before .before .before .before .before .before .before .before .before .before .before .loop-test .taken)) _ _ (entry-at (c .before .before .before .before .before .before .before .before .before .before .before .before .before .before .before .before .before .before .args .list .now) (c .before .before .before .before .before .before .before .before .before .before .before .before .before .loop .word) _ (c .before .before .before .before .before .before .before .before .before .before .before .next-entry .ensures) _ (c .before .before .before .before .before .before .before .before .before .entry .given .1)) (eq-eqb _ _ (sym (c .before .before .before .before .before .before .if1 .left))) (failed-is _ _ _ _ (c .before .before .before .before .build-member .ensures) (c .enum-told2 .given .1)) ∙ sym (c .before .before .before .before .before .before .before .before .before .before .before .before .before .loop .inv .3)
 
 build-row-add-i : (t : ℕ) → build-row-lts.Need-add-i (build-row-claims t) (build-row-at t) build-row.Post build-row-Inv-loop build-row-μ-loop
 build-row-add-i t c =
-    omega (arith, c .before .before .before .before .before .before .before .before .before .before .before .before .before .before .loop .inv .0, c .before .before .before .before .before .before .before .before .before .before .before .before .before .loop-test .taken, c .before .before .before .before .before .before .before .before .before .before .before .before .before .before .before .before .before .before .before .pre .1 .2)
-
-build-row-sub-left : (t : ℕ) → build-row-lts.Need-sub-left (build-row-claims t) (build-row-at t) build-row.Post build-row-Inv-loop build-row-μ-loop
-build-row-sub-left t c = omega arith
+    omega (arith, c .before .before .before .before .before .before .before .before .before .before .before .before .before .loop-test .taken, c .before .before .before .before .before .before .before .before .before .before .before .before .before .before .before .before .before .before .before .pre .1 .2)
 
 build-row-loop-less : (t : ℕ) → build-row-lts.Need-loop-less (build-row-claims t) (build-row-at t) build-row.Post build-row-Inv-loop build-row-μ-loop
 build-row-loop-less t c = omega arith
@@ -265,7 +267,7 @@ build-row-loop-less t c = omega arith
 build-row-loop-again : (t : ℕ) → build-row-lts.Need-loop-again (build-row-claims t) (build-row-at t) build-row.Post build-row-Inv-loop build-row-μ-loop
 build-row-loop-again t c =
     let q = done-is _ _ _ _ (c .before .before .before .before .before .build-member .ensures) _ _ (c .before .built .given .1) in
-    (omega (arith, c .before .before .before .before .before .before .before .before .before .before .before .before .before .before .loop .inv .0, c .before .before .before .before .before .before .before .before .before .before .before .before .before .loop-test .taken), stood _ _ _ _ _ _ q .small, c .before .before .before .before .before .build-member .kept .1 .1 .1 .1 .1 .1 .0 ∙ c .before .before .before .before .before .before .before .before .before .before .before .before .before .before .loop .inv .2, c .before .before .before .before .before .before .before .before .before .before .before .before .before .before .loop .inv .3 ∙ turn-go rowOrder _ _ (c .before .before .before .before .before .before .before .before .before .before .before .before .before .before .loop .i) _ _ _ _ (c .before .before .before .before .before .before .before .before .before .before .before .before .before .loop-test .taken) _ _ (entry-at (c .before .before .before .before .before .before .before .before .before .before .before .before .before .before .before .before .before .before .before .args .list .now) (c .before .before .before .before .before .before .before .before .before .before .before .before .before .before .loop .next) _ (c .before .before .before .before .before .before .before .before .before .before .before .before .next-entry .ensures) _ (c .before .before .before .before .before .before .before .before .before .before .read .given .1)) (eq-eqb _ _ (sym (c .before .before .before .before .before .before .before .if1 .left))) _ _ _ q _ refl)
+    (omega (arith, c .before .before .before .before .before .before .before .before .before .before .before .before .before .loop-test .taken), stood _ _ _ _ _ _ q .small, c .before .before .before .before .before .build-member .kept .1 .1 .1 .1 .1 .1 .0 ∙ c .before .before .before .before .before .before .before .before .before .before .before .before .before .before .loop .inv .2, c .before .before .before .before .before .before .before .before .before .before .before .before .before .before .loop .inv .3 ∙ turn-go rowOrder _ _ (c .before .before .before .before .before .before .before .before .before .before .before .before .before .before .loop .i) _ _ _ _ (some-left _ _ (c .before .before .before .before .before .before .before .before .before .before .before .before .before .loop-test .taken)) _ _ (entry-at (c .before .before .before .before .before .before .before .before .before .before .before .before .before .before .before .before .before .before .before .args .list .now) (c .before .before .before .before .before .before .before .before .before .before .before .before .before .before .loop .word) _ (c .before .before .before .before .before .before .before .before .before .before .before .before .next-entry .ensures) _ (c .before .before .before .before .before .before .before .before .before .before .entry .given .1)) (eq-eqb _ _ (sym (c .before .before .before .before .before .before .before .if1 .left))) _ _ _ q _ refl _ (one-fewer _ _))
 
 build-row-same-length-4 : (t : ℕ) → build-row-lts.Need-same-length-4 (build-row-claims t) (build-row-at t) build-row.Post build-row-Inv-loop build-row-μ-loop
 build-row-same-length-4 t c = c .before .loop .inv .2
@@ -273,16 +275,16 @@ build-row-same-length-4 t c = c .before .loop .inv .2
 build-row-returns-4 : (t : ℕ) → build-row-lts.Need-returns-4 (build-row-claims t) (build-row-at t) build-row.Post build-row-Inv-loop build-row-μ-loop
 unfolding standOf
 build-row-returns-4 t c =
-    done rowOrder _ _ (c .before .loop .i) _ _ _ _ (c .loop-test .left) refl (c .before .loop .inv .1) ∙ sym (c .before .loop .inv .3)
+    done rowOrder _ _ (c .before .loop .i) _ _ _ _ (none-left _ _ (c .loop-test .left)) refl (c .before .loop .inv .1) ∙ sym (c .before .loop .inv .3)
 
 abbrev build-sparse-Inv-loop : build-sparse-lts.InvT-loop
-build-sparse-Inv-loop plan node src list count word out₀ at n seen₀ left₀ next₀ to₀ out seen left next to =
-    (to ≤ 65535) × (length out ≡ length out₀)
-    × (put-at (elementsMade (sparseOrder (cardsAt plan node)) (buildOf src (look plan)) (look plan node) left₀ noMarks (drop next₀ list)) to₀ out₀
-    ≡ put-at (elementsMade (sparseOrder (cardsAt plan node)) (buildOf src (look plan)) (look plan node) left (seen .marks) (drop next list)) to out)
+build-sparse-Inv-loop plan node src list count word₀ out₀ at₀ n seen₀ counter₀ word out at seen counter =
+    (at ≤ 65535) × (length out ≡ length out₀)
+    × (put-at (elementsMade (sparseOrder (cardsAt plan node)) (buildOf src (look plan)) (look plan node) count noMarks (drop word₀ list)) at₀ out₀
+    ≡ put-at (elementsMade (sparseOrder (cardsAt plan node)) (buildOf src (look plan)) (look plan node) (count - counter) (seen .marks) (drop word list)) at out)
 
 abbrev build-sparse-μ-loop : build-sparse-lts.MeasureT-loop
-build-sparse-μ-loop plan node src list count word out₀ at n seen₀ left₀ next₀ to₀ out seen left next to = left
+build-sparse-μ-loop plan node src list count word₀ out₀ at₀ n seen₀ counter₀ word out at seen counter = count - counter
 
 build-sparse-second-at-requires : (t : ℕ) → build-sparse-lts.Need-second-at-requires (build-sparse-claims t) (build-sparse-at t) build-sparse.Post build-sparse-Inv-loop build-sparse-μ-loop
 build-sparse-second-at-requires t c κs =
@@ -292,13 +294,14 @@ build-sparse-new-requires : (t : ℕ) → build-sparse-lts.Need-new-requires (bu
 build-sparse-new-requires t c κs = search needs
 
 build-sparse-loop-holds : (t : ℕ) → build-sparse-lts.Need-loop-holds (build-sparse-claims t) (build-sparse-at t) build-sparse.Post build-sparse-Inv-loop build-sparse-μ-loop
-build-sparse-loop-holds t c = (c .before .before .before .before .before .before .pre .1 .2, refl, rw (c .new .ensures))
+build-sparse-loop-holds t c =
+    (c .before .before .before .before .before .before .pre .1 .2, refl, rw (c .new .ensures, sub-zero))
 
 build-sparse-next-entry-requires : (t : ℕ) → build-sparse-lts.Need-next-entry-requires (build-sparse-claims t) (build-sparse-at t) build-sparse.Post build-sparse-Inv-loop build-sparse-μ-loop
 build-sparse-next-entry-requires t c κs = search needs
 
-build-sparse-enum-known-read : (t : ℕ) → build-sparse-lts.Need-enum-known-read (build-sparse-claims t) (build-sparse-at t) build-sparse.Post build-sparse-Inv-loop build-sparse-μ-loop
-build-sparse-enum-known-read t c = search needs
+build-sparse-enum-known-entry : (t : ℕ) → build-sparse-lts.Need-enum-known-entry (build-sparse-claims t) (build-sparse-at t) build-sparse.Post build-sparse-Inv-loop build-sparse-μ-loop
+build-sparse-enum-known-entry t c = search needs
 
 build-sparse-enum-told : (t : ℕ) → build-sparse-lts.Need-enum-told (build-sparse-claims t) (build-sparse-at t) build-sparse.Post build-sparse-Inv-loop build-sparse-μ-loop
 build-sparse-enum-told t c = search needs
@@ -309,7 +312,7 @@ build-sparse-same-length t c = c .before .before .before .before .loop .inv .1
 build-sparse-returns : (t : ℕ) → build-sparse-lts.Need-returns (build-sparse-claims t) (build-sparse-at t) build-sparse.Post build-sparse-Inv-loop build-sparse-μ-loop
 unfolding standOf
 build-sparse-returns t c =
-    turn-short (sparseOrder (cardsAt (c .before .before .before .before .before .before .before .before .before .before .before .args .plan .now) (c .before .before .before .before .before .before .before .before .before .before .before .args .node))) _ _ (c .before .before .before .before .loop .seen .marks) _ _ _ _ (c .before .before .before .loop-test .taken) (no-entry (c .before .before .before .before .before .before .before .before .before .before .before .args .list .now) (c .before .before .before .before .loop .next) _ (c .before .before .next-entry .ensures) (c .enum-told .given .1)) ∙ sym (c .before .before .before .before .loop .inv .2)
+    turn-short (sparseOrder (cardsAt (c .before .before .before .before .before .before .before .before .before .before .before .args .plan .now) (c .before .before .before .before .before .before .before .before .before .before .before .args .node))) _ _ (c .before .before .before .before .loop .seen .marks) _ _ _ _ (some-left _ _ (c .before .before .before .loop-test .taken)) (no-entry (c .before .before .before .before .before .before .before .before .before .before .before .args .list .now) (c .before .before .before .before .loop .word) _ (c .before .before .next-entry .ensures) (c .enum-told .given .1)) ∙ sym (c .before .before .before .before .loop .inv .2)
 
 build-sparse-cast-i : (t : ℕ) → build-sparse-lts.Need-cast-i (build-sparse-claims t) (build-sparse-at t) build-sparse.Post build-sparse-Inv-loop build-sparse-μ-loop
 build-sparse-cast-i t c = search needs
@@ -320,7 +323,7 @@ build-sparse-same-length-2 t c = c .before .before .before .before .before .befo
 build-sparse-returns-2 : (t : ℕ) → build-sparse-lts.Need-returns-2 (build-sparse-claims t) (build-sparse-at t) build-sparse.Post build-sparse-Inv-loop build-sparse-μ-loop
 unfolding standOf
 build-sparse-returns-2 t c =
-    turn-barred (sparseOrder (cardsAt (c .before .before .before .before .before .before .before .before .before .before .before .before .before .before .args .plan .now) (c .before .before .before .before .before .before .before .before .before .before .before .before .before .before .args .node))) _ _ (c .before .before .before .before .before .before .before .loop .seen .marks) _ _ _ _ (c .before .before .before .before .before .before .loop-test .taken) _ _ (entry-at (c .before .before .before .before .before .before .before .before .before .before .before .before .before .before .args .list .now) (c .before .before .before .before .before .before .before .loop .next) _ (c .before .before .before .before .before .next-entry .ensures) _ (c .before .before .before .read .given .1)) (unknown-index (c .before .before .before .before .before .before .before .before .before .before .before .before .before .before .args .plan .now) (c .before .before .before .before .before .before .before .before .before .before .before .before .before .before .args .node) (c .before .before .before .before .before .before .before .loop .seen .marks) _ _ (c .before .before .before .before .before .before .before .before .before .second-at .ensures) (c .if1 .taken)) ∙ sym (c .before .before .before .before .before .before .before .loop .inv .2)
+    turn-barred (sparseOrder (cardsAt (c .before .before .before .before .before .before .before .before .before .before .before .before .before .before .args .plan .now) (c .before .before .before .before .before .before .before .before .before .before .before .before .before .before .args .node))) _ _ (c .before .before .before .before .before .before .before .loop .seen .marks) _ _ _ _ (some-left _ _ (c .before .before .before .before .before .before .loop-test .taken)) _ _ (entry-at (c .before .before .before .before .before .before .before .before .before .before .before .before .before .before .args .list .now) (c .before .before .before .before .before .before .before .loop .word) _ (c .before .before .before .before .before .next-entry .ensures) _ (c .before .before .before .entry .given .1)) (unknown-index (c .before .before .before .before .before .before .before .before .before .before .before .before .before .before .args .plan .now) (c .before .before .before .before .before .before .before .before .before .before .before .before .before .before .args .node) (c .before .before .before .before .before .before .before .loop .seen .marks) _ _ (c .before .before .before .before .before .before .before .before .before .second-at .ensures) (c .if1 .taken)) ∙ sym (c .before .before .before .before .before .before .before .loop .inv .2)
 
 build-sparse-mark-requires : (t : ℕ) → build-sparse-lts.Need-mark-requires (build-sparse-claims t) (build-sparse-at t) build-sparse.Post build-sparse-Inv-loop build-sparse-μ-loop
 build-sparse-mark-requires t c κs =
@@ -332,11 +335,11 @@ build-sparse-same-length-3 t c = c .before .before .before .before .before .befo
 build-sparse-returns-3 : (t : ℕ) → build-sparse-lts.Need-returns-3 (build-sparse-claims t) (build-sparse-at t) build-sparse.Post build-sparse-Inv-loop build-sparse-μ-loop
 unfolding standOf
 build-sparse-returns-3 t c =
-    turn-barred (sparseOrder (cardsAt (c .before .before .before .before .before .before .before .before .before .before .before .before .before .before .before .before .args .plan .now) (c .before .before .before .before .before .before .before .before .before .before .before .before .before .before .before .before .args .node))) _ _ (c .before .before .before .before .before .before .before .before .before .loop .seen .marks) _ _ _ _ (c .before .before .before .before .before .before .before .before .loop-test .taken) _ _ (entry-at (c .before .before .before .before .before .before .before .before .before .before .before .before .before .before .before .before .args .list .now) (c .before .before .before .before .before .before .before .before .before .loop .next) _ (c .before .before .before .before .before .before .before .next-entry .ensures) _ (c .before .before .before .before .before .read .given .1)) (same-index (c .before .before .before .before .before .before .before .before .before .before .before .before .before .before .before .before .args .plan .now) (c .before .before .before .before .before .before .before .before .before .before .before .before .before .before .before .before .args .node) (c .before .before .before .before .before .before .before .before .before .loop .seen .marks) _ _ (c .before .before .before .before .before .before .before .before .before .before .before .second-at .ensures) (c .before .before .if1 .left) (sym (c .before .mark .ensures .0) ∙ c .if2 .taken)) ∙ sym (c .before .before .before .before .before .before .before .before .before .loop .inv .2)
+    turn-barred (sparseOrder (cardsAt (c .before .before .before .before .before .before .before .before .before .before .before .before .before .before .before .before .args .plan .now) (c .before .before .before .before .before .before .before .before .before .before .before .before .before .before .before .before .args .node))) _ _ (c .before .before .before .before .before .before .before .before .before .loop .seen .marks) _ _ _ _ (some-left _ _ (c .before .before .before .before .before .before .before .before .loop-test .taken)) _ _ (entry-at (c .before .before .before .before .before .before .before .before .before .before .before .before .before .before .before .before .args .list .now) (c .before .before .before .before .before .before .before .before .before .loop .word) _ (c .before .before .before .before .before .before .before .next-entry .ensures) _ (c .before .before .before .before .before .entry .given .1)) (same-index (c .before .before .before .before .before .before .before .before .before .before .before .before .before .before .before .before .args .plan .now) (c .before .before .before .before .before .before .before .before .before .before .before .before .before .before .before .before .args .node) (c .before .before .before .before .before .before .before .before .before .loop .seen .marks) _ _ (c .before .before .before .before .before .before .before .before .before .before .before .second-at .ensures) (c .before .before .if1 .left) (sym (c .before .mark .ensures .0) ∙ c .if2 .taken)) ∙ sym (c .before .before .before .before .before .before .before .before .before .loop .inv .2)
 
 build-sparse-build-member-requires : (t : ℕ) → build-sparse-lts.Need-build-member-requires (build-sparse-claims t) (build-sparse-at t) build-sparse.Post build-sparse-Inv-loop build-sparse-μ-loop
 build-sparse-build-member-requires t c κs =
-    (omega (arith, c .before .before .before .before .before .before .before .before .before .before .before .before .before .before .before .before .before .pre .0), (c .before .before .before .before .before .before .before .before .before .before .before .before .before .before .before .before .before .pre .1 .0, sparse-holds _ _ (c .before .before .before .before .before .before .before .before .before .before .before .before .before .before .before .before .before .pre .1 .0) (c .before .before .before .before .before .before .before .before .before .before .before .before .before .before .before .before .before .pre .1 .1) _ (omega (arith, c .before .before .before .if1 .left, c .before .before .before .before .before .before .before .before .before .before .before .before .second-at .ensures, cards-length (c .before .before .before .before .before .before .before .before .before .before .before .before .before .before .before .before .before .args .plan .now) (c .before .before .before .before .before .before .before .before .before .before .before .before .before .before .before .before .before .args .node))), entry-at (c .before .before .before .before .before .before .before .before .before .before .before .before .before .before .before .before .before .args .list .now) (c .before .before .before .before .before .before .before .before .before .before .loop .next) _ (c .before .before .before .before .before .before .before .before .next-entry .ensures) _ (c .before .before .before .before .before .before .read .given .1), entry-inside (c .before .before .before .before .before .before .before .before .before .before .before .before .before .before .before .before .before .args .list .now) (c .before .before .before .before .before .before .before .before .before .before .loop .next) _ (c .before .before .before .before .before .before .before .before .next-entry .ensures) _ (c .before .before .before .before .before .before .read .given .1), c .before .before .before .before .before .before .before .before .before .before .loop .inv .0))
+    (omega (arith, c .before .before .before .before .before .before .before .before .before .before .before .before .before .before .before .before .before .pre .0), (c .before .before .before .before .before .before .before .before .before .before .before .before .before .before .before .before .before .pre .1 .0, sparse-holds _ _ (c .before .before .before .before .before .before .before .before .before .before .before .before .before .before .before .before .before .pre .1 .0) (c .before .before .before .before .before .before .before .before .before .before .before .before .before .before .before .before .before .pre .1 .1) _ (omega (arith, c .before .before .before .if1 .left, c .before .before .before .before .before .before .before .before .before .before .before .before .second-at .ensures, cards-length (c .before .before .before .before .before .before .before .before .before .before .before .before .before .before .before .before .before .args .plan .now) (c .before .before .before .before .before .before .before .before .before .before .before .before .before .before .before .before .before .args .node))), entry-at (c .before .before .before .before .before .before .before .before .before .before .before .before .before .before .before .before .before .args .list .now) (c .before .before .before .before .before .before .before .before .before .before .loop .word) _ (c .before .before .before .before .before .before .before .before .next-entry .ensures) _ (c .before .before .before .before .before .before .entry .given .1), entry-inside (c .before .before .before .before .before .before .before .before .before .before .before .before .before .before .before .before .before .args .list .now) (c .before .before .before .before .before .before .before .before .before .before .loop .word) _ (c .before .before .before .before .before .before .before .before .next-entry .ensures) _ (c .before .before .before .before .before .before .entry .given .1), c .before .before .before .before .before .before .before .before .before .before .loop .inv .0))
 
 build-sparse-enum-known-built : (t : ℕ) → build-sparse-lts.Need-enum-known-built (build-sparse-claims t) (build-sparse-at t) build-sparse.Post build-sparse-Inv-loop build-sparse-μ-loop
 build-sparse-enum-known-built t c = search needs
@@ -351,10 +354,11 @@ build-sparse-same-length-4 t c =
 build-sparse-returns-4 : (t : ℕ) → build-sparse-lts.Need-returns-4 (build-sparse-claims t) (build-sparse-at t) build-sparse.Post build-sparse-Inv-loop build-sparse-μ-loop
 unfolding standOf
 build-sparse-returns-4 t c =
-    turn-stop (sparseOrder (cardsAt (c .before .before .before .before .before .before .before .before .before .before .before .before .before .before .before .before .before .before .before .before .before .before .args .plan .now) (c .before .before .before .before .before .before .before .before .before .before .before .before .before .before .before .before .before .before .before .before .before .before .args .node))) _ _ (c .before .before .before .before .before .before .before .before .before .before .before .before .before .before .before .loop .seen .marks) _ _ _ _ (c .before .before .before .before .before .before .before .before .before .before .before .before .before .before .loop-test .taken) _ _ (entry-at (c .before .before .before .before .before .before .before .before .before .before .before .before .before .before .before .before .before .before .before .before .before .before .args .list .now) (c .before .before .before .before .before .before .before .before .before .before .before .before .before .before .before .loop .next) _ (c .before .before .before .before .before .before .before .before .before .before .before .before .before .next-entry .ensures) _ (c .before .before .before .before .before .before .before .before .before .before .before .read .given .1)) (new-index (c .before .before .before .before .before .before .before .before .before .before .before .before .before .before .before .before .before .before .before .before .before .before .args .plan .now) (c .before .before .before .before .before .before .before .before .before .before .before .before .before .before .before .before .before .before .before .before .before .before .args .node) (c .before .before .before .before .before .before .before .before .before .before .before .before .before .before .before .loop .seen .marks) _ _ (c .before .before .before .before .before .before .before .before .before .before .before .before .before .before .before .before .before .second-at .ensures) (c .before .before .before .before .before .before .before .before .if1 .left) (sym (c .before .before .before .before .before .before .before .mark .ensures .0) ∙ c .before .before .before .before .before .before .if2 .left)) (failed-is _ _ _ _ (c .before .before .before .before .build-member .ensures) (c .enum-told2 .given .1)) ∙ sym (c .before .before .before .before .before .before .before .before .before .before .before .before .before .before .before .loop .inv .2)
+    turn-stop (sparseOrder (cardsAt (c .before .before .before .before .before .before .before .before .before .before .before .before .before .before .before .before .before .before .before .before .before .before .args .plan .now) (c .before .before .before .before .before .before .before .before .before .before .before .before .before .before .before .before .before .before .before .before .before .before .args .node))) _ _ (c .before .before .before .before .before .before .before .before .before .before .before .before .before .before .before .loop .seen .marks) _ _ _ _ (some-left _ _ (c .before .before .before .before .before .before .before .before .before .before .before .before .before .before .loop-test .taken)) _ _ (entry-at (c .before .before .before .before .before .before .before .before .before .before .before .before .before .before .before .before .before .before .before .before .before .before .args .list .now) (c .before .before .before .before .before .before .before .before .before .before .before .before .before .before .before .loop .word) _ (c .before .before .before .before .before .before .before .before .before .before .before .before .before .next-entry .ensures) _ (c .before .before .before .before .before .before .before .before .before .before .before .entry .given .1)) (new-index (c .before .before .before .before .before .before .before .before .before .before .before .before .before .before .before .before .before .before .before .before .before .before .args .plan .now) (c .before .before .before .before .before .before .before .before .before .before .before .before .before .before .before .before .before .before .before .before .before .before .args .node) (c .before .before .before .before .before .before .before .before .before .before .before .before .before .before .before .loop .seen .marks) _ _ (c .before .before .before .before .before .before .before .before .before .before .before .before .before .before .before .before .before .second-at .ensures) (c .before .before .before .before .before .before .before .before .if1 .left) (sym (c .before .before .before .before .before .before .before .mark .ensures .0) ∙ c .before .before .before .before .before .before .if2 .left)) (failed-is _ _ _ _ (c .before .before .before .before .build-member .ensures) (c .enum-told2 .given .1)) ∙ sym (c .before .before .before .before .before .before .before .before .before .before .before .before .before .before .before .loop .inv .2)
 
-build-sparse-sub-left : (t : ℕ) → build-sparse-lts.Need-sub-left (build-sparse-claims t) (build-sparse-at t) build-sparse.Post build-sparse-Inv-loop build-sparse-μ-loop
-build-sparse-sub-left t c = omega arith
+build-sparse-add-counter : (t : ℕ) → build-sparse-lts.Need-add-counter (build-sparse-claims t) (build-sparse-at t) build-sparse.Post build-sparse-Inv-loop build-sparse-μ-loop
+build-sparse-add-counter t c =
+    omega (arith, c .before .before .before .before .before .before .before .before .before .before .before .before .before .before .before .loop-test .taken, c .before .before .before .before .before .before .before .before .before .before .before .before .before .before .before .before .before .before .before .before .before .before .before .good, c .before .before .before .before .before .before .before .before .before .before .before .before .before .before .before .before .before .before .before .before .before .before .before .fits)
 
 build-sparse-loop-less : (t : ℕ) → build-sparse-lts.Need-loop-less (build-sparse-claims t) (build-sparse-at t) build-sparse.Post build-sparse-Inv-loop build-sparse-μ-loop
 build-sparse-loop-less t c = omega arith
@@ -362,7 +366,7 @@ build-sparse-loop-less t c = omega arith
 build-sparse-loop-again : (t : ℕ) → build-sparse-lts.Need-loop-again (build-sparse-claims t) (build-sparse-at t) build-sparse.Post build-sparse-Inv-loop build-sparse-μ-loop
 build-sparse-loop-again t c =
     let q = done-is _ _ _ _ (c .before .before .before .before .before .build-member .ensures) _ _ (c .before .built .given .1) in
-    (stood _ _ _ _ _ _ q .small, c .before .before .before .before .before .build-member .kept .1 .1 .1 .1 .1 .1 .0 ∙ c .before .before .before .before .before .before .before .before .before .before .before .before .before .before .before .before .loop .inv .1, c .before .before .before .before .before .before .before .before .before .before .before .before .before .before .before .before .loop .inv .2 ∙ turn-go (sparseOrder (cardsAt (c .before .before .before .before .before .before .before .before .before .before .before .before .before .before .before .before .before .before .before .before .before .before .before .args .plan .now) (c .before .before .before .before .before .before .before .before .before .before .before .before .before .before .before .before .before .before .before .before .before .before .before .args .node))) _ _ (c .before .before .before .before .before .before .before .before .before .before .before .before .before .before .before .before .loop .seen .marks) _ _ _ _ (c .before .before .before .before .before .before .before .before .before .before .before .before .before .before .before .loop-test .taken) _ _ (entry-at (c .before .before .before .before .before .before .before .before .before .before .before .before .before .before .before .before .before .before .before .before .before .before .before .args .list .now) (c .before .before .before .before .before .before .before .before .before .before .before .before .before .before .before .before .loop .next) _ (c .before .before .before .before .before .before .before .before .before .before .before .before .before .before .next-entry .ensures) _ (c .before .before .before .before .before .before .before .before .before .before .before .before .read .given .1)) (new-index (c .before .before .before .before .before .before .before .before .before .before .before .before .before .before .before .before .before .before .before .before .before .before .before .args .plan .now) (c .before .before .before .before .before .before .before .before .before .before .before .before .before .before .before .before .before .before .before .before .before .before .before .args .node) (c .before .before .before .before .before .before .before .before .before .before .before .before .before .before .before .before .loop .seen .marks) _ _ (c .before .before .before .before .before .before .before .before .before .before .before .before .before .before .before .before .before .before .second-at .ensures) (c .before .before .before .before .before .before .before .before .before .if1 .left) (sym (c .before .before .before .before .before .before .before .before .mark .ensures .0) ∙ c .before .before .before .before .before .before .before .if2 .left)) _ _ _ q _ (c .before .before .before .before .before .before .before .before .mark .ensures .1))
+    (stood _ _ _ _ _ _ q .small, c .before .before .before .before .before .build-member .kept .1 .1 .1 .1 .1 .1 .0 ∙ c .before .before .before .before .before .before .before .before .before .before .before .before .before .before .before .before .loop .inv .1, c .before .before .before .before .before .before .before .before .before .before .before .before .before .before .before .before .loop .inv .2 ∙ turn-go (sparseOrder (cardsAt (c .before .before .before .before .before .before .before .before .before .before .before .before .before .before .before .before .before .before .before .before .before .before .before .args .plan .now) (c .before .before .before .before .before .before .before .before .before .before .before .before .before .before .before .before .before .before .before .before .before .before .before .args .node))) _ _ (c .before .before .before .before .before .before .before .before .before .before .before .before .before .before .before .before .loop .seen .marks) _ _ _ _ (some-left _ _ (c .before .before .before .before .before .before .before .before .before .before .before .before .before .before .before .loop-test .taken)) _ _ (entry-at (c .before .before .before .before .before .before .before .before .before .before .before .before .before .before .before .before .before .before .before .before .before .before .before .args .list .now) (c .before .before .before .before .before .before .before .before .before .before .before .before .before .before .before .before .loop .word) _ (c .before .before .before .before .before .before .before .before .before .before .before .before .before .before .next-entry .ensures) _ (c .before .before .before .before .before .before .before .before .before .before .before .before .entry .given .1)) (new-index (c .before .before .before .before .before .before .before .before .before .before .before .before .before .before .before .before .before .before .before .before .before .before .before .args .plan .now) (c .before .before .before .before .before .before .before .before .before .before .before .before .before .before .before .before .before .before .before .before .before .before .before .args .node) (c .before .before .before .before .before .before .before .before .before .before .before .before .before .before .before .before .loop .seen .marks) _ _ (c .before .before .before .before .before .before .before .before .before .before .before .before .before .before .before .before .before .before .second-at .ensures) (c .before .before .before .before .before .before .before .before .before .if1 .left) (sym (c .before .before .before .before .before .before .before .before .mark .ensures .0) ∙ c .before .before .before .before .before .before .before .if2 .left)) _ _ _ q _ (c .before .before .before .before .before .before .before .before .mark .ensures .1) _ (one-fewer _ _))
 
 build-sparse-any-lacking-requires : (t : ℕ) → build-sparse-lts.Need-any-lacking-requires (build-sparse-claims t) (build-sparse-at t) build-sparse.Post build-sparse-Inv-loop build-sparse-μ-loop
 build-sparse-any-lacking-requires t c κs =
@@ -374,7 +378,7 @@ build-sparse-same-length-5 t c = c .before .before .before .loop .inv .1
 build-sparse-returns-5 : (t : ℕ) → build-sparse-lts.Need-returns-5 (build-sparse-claims t) (build-sparse-at t) build-sparse.Post build-sparse-Inv-loop build-sparse-μ-loop
 unfolding standOf
 build-sparse-returns-5 t c =
-    lacks (sparseOrder (cardsAt (c .before .before .before .before .before .before .before .before .before .before .args .plan .now) (c .before .before .before .before .before .before .before .before .before .before .args .node))) _ _ (c .before .before .before .loop .seen .marks) _ _ _ _ (c .before .before .loop-test .left) (sym (c .before .any-lacking .ensures) ∙ c .if3 .taken) ∙ sym (c .before .before .before .loop .inv .2)
+    lacks (sparseOrder (cardsAt (c .before .before .before .before .before .before .before .before .before .before .args .plan .now) (c .before .before .before .before .before .before .before .before .before .before .args .node))) _ _ (c .before .before .before .loop .seen .marks) _ _ _ _ (none-left _ _ (c .before .before .loop-test .left)) (sym (c .before .any-lacking .ensures) ∙ c .if3 .taken) ∙ sym (c .before .before .before .loop .inv .2)
 
 build-sparse-same-length-6 : (t : ℕ) → build-sparse-lts.Need-same-length-6 (build-sparse-claims t) (build-sparse-at t) build-sparse.Post build-sparse-Inv-loop build-sparse-μ-loop
 build-sparse-same-length-6 t c = c .before .before .before .loop .inv .1
@@ -382,7 +386,7 @@ build-sparse-same-length-6 t c = c .before .before .before .loop .inv .1
 build-sparse-returns-6 : (t : ℕ) → build-sparse-lts.Need-returns-6 (build-sparse-claims t) (build-sparse-at t) build-sparse.Post build-sparse-Inv-loop build-sparse-μ-loop
 unfolding standOf
 build-sparse-returns-6 t c =
-    done (sparseOrder (cardsAt (c .before .before .before .before .before .before .before .before .before .before .args .plan .now) (c .before .before .before .before .before .before .before .before .before .before .args .node))) _ _ (c .before .before .before .loop .seen .marks) _ _ _ _ (c .before .before .loop-test .left) (sym (c .before .any-lacking .ensures) ∙ c .if3 .left) (c .before .before .before .loop .inv .0) ∙ sym (c .before .before .before .loop .inv .2)
+    done (sparseOrder (cardsAt (c .before .before .before .before .before .before .before .before .before .before .args .plan .now) (c .before .before .before .before .before .before .before .before .before .before .args .node))) _ _ (c .before .before .before .loop .seen .marks) _ _ _ _ (none-left _ _ (c .before .before .loop-test .left)) (sym (c .before .any-lacking .ensures) ∙ c .if3 .left) (c .before .before .before .loop .inv .0) ∙ sym (c .before .before .before .loop .inv .2)
 
 build-value-cast-if1 : (t : ℕ) → build-value-lts.Need-cast-if1 (build-value-claims t) (build-value-at t) build-value.Post
 build-value-cast-if1 t c = search needs
@@ -488,9 +492,10 @@ pub +build-member+build-row+build-sparse+build-value-spec : {M : Type 1} → sta
     build-row.Post
     build-row-Inv-loop
     build-row-μ-loop
+    (build-row-add-end t)
     (build-row-loop-holds t)
     (build-row-next-entry-requires t)
-    (build-row-enum-known-read t)
+    (build-row-enum-known-entry t)
     (build-row-enum-told t)
     (build-row-same-length t)
     (build-row-returns t)
@@ -503,7 +508,6 @@ pub +build-member+build-row+build-sparse+build-value-spec : {M : Type 1} → sta
     (build-row-same-length-3 t)
     (build-row-returns-3 t)
     (build-row-add-i t)
-    (build-row-sub-left t)
     (build-row-loop-less t)
     (build-row-loop-again t)
     (build-row-same-length-4 t)
@@ -516,7 +520,7 @@ pub +build-member+build-row+build-sparse+build-value-spec : {M : Type 1} → sta
     (build-sparse-new-requires t)
     (build-sparse-loop-holds t)
     (build-sparse-next-entry-requires t)
-    (build-sparse-enum-known-read t)
+    (build-sparse-enum-known-entry t)
     (build-sparse-enum-told t)
     (build-sparse-same-length t)
     (build-sparse-returns t)
@@ -531,7 +535,7 @@ pub +build-member+build-row+build-sparse+build-value-spec : {M : Type 1} → sta
     (build-sparse-enum-told-2 t)
     (build-sparse-same-length-4 t)
     (build-sparse-returns-4 t)
-    (build-sparse-sub-left t)
+    (build-sparse-add-counter t)
     (build-sparse-loop-less t)
     (build-sparse-loop-again t)
     (build-sparse-any-lacking-requires t)
