@@ -101,44 +101,36 @@ module _ (src : List ℕ) (c : Claim) (at : ℕ) (out : List ℕ) where
     unfolding rangeFront pick flags
     range-is = rw (lt-ltb (c .start) (length src) h)
 
-    -- the byte of the flags alone, as the code lends it
-    alone : List ℕ
-    alone = take (c .start + 1 - c .start) (drop (c .start) src)
-
-    opening-is : rangeOpening alone ≡ pick (rangeFlags flags) (bounds flags) (Wrong 22)
-    unfolding rangeOpening pick flags alone
+    -- the head that is read from the byte of the flags alone, as the code lends it
+    opening-is : rangeOpening (take (c .start + 1 - c .start) (drop (c .start) src)) ≡ pick (rangeFlags flags) (bounds flags) (Wrong 22)
+    unfolding rangeOpening pick flags
     opening-is =
         let n : c .start + 1 - c .start ≡ 1 = add-sub-cancel-left (c .start) 1 in
         let k : 1 ≤ length (take 1 (drop (c .start) src)) = simp (length-take, length-drop) (omega arith) in
         rw (n, le-ltb (length (take 1 (drop (c .start) src))) 1 k, getD-take 1 (drop (c .start) src) 0 0 (omega arith), getD-drop, add-zero)
 
-    -- by the head that is read there
-    by-opening : (o : Opening) → o ≡ rangeOpening alone → rangeFront src c ≡ boundsFront flags (c .count) o
-    unfolding boundsFront pick
-    by-opening o e = go (rangeFlags flags) refl
-      where
-        go : (b : Bool) → rangeFlags flags ≡ b → rangeFront src c ≡ boundsFront flags (c .count) o
-        go true f = range-is ∙ rw (f, e, opening-is, f)
-        go false f = range-is ∙ rw (f, e, opening-is, f)
-
     module _ (o : Opening) (e : o ≡ rangeOpening (take (c .start + 1 - c .start) (drop (c .start) src))) where
-      opened-by : rangeFront src c ≡ boundsFront flags (c .count) o
-      unfolding alone
-      opened-by = by-opening o e
+      by-opening : rangeFront src c ≡ boundsFront flags (c .count) o
+      unfolding boundsFront pick
+      by-opening = go (rangeFlags flags) refl
+        where
+          go : (b : Bool) → rangeFlags flags ≡ b → rangeFront src c ≡ boundsFront flags (c .count) o
+          go true f = range-is ∙ rw (f, e, opening-is, f)
+          go false f = range-is ∙ rw (f, e, opening-is, f)
 
       pub range-unknown : (n : ℕ) → o ≡ Wrong n → shut ≡ begin-at (rangeFront src c) at out
       unfolding boundsFront begin-at
-      range-unknown n f = rw (opened-by, f)
+      range-unknown n f = rw (by-opening, f)
 
       module _ (n first from : ℕ) (f : o ≡ Elements n first from) where
         pub range-other : (c .count ≡ n → ⊥) → shut ≡ begin-at (rangeFront src c) at out
         unfolding boundsFront begin-at pick
-        range-other g = rw (opened-by, f, ne-eqb (c .count) n g)
+        range-other g = rw (by-opening, f, ne-eqb (c .count) n g)
 
         module _ (g : c .count ≡ n) where
           begun-is : rangeFront src c ≡ front (flags ∷ []) first
           unfolding boundsFront pick
-          begun-is = opened-by ∙ rw (f, eq-eqb (c .count) n g)
+          begun-is = by-opening ∙ rw (f, eq-eqb (c .count) n g)
 
           pub range-not : 65535 ≤ at → shut ≡ begin-at (rangeFront src c) at out
           range-not l = rw begun-is (begun-not (flags ∷ []) first at out 1 refl (omega arith))
@@ -161,7 +153,7 @@ module _ (src : List ℕ) (c : Claim) (at : ℕ) (out : List ℕ) where
   unfolding rangeFront pick
   range-first b first e =
       elim (decLt (c .start) (length src)) [
-        | yes h ↦ first-bound _ b first (rangeOpening (alone h)) (λ n i from f. omega (arith, range-opened (alone h) n i from f .0)) (sym (by-opening h _ refl) ∙ e)
+        | yes h ↦ first-bound _ b first (rangeOpening (take (c .start + 1 - c .start) (drop (c .start) src))) (λ n i from f. omega (arith, range-opened (take (c .start + 1 - c .start) (drop (c .start) src)) n i from f .0)) (sym (by-opening h _ refl) ∙ e)
         | no h ↦ let f = rw (le-ltb (c .start) (length src) (omega arith)) at e in let z : _≡_ {A = ℕ} 0 1 = cc in absurd (omega arith)
       ]
 
