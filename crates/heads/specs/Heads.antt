@@ -125,6 +125,15 @@ unfoldable pub lacking : List ℕ → List Bool → ℕ → Bool
 lacking cards marks zero = false
 lacking cards marks (suc n) = pick (lacking cards marks n) true (pick (requires (getD cards n 0)) (not (getD marks n false)) false)
 
+-- the same by counting: how many of the first n are required, and how many of those are marked
+unfoldable pub needed : List ℕ → ℕ → ℕ
+needed cards zero = 0
+needed cards (suc n) = needed cards n + pick (requires (getD cards n 0)) 1 0
+
+unfoldable pub given : List ℕ → List Bool → ℕ → ℕ
+given cards marks zero = 0
+given cards marks (suc n) = given cards marks n + pick (requires (getD cards n 0)) (pick (getD marks n false) 1 0) 0
+
 -- ---- parts of a head
 
 -- where the next element's head stands
