@@ -8,3 +8,4 @@ pub mod Sizes
 pub mod Heights
 pub mod Cases
 pub mod Scans
+pub mod Memos

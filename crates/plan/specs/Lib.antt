@@ -1,3 +1,4 @@
 pub mod Plan
 pub mod Readers
 pub mod Scan
+pub mod Memo

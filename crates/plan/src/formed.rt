@@ -222,7 +222,7 @@ fn height_at(plan: &[u32], starts: &[u32], heights: &[u8], n: usize, at: usize) 
 }
 
 // How many words the node at a position has.
-fn size_at(plan: &[u32], at: usize) -> usize
+pub fn size_at(plan: &[u32], at: usize) -> usize
     requires { ⌜ at < length (now plan) ⌝ }
     ensures { λ r. ⌜ r ≡ sizeOf (getD (now (plan .entry)) at 0) (getD (now (plan .entry)) (at + 1) 0) ⌝ }
 {
