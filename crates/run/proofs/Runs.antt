@@ -2,13 +2,14 @@
 use mathlib.Core.Path.{_≡_, refl, ap, sym, _∙_}
 use mathlib.Core.Bool.{Bool, true, false}
 use mathlib.Core.List.{List, [], _∷_, _++_}
+use mathlib.Core.Logic.{_⊎_, inl, inr, ⊎-elim}
 use Prim.Native.Nat.{ℕ, zero, suc, _+_, _*_, _^_, _<_, _≤_}
 use native.Mathlib.Omega.{arith}
 use native.Mathlib.Nat.{zero-add}
-use lib.Dec.{eqb, leb}
+use lib.Dec.{ltb, eqb, leb}
 use lib.ListN.{length, getD, drop}
 use lib.Seq.{sets, sets-eq}
-use borrow.Author.Tests.{lt-ltb, le-ltb, eq-eqb, ne-eqb, eqb-true, leb-true}
+use borrow.Author.Tests.{lt-ltb, le-ltb, eq-eqb, ne-eqb, ltb-false, eqb-true, leb-true}
 use Rattle.wire.specs.Choice.{pick}
 use Rattle.wire.proofs.Picks.{clash, both}
 use Rattle.rules.specs.Forest.{Forest, empty, words}
@@ -18,7 +19,7 @@ use Rattle.plan.proofs.Nodes.{at-root, at-low}
 use Rattle.value.specs.Walk.{Walk, stopped, reached, walkOf, led, Within}
 use Rattle.value.specs.declared.Step as Step
 use Rattle.value.specs.declared.Step.the-variants.{Refused, Reached}
-use Rattle.run.specs.Run.{nothingIn, valueBy, checked, roomed, runOf, answerOf, listAfter, Gives, Stored, Checks}
+use Rattle.run.specs.Run.{nothingIn, valueBy, checked, earlyFault, roomed, runOf, answerOf, listAfter, Gives, Stored, Checks}
 use Rattle.run.specs.declared.Answer.{Answer}
 use Rattle.run.specs.declared.Answer.the-variants.{Listed}
 
@@ -32,13 +33,22 @@ none-two p e =
     (eqb-true _ 2 (a .0), eqb-true _ 0 (b .1))
 
 module _ (p : List ℕ) (f : planFormed p ≡ true) where
-  pub two : 2 ≤ length p
+  -- its words are two without a type, or as many as the first of them says
+  words-of : (length p ≡ 2) ⊎ ((2 ≤ length p) × (getD p 0 0 ≡ length p))
   unfolding planFormed pick
-  two = go (noType p) refl f
+  words-of = go (noType p) refl f
     where
-      go : (b : Bool) → noType p ≡ b → pick b true (pick (leb 2 (length p)) (pick (eqb (getD p 0 0) (length p)) (startsIn (nodesOf p) (getD p 1 0)) false) false) ≡ true → 2 ≤ length p
-      go true e g = omega (arith, none-two p e .0)
-      go false e g = leb-true 2 (length p) (both (leb 2 (length p)) (pick (eqb (getD p 0 0) (length p)) (startsIn (nodesOf p) (getD p 1 0)) false) g .0)
+      go : (b : Bool) → noType p ≡ b → pick b true (pick (leb 2 (length p)) (pick (eqb (getD p 0 0) (length p)) (startsIn (nodesOf p) (getD p 1 0)) false) false) ≡ true → (length p ≡ 2) ⊎ ((2 ≤ length p) × (getD p 0 0 ≡ length p))
+      go true e g = inl (none-two p e .0)
+      go false e g =
+          let h = both (leb 2 (length p)) (pick (eqb (getD p 0 0) (length p)) (startsIn (nodesOf p) (getD p 1 0)) false) g in
+          inr (leb-true 2 (length p) (h .0), eqb-true (getD p 0 0) (length p) (both (eqb (getD p 0 0) (length p)) (startsIn (nodesOf p) (getD p 1 0)) (h .1) .0))
+
+  pub two : 2 ≤ length p
+  two = ⊎-elim (λ e. omega arith) (λ h. h .0) words-of
+
+  pub few-words : ((j : ℕ) → getD p j 0 < 2 ^ 32) → length p < 2 ^ 32
+  few-words w = ⊎-elim (λ e. omega arith) (λ h. omega (arith, h .1, w 0)) words-of
 
   pub root-none : getD p 1 0 ≡ 0 → ((j : ℕ) → getD p j 0 < 2 ^ 32) → noType p ≡ true
   root-none e w = go (noType p) refl
@@ -102,21 +112,60 @@ module _ (p s : List ℕ) (f : planFormed p ≡ true) (l l′ : List ℕ) where
           let c = rw e at b in
           rw (value-is, h .1) (record { answer = ap Listed (h .2); words = (h .3, omega (arith, h .2)) })
 
--- ---- the tests, in their order
+-- ---- the tests before the value, in their order
 
-module _ (p s l l′ : List ℕ) where
-  pub check-unformed : planFormed p ≡ false → Checks (length s) (checked p s) (Answer.Refused 33 0) l l′
-  unfolding checked pick
-  check-unformed e = refuses _ _ 33 0 l l′ (rw e)
+module _ (p s : List ℕ) where
+  pub fault-unformed : planFormed p ≡ false → 33 ≡ earlyFault p s
+  unfolding earlyFault pick
+  fault-unformed e = rw e
 
   module _ (f : planFormed p ≡ true) where
-    pub check-large : 65535 < length s → Checks (length s) (checked p s) (Answer.Refused 28 0) l l′
-    unfolding checked pick
-    check-large h = refuses _ _ 28 0 l l′ (rw (f, lt-ltb 65535 (length s) h))
+    pub fault-large : 65535 < length s → 28 ≡ earlyFault p s
+    unfolding earlyFault pick
+    fault-large h = rw (f, lt-ltb 65535 (length s) h)
 
-    pub check-small : length s ≤ 65535 → (r : Answer) → Checks (length s) (valueBy p s) r l l′ → Checks (length s) (checked p s) r l l′
-    unfolding checked pick
-    check-small h r c = rw (f, le-ltb 65535 (length s) h) c
+    pub fault-none : length s ≤ 65535 → 0 ≡ earlyFault p s
+    unfolding earlyFault pick
+    fault-none h = rw (f, le-ltb 65535 (length s) h)
+
+  early-cases : (n : ℕ) (a b : Bool) → n ≡ pick a (pick b 28 0) 33 → (n ≡ 0 → ⊥) → pick a (pick b (refused 28 0) (valueBy p s)) (refused 33 0) ≡ refused n 0
+  unfolding pick
+  early-cases n true true e z = rw e
+  early-cases n true false e z = absurd (z e)
+  early-cases n false b e z = rw e
+
+  pub early-refused : (n : ℕ) → n ≡ earlyFault p s → (n ≡ 0 → ⊥) → checked p s ≡ refused n 0
+  unfolding earlyFault checked
+  early-refused n e z = early-cases n (planFormed p) (ltb 65535 (length s)) e z
+
+  none-cases : (a b : Bool) → _≡_ {A = ℕ} 0 (pick a (pick b 28 0) 33) → (a ≡ true) × (b ≡ false)
+  unfolding pick
+  none-cases true true e = absurd (omega arith)
+  none-cases true false e = (refl, refl)
+  none-cases false b e = absurd (omega arith)
+
+  -- where none refuses, the value's own rules are left
+  pub early-none : (n : ℕ) → n ≡ earlyFault p s → n ≡ 0 → (planFormed p ≡ true) × (length s ≤ 65535) × (checked p s ≡ valueBy p s)
+  unfolding earlyFault checked pick
+  early-none n e z =
+      let h = none-cases (planFormed p) (ltb 65535 (length s)) (sym z ∙ e) in
+      (h .0, ltb-false 65535 (length s) (h .1), rw (h .0, h .1))
+
+  module _ (l l′ : List ℕ) where
+    pub check-early : (n : ℕ) → checked p s ≡ refused n 0 → Checks (length s) (checked p s) (Answer.Refused n 0) l l′
+    check-early n e = refuses _ _ n 0 l l′ e
+
+    pub check-rest : checked p s ≡ valueBy p s → (r : Answer) → Checks (length s) (valueBy p s) r l l′ → Checks (length s) (checked p s) r l l′
+    check-rest e r c = rw e c
+
+  module _ (room : ℕ) (l : List ℕ) where
+    pub run-early : (n : ℕ) → checked p s ≡ refused n 0 → Gives (runOf p s room) (Answer.Refused n 0) l l
+    unfolding runOf roomed answerOf listAfter
+    run-early n e = rw e (record { answer = refl; list = refl })
+
+    pub run-rest : (l′ : List ℕ) → checked p s ≡ valueBy p s → (r : Answer) → Gives (roomed room (valueBy p s)) r l l′ → Gives (runOf p s room) r l l′
+    unfolding runOf
+    run-rest l′ e r c = rw e c
 
 -- ---- what an answer says of the outcome
 
@@ -145,25 +194,25 @@ module _ (m : ℕ) (o : Outcome) (a : Answer) (l l′ : List ℕ) (c : Checks m 
   pub turned-down : (n p : ℕ) → a ≡ Answer.Refused n p → o ≡ refused n p
   turned-down n p e = refused-in o n p (sym e ∙ c .answer)
 
--- ---- the call
+-- ---- the two passes
 
-module _ (p s : List ℕ) (a : Answer) (k k′ : List ℕ) (c : Checks (length s) (checked p s) a k k′) (l : List ℕ) where
-  pub gives-refused : (n q : ℕ) → a ≡ Answer.Refused n q → Gives (runOf p s (length l)) a l l
-  unfolding runOf roomed answerOf listAfter
-  gives-refused n q e = let o = turned-down _ _ a k k′ c n q e in record { answer = e ∙ rw o; list = rw o }
+module _ (m : ℕ) (o : Outcome) (a : Answer) (k k′ : List ℕ) (c : Checks m o a k k′) (l : List ℕ) where
+  pub gives-refused : (n q : ℕ) → a ≡ Answer.Refused n q → Gives (roomed (length l) o) a l l
+  unfolding roomed answerOf listAfter
+  gives-refused n q e = let h = turned-down m o a k k′ c n q e in record { answer = e ∙ rw h; list = rw h }
 
   module _ (w : ℕ) (e : a ≡ Listed w) where
-    f : Found (length s) (checked p s) w k k′
-    f = found _ _ a k k′ c w e
+    f : Found m o w k k′
+    f = found m o a k k′ c w e
 
-    pub gives-full : length l < w → Gives (runOf p s (length l)) (Answer.Refused 31 0) l l
-    unfolding runOf roomed answerOf listAfter pick
+    pub gives-full : length l < w → Gives (roomed (length l) o) (Answer.Refused 31 0) l l
+    unfolding roomed answerOf listAfter pick
     gives-full h =
         let h′ : length l < length (words (f .forest)) = omega (arith, f .count) in
         rw (f .is, lt-ltb _ _ h′) (record { answer = refl; list = refl })
 
-    pub gives-listed : w ≤ length l → (a′ : Answer) (l′ : List ℕ) → Checks (length s) (checked p s) a′ l l′ → Gives (runOf p s (length l)) (Listed w) l l′
-    unfolding runOf roomed answerOf listAfter Stored pick
+    pub gives-listed : w ≤ length l → (a′ : Answer) (l′ : List ℕ) → Checks m o a′ l l′ → Gives (roomed (length l) o) (Listed w) l l′
+    unfolding roomed answerOf listAfter Stored pick
     gives-listed h a′ l′ d =
         let h′ : length (words (f .forest)) ≤ length l = omega (arith, f .count) in
         let g = rw (f .is) at (d .words) in

@@ -24,6 +24,10 @@ valueBy p s = pick (noType p) (nothingIn s) (valueOf (look p) (getD p 1 0) 0 0 s
 unfoldable pub checked : List ℕ → List ℕ → Outcome
 checked p s = pick (planFormed p) (pick (ltb 65535 (length s)) (refused 28 0) (valueBy p s)) (refused 33 0)
 
+-- the refusals before the value is looked at, 0 where there is none
+unfoldable pub earlyFault : List ℕ → List ℕ → ℕ
+earlyFault p s = pick (planFormed p) (pick (ltb 65535 (length s)) 28 0) 33
+
 -- 31 "list room too small"
 unfoldable pub roomed : ℕ → Outcome → Outcome
 roomed room (refused n p) = refused n p

@@ -2,3 +2,4 @@ pub mod Entries
 pub mod Walks
 pub mod Nodes
 pub mod Members
+pub mod Counted

@@ -1,19 +1,18 @@
 -- The laws of a node's heads, by the node's kind in a plan. Assumes nothing.
 use mathlib.Core.Path.{_≡_, refl, ap, sym, _∙_}
-use mathlib.Core.Bool.{Bool, true, false, not, _||_, _&&_}
+use mathlib.Core.Bool.{Bool, true, false}
 use mathlib.Core.List.{List, [], _∷_}
 use mathlib.Core.Logic.{_⊎_, inl, inr, ⊎-elim}
 use mathlib.Core.Option.{Option, none, some}
 use Prim.Native.Nat.{ℕ, zero, suc, _+_, _-_, _^_, _<_, _≤_}
 use native.Mathlib.Omega.{arith}
 use native.Mathlib.Nat.{zero-add, suc-add}
-use native.Mathlib.Numerals.{add-one}
 use lib.ListN.{length, getD, take, drop, getElem?}
 use borrow.Author.Tests.{ne-eqb}
 use Rattle.wire.specs.Choice.{pick}
 use Rattle.scalars.specs.Scalars.{scalar, enumeration}
 use Rattle.wire.proofs.Picks.{same-or-not}
-use Rattle.heads.specs.Heads.{setOpening, countOpening, sparseOpening, rangeOpening, plainHead, objectHead, envelopeHead, requires, optional, word, sparseIndex, sparseRest, sparseHead, lacking, Inside, indexOf}
+use Rattle.heads.specs.Heads.{setOpening, countOpening, sparseOpening, rangeOpening, plainHead, objectHead, envelopeHead, requires, optional, word, sparseIndex, sparseRest, sparseHead, Inside, indexOf}
 use Rattle.heads.specs.Bounds.{From, Indexed, Fresh}
 use Rattle.heads.specs.Faults.{headFault, indexFault}
 use Rattle.heads.specs.declared.Head.{Head}
@@ -135,16 +134,3 @@ module _ (s cards : List ℕ) (marks : List Bool) (at n : ℕ) (en : n ≡ lengt
     pub head-new : getD marks i false ≡ false → sparseHead s cards marks at ≡ optional s (requires (getD cards i 0)) i (at + 8) (word s (at + 4))
     unfolding pick
     head-new g = sparse-known s cards marks at i (rw (← en) (index-marked s n marks at i false (sym e) g))
-
--- ---- the elements that were not given
-
-one-more : (b r m : Bool) → b || (r && not m) ≡ pick b true (pick r (not m) false)
-unfolding pick
-one-more true r m = refl
-one-more false true m = refl
-one-more false false m = refl
-
--- one more cardinality: r is whether it is required
-pub lacking-next : (cards : List ℕ) (marks : List Bool) (i : ℕ) (b r : Bool) → b ≡ lacking cards marks i → r ≡ requires (getD cards i 0) → b || (r && not (getD marks i false)) ≡ lacking cards marks (i + 1)
-unfolding lacking
-lacking-next cards marks i b r eb er = one-more b r (getD marks i false) ∙ rw (add-one, eb, er)

@@ -1,12 +1,12 @@
 // The heads of a node's values, by the node's kind.
 use heads::Head;
 use heads::Opening;
-use heads::sparse::Seen;
 ghost use mathlib.Core.Path.{_≡_};
 ghost use mathlib.Core.Bool.{true};
 ghost use Prim.Native.Nat.{ℕ, _+_, _<_, _≤_};
 ghost use lib.ListN.{length, getD};
-ghost use Rattle.heads.specs.Heads.{optional, requires, word, lacking};
+ghost use Rattle.wire.specs.Choice.{pick};
+ghost use Rattle.heads.specs.Heads.{optional, requires, word};
 ghost use Rattle.rules.specs.Values.{openingOf, rowHead};
 ghost use Rattle.plan.specs.Plan.{look, cardsAt, At};
 ghost use Rattle.value.specs.Walk.{Container, leafKind, leafGood};
@@ -76,18 +76,14 @@ pub fn sparse_head(plan: &[u32], node: usize, part: &[u8], i: usize, at: usize) 
     heads::element::sparse_length(part, required, i, at)
 }
 
-// Whether any element of a sparse object is required and was not given. The loop has no early end, so that it becomes one over vectors.
-pub fn any_lacking(plan: &[u32], node: usize, seen: Seen) -> bool
-    requires { ⌜ (At (now plan) node) × (getD (now plan) node 0 ≡ 6) ⌝ }
-    ensures { λ b. ⌜ b ≡ lacking (cardsAt (now (plan .entry)) node) (seen .marks) (length (cardsAt (now (plan .entry)) node)) ⌝ }
+// How many required elements of a sparse object were given, with one more element: it counts where it is required. Whether one is lacking
+// is told by this number at the end, so that the shape's other elements are not looked at.
+pub fn count_given(plan: &[u32], node: usize, i: usize, given: usize) -> usize
+    requires { ⌜ (At (now plan) node) × (getD (now plan) node 0 ≡ 6) × (i < getD (now plan) (node + 1) 0) × (given ≤ 512) ⌝ }
+    ensures { λ r. ⌜ r ≡ given + pick (requires (getD (cardsAt (now (plan .entry)) node) i 0)) 1 0 ⌝ }
 {
-    let n = plan::node::second_at(plan, node);
-    let mut missing = false;
-    let mut i: usize = 0;
-    while i < n {
-        let required = heads::element::required(plan::node::card_of(plan, node, i));
-        missing = missing | (required & !seen.marks[i]);
-        i += 1;
+    if heads::element::required(plan::node::card_of(plan, node, i)) {
+        return given + 1;
     }
-    missing
+    given
 }

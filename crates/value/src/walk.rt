@@ -15,6 +15,7 @@ ghost use lib.ListN.{length, getD};
 ghost use Rattle.rules.specs.Node.{refAt};
 ghost use Rattle.rules.specs.Values.{absent, member, elements, rowForm, sparseForm, noMarks, valueOf};
 ghost use Rattle.plan.specs.Plan.{look, cardsAt, At};
+ghost use Rattle.plan.specs.Memo.{Memo};
 ghost use Rattle.value.specs.declared.Step.the-variants.{Refused, Reached};
 ghost use Rattle.value.specs.Walk.{walkOf, led, leafKind, endStep, Within, WithinHead, Container, Holds, HeadIn};
 
@@ -79,9 +80,11 @@ fn walk_absent(node: usize, index: usize, start: usize, list: &mut [u32], at: us
     }
 }
 
-// The part as a value of a node; places count from `base`, and `index` is its own in its parent.
+// The part as a value of a node; places count from `base`, and `index` is its own in its parent. `needs` says how many elements of the
+// plan's sparse objects are required.
 pub fn walk_value(
     plan: &[u32],
+    needs: &[u32],
     node: usize,
     index: usize,
     base: usize,
@@ -89,7 +92,7 @@ pub fn walk_value(
     list: &mut [u32],
     at: usize,
 ) -> Step
-    requires { ⌜ (At (now plan) node) × (index < 2 ^ 32) × (base + length (now part) ≤ 65535) × (4 * at ≤ 5 * base) ⌝ }
+    requires { ⌜ (At (now plan) node) × (index < 2 ^ 32) × (base + length (now part) ≤ 65535) × (4 * at ≤ 5 * base) × (Memo (now plan) (now needs)) ⌝ }
     ensures { λ r. ⌜ walkOf r (now (list .exit)) ≡ led (valueOf (look (now (plan .entry))) node index base (now (part .entry))) at (now (list .entry)) ⌝ }
     ensures within { λ r. ⌜ Within (base + length (now (part .entry))) r ⌝ }
 {
@@ -109,14 +112,15 @@ pub fn walk_value(
     entry::put_entry(list, at, node, index, base, part.len(), count);
     let to = at + entry::WORDS;
     if kind == 6 {
-        return walk_sparse(plan, node, count, base, from, part, list, to);
+        return walk_sparse(plan, needs, node, count, base, from, part, list, to);
     }
-    walk_row(plan, node, count, first, base, from, part, list, to)
+    walk_row(plan, needs, node, count, first, base, from, part, list, to)
 }
 
 // Elements in the order of their indexes.
 fn walk_row(
     plan: &[u32],
+    needs: &[u32],
     node: usize,
     count: usize,
     first: usize,
@@ -126,7 +130,7 @@ fn walk_row(
     list: &mut [u32],
     at: usize,
 ) -> Step
-    requires { ⌜ (At (now plan) node) × (Container (now plan) node (getD (now plan) node 0)) × (getD (now plan) node 0 ≡ 6 → ⊥) × (Holds (look (now plan) node) (first + count)) × (first + count < 2 ^ 32) × (base + length (now part) ≤ 65535) × (from ≤ length (now part)) × (4 * at ≤ 5 * (base + from) + 20) ⌝ }
+    requires { ⌜ (At (now plan) node) × (Container (now plan) node (getD (now plan) node 0)) × (getD (now plan) node 0 ≡ 6 → ⊥) × (Holds (look (now plan) node) (first + count)) × (first + count < 2 ^ 32) × (base + length (now part) ≤ 65535) × (from ≤ length (now part)) × (4 * at ≤ 5 * (base + from) + 20) × (Memo (now plan) (now needs)) ⌝ }
     ensures { λ r. ⌜ walkOf r (now (list .exit)) ≡ led (elements (rowForm (look (now (plan .entry)) node) (now (part .entry))) (valueOf (look (now (plan .entry)))) (refAt (look (now (plan .entry)) node)) base (now (part .entry)) count first from) at (now (list .entry)) ⌝ }
     ensures within { λ r. ⌜ Within (base + length (now (part .entry))) r ⌝ }
 {
@@ -137,7 +141,7 @@ fn walk_row(
     let mut to = at;
     while 0 < left {
         let head = node::row_head(plan, node, kind, part, i, pos);
-        let step = walk_member(plan, node, base, part, head, pos, list, to);
+        let step = walk_member(plan, needs, node, base, part, head, pos, list, to);
         let Step::Reached { at: next } = step else {
             return step;
         };
@@ -152,6 +156,7 @@ fn walk_row(
 // Elements in any order, each with its index; none is given twice, and none that is required is left out.
 fn walk_sparse(
     plan: &[u32],
+    needs: &[u32],
     node: usize,
     count: usize,
     base: usize,
@@ -160,12 +165,13 @@ fn walk_sparse(
     list: &mut [u32],
     at: usize,
 ) -> Step
-    requires { ⌜ (At (now plan) node) × (getD (now plan) node 0 ≡ 6) × (base + length (now part) ≤ 65535) × (from ≤ length (now part)) × (4 * at ≤ 5 * (base + from) + 20) ⌝ }
+    requires { ⌜ (At (now plan) node) × (getD (now plan) node 0 ≡ 6) × (base + length (now part) ≤ 65535) × (from ≤ length (now part)) × (4 * at ≤ 5 * (base + from) + 20) × (Memo (now plan) (now needs)) ⌝ }
     ensures { λ r. ⌜ walkOf r (now (list .exit)) ≡ led (elements (sparseForm (cardsAt (now (plan .entry)) node) (now (part .entry))) (valueOf (look (now (plan .entry)))) (refAt (look (now (plan .entry)) node)) base (now (part .entry)) count noMarks from) at (now (list .entry)) ⌝ }
     ensures within { λ r. ⌜ Within (base + length (now (part .entry))) r ⌝ }
 {
     let n = plan::node::second_at(plan, node);
     let mut seen = Seen::new();
+    let mut given: usize = 0;
     let mut left = count;
     let mut pos = from;
     let mut to = at;
@@ -178,8 +184,9 @@ fn walk_sparse(
         if seen.twice {
             return refused(26, base);
         }
+        given = node::count_given(plan, node, i, given);
         let head = node::sparse_head(plan, node, part, i, pos);
-        let step = walk_member(plan, node, base, part, head, pos, list, to);
+        let step = walk_member(plan, needs, node, base, part, head, pos, list, to);
         let Step::Reached { at: next } = step else {
             return step;
         };
@@ -187,13 +194,14 @@ fn walk_sparse(
         pos = heads::parts::end_of(head);
         left -= 1;
     }
-    let lacking = node::any_lacking(plan, node, seen);
+    let lacking = given < plan::needs::needed_of(plan, needs, node);
     end_elements(pos == part.len(), lacking, base, to)
 }
 
 // The element with a head that was read at `pos`.
 fn walk_member(
     plan: &[u32],
+    needs: &[u32],
     node: usize,
     base: usize,
     part: &[u8],
@@ -202,7 +210,7 @@ fn walk_member(
     list: &mut [u32],
     at: usize,
 ) -> Step
-    requires { ⌜ (At (now plan) node) × (base + length (now part) ≤ 65535) × (HeadIn (look (now plan) node) (length (now part)) pos head) × (4 * at ≤ 5 * (base + pos) + 20) ⌝ }
+    requires { ⌜ (At (now plan) node) × (base + length (now part) ≤ 65535) × (HeadIn (look (now plan) node) (length (now part)) pos head) × (4 * at ≤ 5 * (base + pos) + 20) × (Memo (now plan) (now needs)) ⌝ }
     ensures { λ r. ⌜ walkOf r (now (list .exit)) ≡ led (member (valueOf (look (now (plan .entry)))) (refAt (look (now (plan .entry)) node)) base (now (part .entry)) head) at (now (list .entry)) ⌝ }
     ensures within { λ r. ⌜ WithinHead base head r ⌝ }
 {
@@ -216,7 +224,16 @@ fn walk_member(
             let child = plan::node::ref_of(plan, node, index);
             let end = start + size;
             let place = base + start;
-            let step = walk_value(plan, child, index, place, &part[start..end], list, at);
+            let step = walk_value(
+                plan,
+                needs,
+                child,
+                index,
+                place,
+                &part[start..end],
+                list,
+                at,
+            );
             // Made anew: to hand the whole enum on is a copy that waits until its parts are stored, for every element.
             let Step::Reached { at: next } = step else {
                 return step;

@@ -1,35 +1,72 @@
-use mathlib.Core.Path.{_≡_, sym, _∙_}
-use Rattle.run.proofs.Runs.{check-unformed, check-large, check-small}
+-- `run::check` meets its contract: the refusals before the value, and then its own rules, with one table or the other. Assumes nothing.
+use native.Mathlib.Omega.{arith}
+use Prim.Native.Nat.{ℕ}
+use lib.ListN.{length-take}
+use Rattle.plan.proofs.Memos.{pairs-memo}
+use Rattle.run.proofs.Runs.{few-words, early-refused, early-none, check-early, check-rest}
 use borrow.Author.Needs.{needs}
 use Rattle.run.proofs.check.Statement.{statement}
 use Rattle.run.proofs.check.Tie as tie
-use Rattle.run.proofs.check.Reads as reads
-use Rattle.run.proofs.check.Lts as lts
-use Rattle.plan.proofs.formed.plan_ok.Reads as plan-ok-reads
-use Rattle.run.proofs.check_value.Reads as check-value-reads
 
-plan-ok-requires : tie.Need-plan-ok-requires
-plan-ok-requires c κs = search needs
+early-fault-requires : tie.Need-early-fault-requires
+early-fault-requires c κs = search needs
 
 returns : tie.Need-returns
 returns c =
-    check-large _ _ _ _ (sym (c .before .before .plan-ok .ensures) ∙ c .before .if1 .taken) (c .if2 .taken)
+    check-early _ _ _ _ _ (early-refused _ _ _ (c .before .early-fault .ensures) (c .if1 .taken))
+
+slice-aggregate-fill : tie.Need-slice-aggregate-fill
+slice-aggregate-fill c = search needs
+
+fill-requires : tie.Need-fill-requires
+fill-requires c κs =
+    few-words _ (early-none _ _ _ (c .before .before .early-fault .ensures) (c .before .if1 .left) .0) (λ (j : ℕ). c .before .before .before .before .before .shared-slice-known .given j .fits)
+
+mul-words : tie.Need-mul-words
+mul-words c = search needs
+
+array-share-prefix-table : tie.Need-array-share-prefix-table
+array-share-prefix-table c = search needs
+
+slice-aggregate-check-value : tie.Need-slice-aggregate-check-value
+slice-aggregate-check-value c = simp length-take (omega (arith, c .before .before .before .fill .ensures .room))
 
 check-value-requires : tie.Need-check-value-requires
 check-value-requires c κs =
-    (sym (c .before .before .before .plan-ok .ensures) ∙ c .before .before .if1 .taken, c .before .if2 .left)
+    let h = early-none _ _ _ (c .before .before .before .before .before .before .before .early-fault .ensures) (c .before .before .before .before .before .before .if1 .left) in (h .0, h .1, pairs-memo _ _ _ (c .before .before .before .before .fill .ensures))
 
 same-length : tie.Need-same-length
 same-length c = search needs
 
 returns-2 : tie.Need-returns-2
 returns-2 c =
-    check-small _ _ _ _ (sym (c .before .before .before .before .before .before .plan-ok .ensures) ∙ c .before .before .before .before .before .if1 .taken) (c .before .before .before .before .if2 .left) _ (c .before .before .check-value .ensures)
+    check-rest _ _ _ _ (early-none _ _ _ (c .before .before .before .before .before .before .before .before .before .before .early-fault .ensures) (c .before .before .before .before .before .before .before .before .before .if1 .left) .2) _ (c .before .before .check-value .ensures)
+
+check-many-requires : tie.Need-check-many-requires
+check-many-requires c κs =
+    let h = early-none _ _ _ (c .before .before .before .before .before .before .early-fault .ensures) (c .before .before .before .before .before .if1 .left) in (h .0, h .1)
+
+same-length-2 : tie.Need-same-length-2
+same-length-2 c = search needs
 
 returns-3 : tie.Need-returns-3
-returns-3 c = check-unformed _ _ _ _ (sym (c .before .plan-ok .ensures) ∙ c .if1 .left)
+returns-3 c =
+    check-rest _ _ _ _ (early-none _ _ _ (c .before .before .before .before .before .before .before .before .before .early-fault .ensures) (c .before .before .before .before .before .before .before .before .if1 .left) .2) _ (c .before .before .check-many .ensures)
 
 pub check-spec : {M : Type 1} → statement M
 check-spec =
     tie.close
-    (tie.spec plan-ok-requires returns check-value-requires same-length returns-2 returns-3)
+    (tie.spec
+    early-fault-requires
+    returns
+    slice-aggregate-fill
+    fill-requires
+    mul-words
+    array-share-prefix-table
+    slice-aggregate-check-value
+    check-value-requires
+    same-length
+    returns-2
+    check-many-requires
+    same-length-2
+    returns-3)

@@ -1,3 +1,4 @@
+-- `run::check_value` meets its contract: no value without a type, and the walk from the root. Assumes nothing.
 use mathlib.Core.Path.{_≡_, refl}
 use native.Mathlib.Omega.{arith}
 use Prim.Native.Nat.{ℕ}
@@ -6,27 +7,24 @@ use Rattle.run.proofs.Runs.{two, root-some, check-nothing, check-bytes,
 use borrow.Author.Needs.{needs}
 use Rattle.run.proofs.check_value.Statement.{statement}
 use Rattle.run.proofs.check_value.Tie as tie
-use Rattle.run.proofs.check_value.Reads as reads
-use Rattle.run.proofs.check_value.Lts as lts
-use Rattle.value.proofs.walk.walk_value.Reads as walk-value-reads
 
 shared-slice-read-root : tie.Need-shared-slice-read-root
-shared-slice-read-root c = omega (arith, two _ (c .before .before .before .before .pre .0))
+shared-slice-read-root c = omega (arith, two _ (c .before .before .before .before .before .pre .0))
 
 cast-root : tie.Need-cast-root
-cast-root c = omega (arith, c .shared-slice-known3 .given 1)
+cast-root c = omega (arith, c .shared-slice-known4 .given 1)
 
 returns : tie.Need-returns
 returns c =
-    check-nothing _ _ (c .before .before .before .before .before .before .pre .0) _ _ (λ (j : ℕ). c .before .before .before .before .before .shared-slice-known .given j .fits) _ refl (c .before .if1 .taken) (c .if2 .taken) refl
+    check-nothing _ _ (c .before .before .before .before .before .before .before .pre .0) _ _ (λ (j : ℕ). c .before .before .before .before .before .before .shared-slice-known .given j .fits) _ refl (c .before .if1 .taken) (c .if2 .taken) refl
 
 returns-2 : tie.Need-returns-2
 returns-2 c =
-    check-bytes _ _ (c .before .before .before .before .before .before .pre .0) _ _ (λ (j : ℕ). c .before .before .before .before .before .shared-slice-known .given j .fits) _ refl (c .before .if1 .taken) (c .if2 .left)
+    check-bytes _ _ (c .before .before .before .before .before .before .before .pre .0) _ _ (λ (j : ℕ). c .before .before .before .before .before .before .shared-slice-known .given j .fits) _ refl (c .before .if1 .taken) (c .if2 .left)
 
 walk-value-requires : tie.Need-walk-value-requires
 walk-value-requires c κs =
-    (at-root _ (c .before .before .before .before .before .before .pre .0) (root-some _ (c .before .before .before .before .before .before .pre .0) (c .before .if1 .left)) (λ (j : ℕ). c .before .before .before .before .before .shared-slice-known .given j .fits), omega arith, omega (arith, c .before .before .before .before .before .before .pre .1), omega arith)
+    (at-root _ (c .before .before .before .before .before .before .before .pre .0) (root-some _ (c .before .before .before .before .before .before .before .pre .0) (c .before .if1 .left)) (λ (j : ℕ). c .before .before .before .before .before .before .shared-slice-known .given j .fits), omega arith, omega (arith, c .before .before .before .before .before .before .before .pre .1), omega arith, c .before .before .before .before .before .before .before .pre .2)
 
 enum-known-no : tie.Need-enum-known-no
 enum-known-no c = search needs
@@ -39,14 +37,14 @@ same-length c = search needs
 
 returns-3 : tie.Need-returns-3
 returns-3 c =
-    check-refused _ _ (c .before .before .before .before .before .before .before .before .before .before .before .before .pre .0) _ _ _ refl (c .before .before .before .before .before .before .before .if1 .left) _ (c .before .before .before .before .before .walk-value .ensures .0) _ _ (c .before .no .given .1)
+    check-refused _ _ (c .before .before .before .before .before .before .before .before .before .before .before .before .before .pre .0) _ _ _ refl (c .before .before .before .before .before .before .before .if1 .left) _ (c .before .before .before .before .before .walk-value .ensures .0) _ _ (c .before .no .given .1)
 
 same-length-2 : tie.Need-same-length-2
 same-length-2 c = search needs
 
 returns-4 : tie.Need-returns-4
 returns-4 c =
-    check-listed _ _ (c .before .before .before .before .before .before .before .before .before .before .before .before .pre .0) _ _ _ refl (c .before .before .before .before .before .before .before .if1 .left) _ (c .before .before .before .before .before .walk-value .ensures .0) _ (c .before .at .given .1) (c .before .before .before .before .before .walk-value .ensures .1)
+    check-listed _ _ (c .before .before .before .before .before .before .before .before .before .before .before .before .before .pre .0) _ _ _ refl (c .before .before .before .before .before .before .before .if1 .left) _ (c .before .before .before .before .before .walk-value .ensures .0) _ (c .before .at .given .1) (c .before .before .before .before .before .walk-value .ensures .1)
 
 pub check-value-spec : {M : Type 1} → statement M
 check-value-spec =

@@ -1,55 +1,72 @@
-use Rattle.run.proofs.Runs.{gives-refused, gives-full, gives-listed}
+-- `run::run` meets its contract: the refusals before the value, and then both passes, with one table or the other. Assumes nothing.
+use native.Mathlib.Omega.{arith}
+use Prim.Native.Nat.{ℕ}
+use lib.ListN.{length-take}
+use Rattle.plan.proofs.Memos.{pairs-memo}
+use Rattle.run.proofs.Runs.{few-words, early-refused, early-none, run-early, run-rest}
 use borrow.Author.Needs.{needs}
 use Rattle.run.proofs.run.Statement.{statement}
 use Rattle.run.proofs.run.Tie as tie
-use Rattle.run.proofs.run.Reads as reads
-use Rattle.run.proofs.run.Lts as lts
-use Rattle.run.proofs.check.Reads as check-reads
 
-slice-aggregate-check : tie.Need-slice-aggregate-check
-slice-aggregate-check c = search needs
-
-check-requires : tie.Need-check-requires
-check-requires c κs = search needs
-
-enum-known-answer : tie.Need-enum-known-answer
-enum-known-answer c = search needs
-
-enum-told : tie.Need-enum-told
-enum-told c = search needs
+early-fault-requires : tie.Need-early-fault-requires
+early-fault-requires c κs = search needs
 
 returns : tie.Need-returns
 returns c =
-    gives-refused _ _ _ _ _ (c .before .before .before .check .ensures) _ _ _ (c .enum-told .given .1)
+    run-early _ _ _ _ _ (early-refused _ _ _ (c .before .early-fault .ensures) (c .if1 .taken))
 
-cast-if1 : tie.Need-cast-if1
-cast-if1 c = search needs
+slice-aggregate-fill : tie.Need-slice-aggregate-fill
+slice-aggregate-fill c = search needs
 
-returns-2 : tie.Need-returns-2
-returns-2 c =
-    gives-full _ _ _ _ _ (c .before .before .before .before .before .check .ensures) _ _ (c .before .before .answer .given .1) (c .if1 .taken)
+fill-requires : tie.Need-fill-requires
+fill-requires c κs =
+    few-words _ (early-none _ _ _ (c .before .before .early-fault .ensures) (c .before .if1 .left) .0) (λ (j : ℕ). c .before .before .before .before .before .shared-slice-known .given j .fits)
 
-check-requires-2 : tie.Need-check-requires-2
-check-requires-2 c κs = search needs
+mul-words : tie.Need-mul-words
+mul-words c = search needs
+
+array-share-prefix-table : tie.Need-array-share-prefix-table
+array-share-prefix-table c = search needs
+
+slice-aggregate-run-value : tie.Need-slice-aggregate-run-value
+slice-aggregate-run-value c = simp length-take (omega (arith, c .before .before .before .fill .ensures .room))
+
+run-value-requires : tie.Need-run-value-requires
+run-value-requires c κs =
+    let h = early-none _ _ _ (c .before .before .before .before .before .before .before .early-fault .ensures) (c .before .before .before .before .before .before .if1 .left) in (h .0, h .1, pairs-memo _ _ _ (c .before .before .before .before .fill .ensures))
 
 same-length : tie.Need-same-length
 same-length c = search needs
 
+returns-2 : tie.Need-returns-2
+returns-2 c =
+    run-rest _ _ _ _ _ (early-none _ _ _ (c .before .before .before .before .before .before .before .before .before .before .early-fault .ensures) (c .before .before .before .before .before .before .before .before .before .if1 .left) .2) _ (c .before .before .run-value .ensures)
+
+run-many-requires : tie.Need-run-many-requires
+run-many-requires c κs =
+    let h = early-none _ _ _ (c .before .before .before .before .before .before .early-fault .ensures) (c .before .before .before .before .before .if1 .left) in (h .0, h .1)
+
+same-length-2 : tie.Need-same-length-2
+same-length-2 c = search needs
+
 returns-3 : tie.Need-returns-3
 returns-3 c =
-    gives-listed _ _ _ _ _ (c .before .before .before .before .before .before .before .before .before .check .ensures) _ _ (c .before .before .before .before .before .before .answer .given .1) (c .before .before .before .before .if1 .left) _ _ (c .before .before .check2 .ensures)
+    run-rest _ _ _ _ _ (early-none _ _ _ (c .before .before .before .before .before .before .before .before .before .early-fault .ensures) (c .before .before .before .before .before .before .before .before .if1 .left) .2) _ (c .before .before .run-many .ensures)
 
 pub run-spec : {M : Type 1} → statement M
 run-spec =
     tie.close
     (tie.spec
-    slice-aggregate-check
-    check-requires
-    enum-known-answer
-    enum-told
+    early-fault-requires
     returns
-    cast-if1
-    returns-2
-    check-requires-2
+    slice-aggregate-fill
+    fill-requires
+    mul-words
+    array-share-prefix-table
+    slice-aggregate-run-value
+    run-value-requires
     same-length
+    returns-2
+    run-many-requires
+    same-length-2
     returns-3)

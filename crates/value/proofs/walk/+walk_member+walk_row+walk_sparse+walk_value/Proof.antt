@@ -4,7 +4,6 @@ use Rattle.value.proofs.Members.{opening-holds, is-row, opened, inner-k
 use lib.ListN.{length, length-take, length-drop}
 use mathlib.Core.Path.{_≡_, refl, sym, _∙_}
 use native.Mathlib.Omega.{arith}
-use Prim.Native.Nat.{_+_, _*_, _≤_, ℕ, _<_}
 use Rattle.rules.specs.Node.{refAt}
 use Rattle.rules.specs.Values.{elements, rowForm, sparseForm, noMarks, valueOf}
 use Rattle.plan.specs.Plan.{look, cardsAt}
@@ -14,6 +13,8 @@ use Rattle.value.specs.Walk.{led, walkOf}
 use Rattle.value.proofs.Nodes.{head-bad}
 use Rattle.value.proofs.Walks.{single, turn-stop, turn-go, turn-fault, done}
 use borrow.Author.Needs.{needs}
+use Rattle.value.proofs.Counted.{Counted, counted-none, counted-few, counted-next, counted-end}
+use Prim.Native.Nat.{ℕ, _+_, _*_, _≤_, _<_}
 use borrow.Fn.Kinds.{In}
 use borrow.Fn.PlainCycle.{Measures, is, falls, and}
 use Rattle.value.proofs.walk.walk_member.Reads as walk-member
@@ -34,11 +35,12 @@ use Rattle.heads.proofs.parts.opening_fault.Reads as opening-fault-reads
 use Rattle.heads.proofs.sparse.Seen.mark.Reads as mark-reads
 use Rattle.heads.proofs.sparse.Seen.new.Reads as new-reads
 use Rattle.heads.proofs.sparse.sparse_index.Reads as sparse-index-reads
+use Rattle.plan.proofs.needs.needed_of.Reads as needed-of-reads
 use Rattle.plan.proofs.node.kind_at.Reads as kind-at-reads
 use Rattle.plan.proofs.node.ref_of.Reads as ref-of-reads
 use Rattle.plan.proofs.node.second_at.Reads as second-at-reads
 use Rattle.value.proofs.entry.put_entry.Reads as put-entry-reads
-use Rattle.value.proofs.node.any_lacking.Reads as any-lacking-reads
+use Rattle.value.proofs.node.count_given.Reads as count-given-reads
 use Rattle.value.proofs.node.is_leaf.Reads as is-leaf-reads
 use Rattle.value.proofs.node.open_node.Reads as open-node-reads
 use Rattle.value.proofs.node.row_head.Reads as row-head-reads
@@ -50,48 +52,48 @@ use Rattle.value.proofs.walk.walk_leaf.Reads as walk-leaf-reads
 use Rattle.value.proofs.walk.+walk_member+walk_row+walk_sparse+walk_value.{statement}
 use Rattle.value.proofs.walk.+walk_member+walk_row+walk_sparse+walk_value.Tie.{close}
 
-abbrev μ-walk-member : Measures 3 walk-member-kinds.ps ℕ
-μ-walk-member κs a = 3 * (a .1 .0)
+abbrev μ-walk-member : Measures 4 walk-member-kinds.ps ℕ
+μ-walk-member κs a = 3 * (a .1 .1 .0)
 
-abbrev μ-walk-row : Measures 3 walk-row-kinds.ps ℕ
-μ-walk-row κs a = 3 * (a .1 .0) + 1
+abbrev μ-walk-row : Measures 4 walk-row-kinds.ps ℕ
+μ-walk-row κs a = 3 * (a .1 .1 .0) + 1
 
-abbrev μ-walk-sparse : Measures 3 walk-sparse-kinds.ps ℕ
-μ-walk-sparse κs a = 3 * (a .1 .0) + 1
+abbrev μ-walk-sparse : Measures 4 walk-sparse-kinds.ps ℕ
+μ-walk-sparse κs a = 3 * (a .1 .1 .0) + 1
 
-abbrev μ-walk-value : Measures 3 walk-value-kinds.ps ℕ
-μ-walk-value κs a = 3 * (a .1 .0) + 2
+abbrev μ-walk-value : Measures 4 walk-value-kinds.ps ℕ
+μ-walk-value κs a = 3 * (a .1 .1 .0) + 2
 
-abbrev walk-member-at : ℕ → In 3 walk-member-kinds.ps
+abbrev walk-member-at : ℕ → In 4 walk-member-kinds.ps
 walk-member-at t =
-    and 3 walk-member-kinds.ps (is 3 walk-member-kinds.ps μ-walk-member t) walk-member.Pre
+    and 4 walk-member-kinds.ps (is 4 walk-member-kinds.ps μ-walk-member t) walk-member.Pre
 
-abbrev walk-member-below : ℕ → In 3 walk-member-kinds.ps
+abbrev walk-member-below : ℕ → In 4 walk-member-kinds.ps
 walk-member-below t =
-    and 3 walk-member-kinds.ps (falls 3 walk-member-kinds.ps _<_ μ-walk-member t) walk-member.Pre
+    and 4 walk-member-kinds.ps (falls 4 walk-member-kinds.ps _<_ μ-walk-member t) walk-member.Pre
 
-abbrev walk-row-at : ℕ → In 3 walk-row-kinds.ps
-walk-row-at t = and 3 walk-row-kinds.ps (is 3 walk-row-kinds.ps μ-walk-row t) walk-row.Pre
+abbrev walk-row-at : ℕ → In 4 walk-row-kinds.ps
+walk-row-at t = and 4 walk-row-kinds.ps (is 4 walk-row-kinds.ps μ-walk-row t) walk-row.Pre
 
-abbrev walk-row-below : ℕ → In 3 walk-row-kinds.ps
+abbrev walk-row-below : ℕ → In 4 walk-row-kinds.ps
 walk-row-below t =
-    and 3 walk-row-kinds.ps (falls 3 walk-row-kinds.ps _<_ μ-walk-row t) walk-row.Pre
+    and 4 walk-row-kinds.ps (falls 4 walk-row-kinds.ps _<_ μ-walk-row t) walk-row.Pre
 
-abbrev walk-sparse-at : ℕ → In 3 walk-sparse-kinds.ps
+abbrev walk-sparse-at : ℕ → In 4 walk-sparse-kinds.ps
 walk-sparse-at t =
-    and 3 walk-sparse-kinds.ps (is 3 walk-sparse-kinds.ps μ-walk-sparse t) walk-sparse.Pre
+    and 4 walk-sparse-kinds.ps (is 4 walk-sparse-kinds.ps μ-walk-sparse t) walk-sparse.Pre
 
-abbrev walk-sparse-below : ℕ → In 3 walk-sparse-kinds.ps
+abbrev walk-sparse-below : ℕ → In 4 walk-sparse-kinds.ps
 walk-sparse-below t =
-    and 3 walk-sparse-kinds.ps (falls 3 walk-sparse-kinds.ps _<_ μ-walk-sparse t) walk-sparse.Pre
+    and 4 walk-sparse-kinds.ps (falls 4 walk-sparse-kinds.ps _<_ μ-walk-sparse t) walk-sparse.Pre
 
-abbrev walk-value-at : ℕ → In 3 walk-value-kinds.ps
+abbrev walk-value-at : ℕ → In 4 walk-value-kinds.ps
 walk-value-at t =
-    and 3 walk-value-kinds.ps (is 3 walk-value-kinds.ps μ-walk-value t) walk-value.Pre
+    and 4 walk-value-kinds.ps (is 4 walk-value-kinds.ps μ-walk-value t) walk-value.Pre
 
-abbrev walk-value-below : ℕ → In 3 walk-value-kinds.ps
+abbrev walk-value-below : ℕ → In 4 walk-value-kinds.ps
 walk-value-below t =
-    and 3 walk-value-kinds.ps (falls 3 walk-value-kinds.ps _<_ μ-walk-value t) walk-value.Pre
+    and 4 walk-value-kinds.ps (falls 4 walk-value-kinds.ps _<_ μ-walk-value t) walk-value.Pre
 
 abbrev walk-member-claims : ℕ → walk-member-lts.Claims
 walk-member-claims t =
@@ -103,7 +105,7 @@ walk-row-claims t =
 
 abbrev walk-sparse-claims : ℕ → walk-sparse-lts.Claims
 walk-sparse-claims t =
-    (second-at-reads.Asked, second-at-reads.Learnt, new-reads.Asked, new-reads.Learnt, sparse-index-reads.Asked, sparse-index-reads.Learnt, index-fault-reads.Asked, index-fault-reads.Learnt, refused-reads.Asked, refused-reads.Learnt, mark-reads.Asked, mark-reads.Learnt, sparse-head-reads.Asked, sparse-head-reads.Learnt, walk-member-below t, walk-member.Post, end-of-reads.Asked, end-of-reads.Learnt, any-lacking-reads.Asked, any-lacking-reads.Learnt, end-elements-reads.Asked, end-elements-reads.Learnt)
+    (second-at-reads.Asked, second-at-reads.Learnt, new-reads.Asked, new-reads.Learnt, sparse-index-reads.Asked, sparse-index-reads.Learnt, index-fault-reads.Asked, index-fault-reads.Learnt, refused-reads.Asked, refused-reads.Learnt, mark-reads.Asked, mark-reads.Learnt, count-given-reads.Asked, count-given-reads.Learnt, sparse-head-reads.Asked, sparse-head-reads.Learnt, walk-member-below t, walk-member.Post, end-of-reads.Asked, end-of-reads.Learnt, needed-of-reads.Asked, needed-of-reads.Learnt, end-elements-reads.Asked, end-elements-reads.Learnt)
 
 abbrev walk-value-claims : ℕ → walk-value-lts.Claims
 walk-value-claims t =
@@ -113,39 +115,39 @@ walk-member-enum-known-head : (t : ℕ) → walk-member-lts.Need-enum-known-head
 walk-member-enum-known-head t c = search needs
 
 walk-member-refused-requires : (t : ℕ) → walk-member-lts.Need-refused-requires (walk-member-claims t) (walk-member-at t) walk-member.Post
-walk-member-refused-requires t c κs = omega (arith, c .before .before .before .before .before .before .pre .1 .1)
+walk-member-refused-requires t c κs = omega (arith, c .before .before .before .before .before .before .before .pre .1 .1)
 
 walk-member-enum-known-head-2 : (t : ℕ) → walk-member-lts.Need-enum-known-head-2 (walk-member-claims t) (walk-member-at t) walk-member.Post
 walk-member-enum-known-head-2 t c = search needs
 
 walk-member-ref-of-requires : (t : ℕ) → walk-member-lts.Need-ref-of-requires (walk-member-claims t) (walk-member-at t) walk-member.Post
 walk-member-ref-of-requires t c κs =
-    (c .before .before .before .before .before .before .pre .1 .0, absent-in _ _ _ _ (c .before .before .before .before .before .before .pre .1 .2) _ _ (c .before .head2 .given .1) .0)
+    (c .before .before .before .before .before .before .before .pre .1 .0, absent-in _ _ _ _ (c .before .before .before .before .before .before .before .pre .1 .2) _ _ (c .before .head2 .given .1) .0)
 
 walk-member-add-walk-absent : (t : ℕ) → walk-member-lts.Need-add-walk-absent (walk-member-claims t) (walk-member-at t) walk-member.Post
 walk-member-add-walk-absent t c =
-    let f = absent-in _ _ _ _ (c .before .before .before .before .before .before .before .pre .1 .2) _ _ (c .before .before .head2 .given .1) in omega (arith, f .2, c .before .before .before .before .before .before .before .pre .1 .1)
+    let f = absent-in _ _ _ _ (c .before .before .before .before .before .before .before .before .pre .1 .2) _ _ (c .before .before .head2 .given .1) in omega (arith, f .2, c .before .before .before .before .before .before .before .before .pre .1 .1)
 
 walk-member-walk-absent-requires : (t : ℕ) → walk-member-lts.Need-walk-absent-requires (walk-member-claims t) (walk-member-at t) walk-member.Post
 walk-member-walk-absent-requires t c κs =
-    let f = absent-in _ _ _ _ (c .before .before .before .before .before .before .before .before .pre .1 .2) _ _ (c .before .before .before .head2 .given .1) in
-    let r = at-ref _ _ _ _ (c .before .before .before .before .before .before .before .before .pre .1 .0) (c .before .ref-of .ensures) in
-    (r .0 .small, f .3, omega (arith, f .2, c .before .before .before .before .before .before .before .before .pre .1 .1), omega (arith, f .1, f .2, c .before .before .before .before .before .before .before .before .pre .1 .1, c .before .before .before .before .before .before .before .before .pre .1 .3))
+    let f = absent-in _ _ _ _ (c .before .before .before .before .before .before .before .before .before .pre .1 .2) _ _ (c .before .before .before .head2 .given .1) in
+    let r = at-ref _ _ _ _ (c .before .before .before .before .before .before .before .before .before .pre .1 .0) (c .before .ref-of .ensures) in
+    (r .0 .small, f .3, omega (arith, f .2, c .before .before .before .before .before .before .before .before .before .pre .1 .1), omega (arith, f .1, f .2, c .before .before .before .before .before .before .before .before .before .pre .1 .1, c .before .before .before .before .before .before .before .before .before .pre .1 .3))
 
 walk-member-enum-known-head-3 : (t : ℕ) → walk-member-lts.Need-enum-known-head-3 (walk-member-claims t) (walk-member-at t) walk-member.Post
 walk-member-enum-known-head-3 t c = search needs
 
 walk-member-ref-of-requires-2 : (t : ℕ) → walk-member-lts.Need-ref-of-requires-2 (walk-member-claims t) (walk-member-at t) walk-member.Post
 walk-member-ref-of-requires-2 t c κs =
-    (c .before .before .before .before .before .before .pre .1 .0, present-in _ _ _ _ (c .before .before .before .before .before .before .pre .1 .2) _ _ _ (c .before .head3 .given .1) .0)
+    (c .before .before .before .before .before .before .before .pre .1 .0, present-in _ _ _ _ (c .before .before .before .before .before .before .before .pre .1 .2) _ _ _ (c .before .head3 .given .1) .0)
 
 walk-member-add-end : (t : ℕ) → walk-member-lts.Need-add-end (walk-member-claims t) (walk-member-at t) walk-member.Post
 walk-member-add-end t c =
-    let f = present-in _ _ _ _ (c .before .before .before .before .before .before .before .pre .1 .2) _ _ _ (c .before .before .head3 .given .1) in omega (arith, f .2, c .before .before .before .before .before .before .before .pre .1 .1)
+    let f = present-in _ _ _ _ (c .before .before .before .before .before .before .before .before .pre .1 .2) _ _ _ (c .before .before .head3 .given .1) in omega (arith, f .2, c .before .before .before .before .before .before .before .before .pre .1 .1)
 
 walk-member-add-place : (t : ℕ) → walk-member-lts.Need-add-place (walk-member-claims t) (walk-member-at t) walk-member.Post
 walk-member-add-place t c =
-    let f = present-in _ _ _ _ (c .before .before .before .before .before .before .before .pre .1 .2) _ _ _ (c .before .before .head3 .given .1) in omega (arith, f .2, c .before .before .before .before .before .before .before .pre .1 .1)
+    let f = present-in _ _ _ _ (c .before .before .before .before .before .before .before .before .pre .1 .2) _ _ _ (c .before .before .head3 .given .1) in omega (arith, f .2, c .before .before .before .before .before .before .before .before .pre .1 .1)
 
 walk-member-sub-walk-value : (t : ℕ) → walk-member-lts.Need-sub-walk-value (walk-member-claims t) (walk-member-at t) walk-member.Post
 walk-member-sub-walk-value t c = search needs
@@ -155,13 +157,13 @@ walk-member-part-walk-value-start t c = search needs
 
 walk-member-part-walk-value-end : (t : ℕ) → walk-member-lts.Need-part-walk-value-end (walk-member-claims t) (walk-member-at t) walk-member.Post
 walk-member-part-walk-value-end t c =
-    present-in _ _ _ _ (c .before .before .before .before .before .before .before .pre .1 .2) _ _ _ (c .before .before .head3 .given .1) .2
+    present-in _ _ _ _ (c .before .before .before .before .before .before .before .before .pre .1 .2) _ _ _ (c .before .before .head3 .given .1) .2
 
 walk-member-walk-value-requires : (t : ℕ) → walk-member-lts.Need-walk-value-requires (walk-member-claims t) (walk-member-at t) walk-member.Post
 walk-member-walk-value-requires t c κs =
-    let f = present-in _ _ _ _ (c .before .before .before .before .before .before .before .before .before .pre .1 .2) _ _ _ (c .before .before .before .before .head3 .given .1) in
-    let r = at-ref _ _ _ _ (c .before .before .before .before .before .before .before .before .before .pre .1 .0) (c .before .before .ref-of2 .ensures) in
-    (omega (arith, c .before .before .before .before .before .before .before .before .before .pre .0, r .1), (r .0, f .3, simp (length-take, length-drop) (omega (arith, f .2, c .before .before .before .before .before .before .before .before .before .pre .1 .1)), omega (arith, f .1, c .before .before .before .before .before .before .before .before .before .pre .1 .3)))
+    let f = present-in _ _ _ _ (c .before .before .before .before .before .before .before .before .before .before .pre .1 .2) _ _ _ (c .before .before .before .before .head3 .given .1) in
+    let r = at-ref _ _ _ _ (c .before .before .before .before .before .before .before .before .before .before .pre .1 .0) (c .before .before .ref-of2 .ensures) in
+    (omega (arith, c .before .before .before .before .before .before .before .before .before .before .pre .0, r .1), (r .0, f .3, simp (length-take, length-drop) (omega (arith, f .2, c .before .before .before .before .before .before .before .before .before .before .pre .1 .1)), omega (arith, f .1, c .before .before .before .before .before .before .before .before .before .before .pre .1 .3), c .before .before .before .before .before .before .before .before .before .before .pre .1 .4))
 
 walk-member-enum-known-step : (t : ℕ) → walk-member-lts.Need-enum-known-step (walk-member-claims t) (walk-member-at t) walk-member.Post
 walk-member-enum-known-step t c = search needs
@@ -170,7 +172,7 @@ walk-member-enum-told : (t : ℕ) → walk-member-lts.Need-enum-told (walk-membe
 walk-member-enum-told t c = search needs
 
 walk-member-same-length : (t : ℕ) → walk-member-lts.Need-same-length (walk-member-claims t) (walk-member-at t) walk-member.Post
-walk-member-same-length t c = c .before .before .before .before .walk-value .kept .1 .1 .1 .1 .1 .0
+walk-member-same-length t c = c .before .before .before .before .walk-value .kept .1 .1 .1 .1 .1 .1 .0
 
 walk-member-returns : (t : ℕ) → walk-member-lts.Need-returns (walk-member-claims t) (walk-member-at t) walk-member.Post
 walk-member-returns t c =
@@ -185,38 +187,38 @@ walk-member-same-length-2 t c = c .before .before .walk-absent .kept .1 .1 .1 .0
 
 walk-member-returns-3 : (t : ℕ) → walk-member-lts.Need-returns-3 (walk-member-claims t) (walk-member-at t) walk-member.Post
 walk-member-returns-3 t c =
-    (c .before .before .walk-absent .ensures .0 ∙ member-absent _ _ _ _ _ _ _ _ _ _ (c .before .before .before .before .ref-of .ensures) (c .before .before .before .before .before .before .head2 .given .1), within-absent _ _ _ _ _ _ _ (c .before .before .walk-absent .ensures .1) (c .before .before .before .before .before .before .head2 .given .1) (absent-in _ _ _ _ (c .before .before .before .before .before .before .before .before .before .before .before .pre .1 .2) _ _ (c .before .before .before .before .before .before .head2 .given .1) .1) (c .before .before .before .before .before .before .before .before .before .before .before .pre .1 .3))
+    (c .before .before .walk-absent .ensures .0 ∙ member-absent _ _ _ _ _ _ _ _ _ _ (c .before .before .before .before .ref-of .ensures) (c .before .before .before .before .before .before .head2 .given .1), within-absent _ _ _ _ _ _ _ (c .before .before .walk-absent .ensures .1) (c .before .before .before .before .before .before .head2 .given .1) (absent-in _ _ _ _ (c .before .before .before .before .before .before .before .before .before .before .before .before .pre .1 .2) _ _ (c .before .before .before .before .before .before .head2 .given .1) .1) (c .before .before .before .before .before .before .before .before .before .before .before .before .pre .1 .3))
 
 walk-member-same-length-3 : (t : ℕ) → walk-member-lts.Need-same-length-3 (walk-member-claims t) (walk-member-at t) walk-member.Post
-walk-member-same-length-3 t c = c .before .before .before .before .before .walk-value .kept .1 .1 .1 .1 .1 .0
+walk-member-same-length-3 t c = c .before .before .before .before .before .walk-value .kept .1 .1 .1 .1 .1 .1 .0
 
 walk-member-returns-4 : (t : ℕ) → walk-member-lts.Need-returns-4 (walk-member-claims t) (walk-member-at t) walk-member.Post
 walk-member-returns-4 t c =
-    (anew _ _ (c .before .step .given .1) _ _ (c .before .before .before .before .before .walk-value .ensures .0 ∙ member-present _ _ _ _ _ _ _ _ _ _ (c .before .before .before .before .before .before .before .before .ref-of2 .ensures) _ (c .before .before .before .before .before .before .before .before .before .before .head3 .given .1)), anew-within _ _ (c .before .step .given .1) _ _ (within-present _ _ _ _ _ _ _ (c .before .before .before .before .before .before .before .before .before .before .head3 .given .1) (part-size _ _ _ (present-in _ _ _ _ (c .before .before .before .before .before .before .before .before .before .before .before .before .before .before .before .pre .1 .2) _ _ _ (c .before .before .before .before .before .before .before .before .before .before .head3 .given .1) .2)) (c .before .before .before .before .before .walk-value .ensures .1)))
+    (anew _ _ (c .before .step .given .1) _ _ (c .before .before .before .before .before .walk-value .ensures .0 ∙ member-present _ _ _ _ _ _ _ _ _ _ (c .before .before .before .before .before .before .before .before .ref-of2 .ensures) _ (c .before .before .before .before .before .before .before .before .before .before .head3 .given .1)), anew-within _ _ (c .before .step .given .1) _ _ (within-present _ _ _ _ _ _ _ (c .before .before .before .before .before .before .before .before .before .before .head3 .given .1) (part-size _ _ _ (present-in _ _ _ _ (c .before .before .before .before .before .before .before .before .before .before .before .before .before .before .before .before .pre .1 .2) _ _ _ (c .before .before .before .before .before .before .before .before .before .before .head3 .given .1) .2)) (c .before .before .before .before .before .walk-value .ensures .1)))
 
 abbrev walk-row-Inv-loop : walk-row-lts.InvT-loop
-walk-row-Inv-loop plan node count first base from part list₀ at kind left₀ i₀ pos₀ to₀ list left i pos to =
+walk-row-Inv-loop plan needs node count first base from part list₀ at kind left₀ i₀ pos₀ to₀ list left i pos to =
     (i + left ≡ first + count) × (pos ≤ length part) × (4 * to ≤ 5 * (base + pos) + 20) × (length list ≡ length list₀)
     × (led (elements (rowForm (look plan node) part) (valueOf (look plan)) (refAt (look plan node)) base part left₀ i₀ pos₀) to₀ list₀
     ≡ led (elements (rowForm (look plan node) part) (valueOf (look plan)) (refAt (look plan node)) base part left i pos) to list)
 
 abbrev walk-row-μ-loop : walk-row-lts.MeasureT-loop
-walk-row-μ-loop plan node count first base from part list₀ at kind left₀ i₀ pos₀ to₀ list left i pos to = left
+walk-row-μ-loop plan needs node count first base from part list₀ at kind left₀ i₀ pos₀ to₀ list left i pos to = left
 
 walk-row-kind-at-requires : (t : ℕ) → walk-row-lts.Need-kind-at-requires (walk-row-claims t) (walk-row-at t) walk-row.Post walk-row-Inv-loop walk-row-μ-loop
-walk-row-kind-at-requires t c κs = c .before .before .before .pre .1 .0
+walk-row-kind-at-requires t c κs = c .before .before .before .before .pre .1 .0
 
 walk-row-loop-holds : (t : ℕ) → walk-row-lts.Need-loop-holds (walk-row-claims t) (walk-row-at t) walk-row.Post walk-row-Inv-loop walk-row-μ-loop
 walk-row-loop-holds t c =
-    (omega arith, c .before .before .before .before .pre .1 .6, c .before .before .before .before .pre .1 .7, refl, refl)
+    (omega arith, c .before .before .before .before .before .pre .1 .6, c .before .before .before .before .before .pre .1 .7, refl, refl)
 
 walk-row-row-head-requires : (t : ℕ) → walk-row-lts.Need-row-head-requires (walk-row-claims t) (walk-row-at t) walk-row.Post walk-row-Inv-loop walk-row-μ-loop
 walk-row-row-head-requires t c κs =
-    (c .before .before .before .before .before .before .pre .1 .0, same-kind _ _ _ _ (c .before .before .before .before .before .before .pre .1 .1) (c .before .before .kind-at .ensures .is), (λ e. c .before .before .before .before .before .before .pre .1 .2 (sym (c .before .before .kind-at .ensures .is) ∙ e)), (λ e. object-below _ _ _ (sym (c .before .before .kind-at .ensures .is) ∙ e) (c .before .before .before .before .before .before .pre .1 .3 _ (omega (arith, c .before .loop .inv .0, c .loop-test .taken)))), c .before .loop .inv .1)
+    (c .before .before .before .before .before .before .before .pre .1 .0, same-kind _ _ _ _ (c .before .before .before .before .before .before .before .pre .1 .1) (c .before .before .kind-at .ensures .is), (λ e. c .before .before .before .before .before .before .before .pre .1 .2 (sym (c .before .before .kind-at .ensures .is) ∙ e)), (λ e. object-below _ _ _ (sym (c .before .before .kind-at .ensures .is) ∙ e) (c .before .before .before .before .before .before .before .pre .1 .3 _ (omega (arith, c .before .loop .inv .0, c .loop-test .taken)))), c .before .loop .inv .1)
 
 walk-row-walk-member-requires : (t : ℕ) → walk-row-lts.Need-walk-member-requires (walk-row-claims t) (walk-row-at t) walk-row.Post walk-row-Inv-loop walk-row-μ-loop
 walk-row-walk-member-requires t c κs =
-    (omega (arith, c .before .before .before .before .before .before .before .before .pre .0), (c .before .before .before .before .before .before .before .before .pre .1 .0, c .before .before .before .before .before .before .before .before .pre .1 .5, row-at _ _ (c .before .before .before .before .before .before .before .before .pre .1 .0) _ (c .before .before .before .before .before .before .before .before .pre .1 .1) (c .before .before .before .before .before .before .before .before .pre .1 .2) _ (c .before .before .before .before .before .before .before .before .pre .1 .3) (c .before .before .before .before .before .before .before .before .pre .1 .4) _ _ _ _ _ (c .before .before .before .loop .inv .0) (c .before .before .loop-test .taken) (c .before .before .before .loop .inv .1) (c .before .row-head .ensures), c .before .before .before .loop .inv .2))
+    (omega (arith, c .before .before .before .before .before .before .before .before .before .pre .0), (c .before .before .before .before .before .before .before .before .before .pre .1 .0, c .before .before .before .before .before .before .before .before .before .pre .1 .5, row-at _ _ (c .before .before .before .before .before .before .before .before .before .pre .1 .0) _ (c .before .before .before .before .before .before .before .before .before .pre .1 .1) (c .before .before .before .before .before .before .before .before .before .pre .1 .2) _ (c .before .before .before .before .before .before .before .before .before .pre .1 .3) (c .before .before .before .before .before .before .before .before .before .pre .1 .4) _ _ _ _ _ (c .before .before .before .loop .inv .0) (c .before .before .loop-test .taken) (c .before .before .before .loop .inv .1) (c .before .row-head .ensures), c .before .before .before .loop .inv .2, c .before .before .before .before .before .before .before .before .before .pre .1 .8))
 
 walk-row-enum-known-step : (t : ℕ) → walk-row-lts.Need-enum-known-step (walk-row-claims t) (walk-row-at t) walk-row.Post walk-row-Inv-loop walk-row-μ-loop
 walk-row-enum-known-step t c = search needs
@@ -226,23 +228,23 @@ walk-row-enum-told t c = search needs
 
 walk-row-same-length : (t : ℕ) → walk-row-lts.Need-same-length (walk-row-claims t) (walk-row-at t) walk-row.Post walk-row-Inv-loop walk-row-μ-loop
 walk-row-same-length t c =
-    c .before .before .before .before .walk-member .kept .1 .1 .1 .1 .1 .1 .0 ∙ c .before .before .before .before .before .before .before .before .loop .inv .3
+    c .before .before .before .before .walk-member .kept .1 .1 .1 .1 .1 .1 .1 .0 ∙ c .before .before .before .before .before .before .before .before .loop .inv .3
 
 walk-row-returns : (t : ℕ) → walk-row-lts.Need-returns (walk-row-claims t) (walk-row-at t) walk-row.Post walk-row-Inv-loop walk-row-μ-loop
 walk-row-returns t c =
-    (turn-stop _ (single (look (c .before .before .before .before .before .before .before .before .before .before .before .before .before .args .plan .now))) _ _ _ (rowForm (look (c .before .before .before .before .before .before .before .before .before .before .before .before .before .args .plan .now) (c .before .before .before .before .before .before .before .before .before .before .before .before .before .args .node)) (c .before .before .before .before .before .before .before .before .before .before .before .before .before .args .part .now)) (c .before .before .before .before .before .before .before .before .loop .i) (c .before .before .before .before .before .before .before .before .loop .pos) _ _ _ (c .before .before .before .before .before .before .before .loop-test .taken) _ (c .before .before .before .before .before .before .row-head .ensures) _ _ (c .before .before .before .before .walk-member .ensures .0) _ _ (c .enum-told .given .1) ∙ sym (c .before .before .before .before .before .before .before .before .loop .inv .4), refused-within _ _ _ _ (c .enum-told .given .1))
+    (turn-stop _ (single (look (c .before .before .before .before .before .before .before .before .before .before .before .before .before .before .args .plan .now))) _ _ _ (rowForm (look (c .before .before .before .before .before .before .before .before .before .before .before .before .before .before .args .plan .now) (c .before .before .before .before .before .before .before .before .before .before .before .before .before .before .args .node)) (c .before .before .before .before .before .before .before .before .before .before .before .before .before .before .args .part .now)) (c .before .before .before .before .before .before .before .before .loop .i) (c .before .before .before .before .before .before .before .before .loop .pos) _ _ _ (c .before .before .before .before .before .before .before .loop-test .taken) _ (c .before .before .before .before .before .before .row-head .ensures) _ _ (c .before .before .before .before .walk-member .ensures .0) _ _ (c .enum-told .given .1) ∙ sym (c .before .before .before .before .before .before .before .before .loop .inv .4), refused-within _ _ _ _ (c .enum-told .given .1))
 
 walk-row-cast-to : (t : ℕ) → walk-row-lts.Need-cast-to (walk-row-claims t) (walk-row-at t) walk-row.Post walk-row-Inv-loop walk-row-μ-loop
 walk-row-cast-to t c = search needs
 
 walk-row-end-of-requires : (t : ℕ) → walk-row-lts.Need-end-of-requires (walk-row-claims t) (walk-row-at t) walk-row.Post walk-row-Inv-loop walk-row-μ-loop
 walk-row-end-of-requires t c κs =
-    let h = row-at _ _ (c .before .before .before .before .before .before .before .before .before .before .before .before .before .before .pre .1 .0) _ (c .before .before .before .before .before .before .before .before .before .before .before .before .before .before .pre .1 .1) (c .before .before .before .before .before .before .before .before .before .before .before .before .before .before .pre .1 .2) _ (c .before .before .before .before .before .before .before .before .before .before .before .before .before .before .pre .1 .3) (c .before .before .before .before .before .before .before .before .before .before .before .before .before .before .pre .1 .4) _ _ _ _ _ (c .before .before .before .before .before .before .before .before .before .loop .inv .0) (c .before .before .before .before .before .before .before .before .loop-test .taken) (c .before .before .before .before .before .before .before .before .before .loop .inv .1) (c .before .before .before .before .before .before .before .row-head .ensures) in
-    omega (arith, end-in _ _ _ _ h, c .before .before .before .before .before .before .before .before .before .before .before .before .before .before .pre .1 .5)
+    let h = row-at _ _ (c .before .before .before .before .before .before .before .before .before .before .before .before .before .before .before .pre .1 .0) _ (c .before .before .before .before .before .before .before .before .before .before .before .before .before .before .before .pre .1 .1) (c .before .before .before .before .before .before .before .before .before .before .before .before .before .before .before .pre .1 .2) _ (c .before .before .before .before .before .before .before .before .before .before .before .before .before .before .before .pre .1 .3) (c .before .before .before .before .before .before .before .before .before .before .before .before .before .before .before .pre .1 .4) _ _ _ _ _ (c .before .before .before .before .before .before .before .before .before .loop .inv .0) (c .before .before .before .before .before .before .before .before .loop-test .taken) (c .before .before .before .before .before .before .before .before .before .loop .inv .1) (c .before .before .before .before .before .before .before .row-head .ensures) in
+    omega (arith, end-in _ _ _ _ h, c .before .before .before .before .before .before .before .before .before .before .before .before .before .before .before .pre .1 .5)
 
 walk-row-add-i : (t : ℕ) → walk-row-lts.Need-add-i (walk-row-claims t) (walk-row-at t) walk-row.Post walk-row-Inv-loop walk-row-μ-loop
 walk-row-add-i t c =
-    omega (arith, c .before .before .before .before .before .before .before .before .before .before .loop .inv .0, c .before .before .before .before .before .before .before .before .before .loop-test .taken, c .before .before .before .before .before .before .before .before .before .before .before .before .before .before .before .pre .1 .4)
+    omega (arith, c .before .before .before .before .before .before .before .before .before .before .loop .inv .0, c .before .before .before .before .before .before .before .before .before .loop-test .taken, c .before .before .before .before .before .before .before .before .before .before .before .before .before .before .before .before .pre .1 .4)
 
 walk-row-sub-left : (t : ℕ) → walk-row-lts.Need-sub-left (walk-row-claims t) (walk-row-at t) walk-row.Post walk-row-Inv-loop walk-row-μ-loop
 walk-row-sub-left t c = search needs
@@ -253,43 +255,44 @@ walk-row-loop-less t c = omega arith
 walk-row-loop-again : (t : ℕ) → walk-row-lts.Need-loop-again (walk-row-claims t) (walk-row-at t) walk-row.Post walk-row-Inv-loop walk-row-μ-loop
 walk-row-loop-again t c =
     let w = reached-in _ _ _ _ (c .before .before .step .given .1) (c .before .before .before .before .before .before .walk-member .ensures .1) in
-    let h = row-at _ _ (c .before .before .before .before .before .before .before .before .before .before .before .before .before .before .before .pre .1 .0) _ (c .before .before .before .before .before .before .before .before .before .before .before .before .before .before .before .pre .1 .1) (c .before .before .before .before .before .before .before .before .before .before .before .before .before .before .before .pre .1 .2) _ (c .before .before .before .before .before .before .before .before .before .before .before .before .before .before .before .pre .1 .3) (c .before .before .before .before .before .before .before .before .before .before .before .before .before .before .before .pre .1 .4) _ _ _ _ _ (c .before .before .before .before .before .before .before .before .before .before .loop .inv .0) (c .before .before .before .before .before .before .before .before .before .loop-test .taken) (c .before .before .before .before .before .before .before .before .before .before .loop .inv .1) (c .before .before .before .before .before .before .before .before .row-head .ensures) in
-    (omega (arith, c .before .before .before .before .before .before .before .before .before .before .loop .inv .0, c .before .before .before .before .before .before .before .before .before .loop-test .taken), rw (c .end-of .ensures) (end-in _ _ _ _ h), rw (c .end-of .ensures) (w .1), c .before .before .before .before .before .before .walk-member .kept .1 .1 .1 .1 .1 .1 .0 ∙ c .before .before .before .before .before .before .before .before .before .before .loop .inv .3, c .before .before .before .before .before .before .before .before .before .before .loop .inv .4 ∙ turn-go _ (single (look (c .before .before .before .before .before .before .before .before .before .before .before .before .before .before .before .args .plan .now))) _ _ _ (rowForm (look (c .before .before .before .before .before .before .before .before .before .before .before .before .before .before .before .args .plan .now) (c .before .before .before .before .before .before .before .before .before .before .before .before .before .before .before .args .node)) (c .before .before .before .before .before .before .before .before .before .before .before .before .before .before .before .args .part .now)) (c .before .before .before .before .before .before .before .before .before .before .loop .i) (c .before .before .before .before .before .before .before .before .before .before .loop .pos) _ _ _ (c .before .before .before .before .before .before .before .before .before .loop-test .taken) _ (c .before .before .before .before .before .before .before .before .row-head .ensures) _ _ (c .before .before .before .before .before .before .walk-member .ensures .0) _ (c .before .before .step .given .1) _ refl _ (c .end-of .ensures))
+    let h = row-at _ _ (c .before .before .before .before .before .before .before .before .before .before .before .before .before .before .before .before .pre .1 .0) _ (c .before .before .before .before .before .before .before .before .before .before .before .before .before .before .before .before .pre .1 .1) (c .before .before .before .before .before .before .before .before .before .before .before .before .before .before .before .before .pre .1 .2) _ (c .before .before .before .before .before .before .before .before .before .before .before .before .before .before .before .before .pre .1 .3) (c .before .before .before .before .before .before .before .before .before .before .before .before .before .before .before .before .pre .1 .4) _ _ _ _ _ (c .before .before .before .before .before .before .before .before .before .before .loop .inv .0) (c .before .before .before .before .before .before .before .before .before .loop-test .taken) (c .before .before .before .before .before .before .before .before .before .before .loop .inv .1) (c .before .before .before .before .before .before .before .before .row-head .ensures) in
+    (omega (arith, c .before .before .before .before .before .before .before .before .before .before .loop .inv .0, c .before .before .before .before .before .before .before .before .before .loop-test .taken), rw (c .end-of .ensures) (end-in _ _ _ _ h), rw (c .end-of .ensures) (w .1), c .before .before .before .before .before .before .walk-member .kept .1 .1 .1 .1 .1 .1 .1 .0 ∙ c .before .before .before .before .before .before .before .before .before .before .loop .inv .3, c .before .before .before .before .before .before .before .before .before .before .loop .inv .4 ∙ turn-go _ (single (look (c .before .before .before .before .before .before .before .before .before .before .before .before .before .before .before .before .args .plan .now))) _ _ _ (rowForm (look (c .before .before .before .before .before .before .before .before .before .before .before .before .before .before .before .before .args .plan .now) (c .before .before .before .before .before .before .before .before .before .before .before .before .before .before .before .before .args .node)) (c .before .before .before .before .before .before .before .before .before .before .before .before .before .before .before .before .args .part .now)) (c .before .before .before .before .before .before .before .before .before .before .loop .i) (c .before .before .before .before .before .before .before .before .before .before .loop .pos) _ _ _ (c .before .before .before .before .before .before .before .before .before .loop-test .taken) _ (c .before .before .before .before .before .before .before .before .row-head .ensures) _ _ (c .before .before .before .before .before .before .walk-member .ensures .0) _ (c .before .before .step .given .1) _ refl _ (c .end-of .ensures))
 
 walk-row-end-elements-requires : (t : ℕ) → walk-row-lts.Need-end-elements-requires (walk-row-claims t) (walk-row-at t) walk-row.Post walk-row-Inv-loop walk-row-μ-loop
 walk-row-end-elements-requires t c κs =
-    (omega (arith, c .before .before .before .before .before .before .pre .1 .5), omega (arith, c .before .loop .inv .1, c .before .loop .inv .2, c .before .before .before .before .before .before .pre .1 .5))
+    (omega (arith, c .before .before .before .before .before .before .before .pre .1 .5), omega (arith, c .before .loop .inv .1, c .before .loop .inv .2, c .before .before .before .before .before .before .before .pre .1 .5))
 
 walk-row-same-length-2 : (t : ℕ) → walk-row-lts.Need-same-length-2 (walk-row-claims t) (walk-row-at t) walk-row.Post walk-row-Inv-loop walk-row-μ-loop
 walk-row-same-length-2 t c = c .before .before .loop .inv .3
 
 walk-row-returns-2 : (t : ℕ) → walk-row-lts.Need-returns-2 (walk-row-claims t) (walk-row-at t) walk-row.Post walk-row-Inv-loop walk-row-μ-loop
 walk-row-returns-2 t c =
-    (done _ (single (look (c .before .before .before .before .before .before .before .args .plan .now))) _ _ _ (rowForm (look (c .before .before .before .before .before .before .before .args .plan .now) (c .before .before .before .before .before .before .before .args .node)) (c .before .before .before .before .before .before .before .args .part .now)) (c .before .before .loop .i) (c .before .before .loop .pos) _ _ _ (c .before .loop-test .left) _ _ refl refl _ (c .end-elements .ensures) ∙ sym (c .before .before .loop .inv .4), end-within _ _ _ _ _ _ (c .end-elements .ensures) (omega (arith, c .before .before .loop .inv .1, c .before .before .loop .inv .2)))
+    (done _ (single (look (c .before .before .before .before .before .before .before .before .args .plan .now))) _ _ _ (rowForm (look (c .before .before .before .before .before .before .before .before .args .plan .now) (c .before .before .before .before .before .before .before .before .args .node)) (c .before .before .before .before .before .before .before .before .args .part .now)) (c .before .before .loop .i) (c .before .before .loop .pos) _ _ _ (c .before .loop-test .left) _ _ refl refl _ (c .end-elements .ensures) ∙ sym (c .before .before .loop .inv .4), end-within _ _ _ _ _ _ (c .end-elements .ensures) (omega (arith, c .before .before .loop .inv .1, c .before .before .loop .inv .2)))
 
 abbrev walk-sparse-Inv-loop : walk-sparse-lts.InvT-loop
-walk-sparse-Inv-loop plan node count base from part list₀ at n seen₀ left₀ pos₀ to₀ list seen left pos to =
+walk-sparse-Inv-loop plan needs node count base from part list₀ at n seen₀ given₀ left₀ pos₀ to₀ list seen given left pos to =
     (pos ≤ length part) × (4 * to ≤ 5 * (base + pos) + 20) × (length list ≡ length list₀)
     × (led (elements (sparseForm (cardsAt plan node) part) (valueOf (look plan)) (refAt (look plan node)) base part left₀ noMarks pos₀) to₀ list₀
     ≡ led (elements (sparseForm (cardsAt plan node) part) (valueOf (look plan)) (refAt (look plan node)) base part left (seen .marks) pos) to list)
+    × Counted plan node (seen .marks) given
 
 abbrev walk-sparse-μ-loop : walk-sparse-lts.MeasureT-loop
-walk-sparse-μ-loop plan node count base from part list₀ at n seen₀ left₀ pos₀ to₀ list seen left pos to = left
+walk-sparse-μ-loop plan needs node count base from part list₀ at n seen₀ given₀ left₀ pos₀ to₀ list seen given left pos to = left
 
 walk-sparse-second-at-requires : (t : ℕ) → walk-sparse-lts.Need-second-at-requires (walk-sparse-claims t) (walk-sparse-at t) walk-sparse.Post walk-sparse-Inv-loop walk-sparse-μ-loop
 walk-sparse-second-at-requires t c κs =
-    (c .before .before .before .pre .1 .0, λ e. omega (arith, c .before .before .before .pre .1 .1))
+    (c .before .before .before .before .pre .1 .0, λ e. omega (arith, c .before .before .before .before .pre .1 .1))
 
 walk-sparse-new-requires : (t : ℕ) → walk-sparse-lts.Need-new-requires (walk-sparse-claims t) (walk-sparse-at t) walk-sparse.Post walk-sparse-Inv-loop walk-sparse-μ-loop
 walk-sparse-new-requires t c κs = search needs
 
 walk-sparse-loop-holds : (t : ℕ) → walk-sparse-lts.Need-loop-holds (walk-sparse-claims t) (walk-sparse-at t) walk-sparse.Post walk-sparse-Inv-loop walk-sparse-μ-loop
 walk-sparse-loop-holds t c =
-    (c .before .before .before .before .before .pre .1 .3, c .before .before .before .before .before .pre .1 .4, refl, rw (c .new .ensures))
+    (c .before .before .before .before .before .before .pre .1 .3, c .before .before .before .before .before .before .pre .1 .4, refl, rw (c .new .ensures), counted-none _ _ _ (c .new .ensures))
 
 walk-sparse-sparse-index-requires : (t : ℕ) → walk-sparse-lts.Need-sparse-index-requires (walk-sparse-claims t) (walk-sparse-at t) walk-sparse.Post walk-sparse-Inv-loop walk-sparse-μ-loop
 walk-sparse-sparse-index-requires t c κs =
-    (c .before .loop .inv .0, rw (c .before .before .before .second-at .ensures) (at-few _ _ (c .before .before .before .before .before .before .before .pre .1 .0) (omega (arith, c .before .before .before .before .before .before .before .pre .1 .1)) (omega (arith, c .before .before .before .before .before .before .before .pre .1 .1))))
+    (c .before .loop .inv .0, rw (c .before .before .before .second-at .ensures) (at-few _ _ (c .before .before .before .before .before .before .before .before .pre .1 .0) (omega (arith, c .before .before .before .before .before .before .before .before .pre .1 .1)) (omega (arith, c .before .before .before .before .before .before .before .before .pre .1 .1))))
 
 walk-sparse-enum-known-index : (t : ℕ) → walk-sparse-lts.Need-enum-known-index (walk-sparse-claims t) (walk-sparse-at t) walk-sparse.Post walk-sparse-Inv-loop walk-sparse-μ-loop
 walk-sparse-enum-known-index t c = search needs
@@ -302,38 +305,43 @@ walk-sparse-index-fault-requires t c κs = search needs
 
 walk-sparse-refused-requires : (t : ℕ) → walk-sparse-lts.Need-refused-requires (walk-sparse-claims t) (walk-sparse-at t) walk-sparse.Post walk-sparse-Inv-loop walk-sparse-μ-loop
 walk-sparse-refused-requires t c κs =
-    omega (arith, c .before .before .before .before .before .before .before .before .before .before .before .pre .1 .2)
+    omega (arith, c .before .before .before .before .before .before .before .before .before .before .before .before .pre .1 .2)
 
 walk-sparse-same-length : (t : ℕ) → walk-sparse-lts.Need-same-length (walk-sparse-claims t) (walk-sparse-at t) walk-sparse.Post walk-sparse-Inv-loop walk-sparse-μ-loop
 walk-sparse-same-length t c = c .before .before .before .before .before .before .loop .inv .2
 
 walk-sparse-returns : (t : ℕ) → walk-sparse-lts.Need-returns (walk-sparse-claims t) (walk-sparse-at t) walk-sparse.Post walk-sparse-Inv-loop walk-sparse-μ-loop
 walk-sparse-returns t c =
-    (turn-fault _ (single (look (c .before .before .before .before .before .before .before .before .before .before .before .before .args .plan .now))) _ _ _ (sparseForm (cardsAt (c .before .before .before .before .before .before .before .before .before .before .before .before .args .plan .now) (c .before .before .before .before .before .before .before .before .before .before .before .before .args .node)) (c .before .before .before .before .before .before .before .before .before .before .before .before .args .part .now)) (c .before .before .before .before .before .before .loop .seen .marks) (c .before .before .before .before .before .before .loop .pos) _ _ _ (c .before .before .before .before .before .loop-test .taken) _ (head-bad _ _ _ _ _ (c .before .before .before .before .before .before .before .before .second-at .ensures ∙ sym (cards-length _ _)) _ _ _ (c .before .before .before .before .sparse-index .ensures) (c .before .before .enum-told .given .1) (c .before .index-fault .ensures)) _ (c .refused .ensures) ∙ sym (c .before .before .before .before .before .before .loop .inv .3), refused-within _ _ _ _ (c .refused .ensures))
+    (turn-fault _ (single (look (c .before .before .before .before .before .before .before .before .before .before .before .before .before .args .plan .now))) _ _ _ (sparseForm (cardsAt (c .before .before .before .before .before .before .before .before .before .before .before .before .before .args .plan .now) (c .before .before .before .before .before .before .before .before .before .before .before .before .before .args .node)) (c .before .before .before .before .before .before .before .before .before .before .before .before .before .args .part .now)) (c .before .before .before .before .before .before .loop .seen .marks) (c .before .before .before .before .before .before .loop .pos) _ _ _ (c .before .before .before .before .before .loop-test .taken) _ (head-bad _ _ _ _ _ (c .before .before .before .before .before .before .before .before .second-at .ensures ∙ sym (cards-length _ _)) _ _ _ (c .before .before .before .before .sparse-index .ensures) (c .before .before .enum-told .given .1) (c .before .index-fault .ensures)) _ (c .refused .ensures) ∙ sym (c .before .before .before .before .before .before .loop .inv .3), refused-within _ _ _ _ (c .refused .ensures))
 
 walk-sparse-mark-requires : (t : ℕ) → walk-sparse-lts.Need-mark-requires (walk-sparse-claims t) (walk-sparse-at t) walk-sparse.Post walk-sparse-Inv-loop walk-sparse-μ-loop
 walk-sparse-mark-requires t c κs =
-    known-in _ _ (c .before .before .before .before .before .before .before .before .before .before .before .pre .1 .0) (c .before .before .before .before .before .before .before .before .before .before .before .pre .1 .1) _ _ _ _ (c .before .before .before .before .before .before .before .second-at .ensures) _ (c .before .before .before .sparse-index .ensures) (c .before .index .given .1) (c .before .before .before .before .before .loop .inv .0) .1
+    known-in _ _ (c .before .before .before .before .before .before .before .before .before .before .before .before .pre .1 .0) (c .before .before .before .before .before .before .before .before .before .before .before .before .pre .1 .1) _ _ _ _ (c .before .before .before .before .before .before .before .second-at .ensures) _ (c .before .before .before .sparse-index .ensures) (c .before .index .given .1) (c .before .before .before .before .before .loop .inv .0) .1
 
 walk-sparse-refused-requires-2 : (t : ℕ) → walk-sparse-lts.Need-refused-requires-2 (walk-sparse-claims t) (walk-sparse-at t) walk-sparse.Post walk-sparse-Inv-loop walk-sparse-μ-loop
 walk-sparse-refused-requires-2 t c κs =
-    omega (arith, c .before .before .before .before .before .before .before .before .before .before .before .before .before .pre .1 .2)
+    omega (arith, c .before .before .before .before .before .before .before .before .before .before .before .before .before .before .pre .1 .2)
 
 walk-sparse-same-length-2 : (t : ℕ) → walk-sparse-lts.Need-same-length-2 (walk-sparse-claims t) (walk-sparse-at t) walk-sparse.Post walk-sparse-Inv-loop walk-sparse-μ-loop
 walk-sparse-same-length-2 t c = c .before .before .before .before .before .before .before .before .loop .inv .2
 
 walk-sparse-returns-2 : (t : ℕ) → walk-sparse-lts.Need-returns-2 (walk-sparse-claims t) (walk-sparse-at t) walk-sparse.Post walk-sparse-Inv-loop walk-sparse-μ-loop
 walk-sparse-returns-2 t c =
-    (turn-fault _ (single (look (c .before .before .before .before .before .before .before .before .before .before .before .before .before .before .args .plan .now))) _ _ _ (sparseForm (cardsAt (c .before .before .before .before .before .before .before .before .before .before .before .before .before .before .args .plan .now) (c .before .before .before .before .before .before .before .before .before .before .before .before .before .before .args .node)) (c .before .before .before .before .before .before .before .before .before .before .before .before .before .before .args .part .now)) (c .before .before .before .before .before .before .before .before .loop .seen .marks) (c .before .before .before .before .before .before .before .before .loop .pos) _ _ _ (c .before .before .before .before .before .before .before .loop-test .taken) _ (sparse-twice _ _ (c .before .before .before .before .before .before .before .before .before .before .before .before .before .before .pre .1 .0) (c .before .before .before .before .before .before .before .before .before .before .before .before .before .before .pre .1 .1) _ _ _ _ (c .before .before .before .before .before .before .before .before .before .before .second-at .ensures) _ (c .before .before .before .before .before .before .sparse-index .ensures) (c .before .before .before .before .index .given .1) (c .before .before .before .before .before .before .before .before .loop .seen .marks) (sym (c .before .before .mark .ensures .0) ∙ c .before .if1 .taken)) _ (c .refused2 .ensures) ∙ sym (c .before .before .before .before .before .before .before .before .loop .inv .3), refused-within _ _ _ _ (c .refused2 .ensures))
+    (turn-fault _ (single (look (c .before .before .before .before .before .before .before .before .before .before .before .before .before .before .before .args .plan .now))) _ _ _ (sparseForm (cardsAt (c .before .before .before .before .before .before .before .before .before .before .before .before .before .before .before .args .plan .now) (c .before .before .before .before .before .before .before .before .before .before .before .before .before .before .before .args .node)) (c .before .before .before .before .before .before .before .before .before .before .before .before .before .before .before .args .part .now)) (c .before .before .before .before .before .before .before .before .loop .seen .marks) (c .before .before .before .before .before .before .before .before .loop .pos) _ _ _ (c .before .before .before .before .before .before .before .loop-test .taken) _ (sparse-twice _ _ (c .before .before .before .before .before .before .before .before .before .before .before .before .before .before .before .pre .1 .0) (c .before .before .before .before .before .before .before .before .before .before .before .before .before .before .before .pre .1 .1) _ _ _ _ (c .before .before .before .before .before .before .before .before .before .before .second-at .ensures) _ (c .before .before .before .before .before .before .sparse-index .ensures) (c .before .before .before .before .index .given .1) (c .before .before .before .before .before .before .before .before .loop .seen .marks) (sym (c .before .before .mark .ensures .0) ∙ c .before .if1 .taken)) _ (c .refused2 .ensures) ∙ sym (c .before .before .before .before .before .before .before .before .loop .inv .3), refused-within _ _ _ _ (c .refused2 .ensures))
+
+walk-sparse-count-given-requires : (t : ℕ) → walk-sparse-lts.Need-count-given-requires (walk-sparse-claims t) (walk-sparse-at t) walk-sparse.Post walk-sparse-Inv-loop walk-sparse-μ-loop
+walk-sparse-count-given-requires t c κs =
+    let i = known-in _ _ (c .before .before .before .before .before .before .before .before .before .before .before .before .before .before .pre .1 .0) (c .before .before .before .before .before .before .before .before .before .before .before .before .before .before .pre .1 .1) _ _ _ _ (c .before .before .before .before .before .before .before .before .before .second-at .ensures) _ (c .before .before .before .before .before .sparse-index .ensures) (c .before .before .before .index .given .1) (c .before .before .before .before .before .before .before .loop .inv .0) in
+    (c .before .before .before .before .before .before .before .before .before .before .before .before .before .before .pre .1 .0, c .before .before .before .before .before .before .before .before .before .before .before .before .before .before .pre .1 .1, i .0, counted-few _ _ _ _ (c .before .before .before .before .before .before .before .loop .inv .4) (c .before .before .before .before .before .before .before .before .before .before .before .before .before .before .pre .1 .0) (c .before .before .before .before .before .before .before .before .before .before .before .before .before .before .pre .1 .1))
 
 walk-sparse-sparse-head-requires : (t : ℕ) → walk-sparse-lts.Need-sparse-head-requires (walk-sparse-claims t) (walk-sparse-at t) walk-sparse.Post walk-sparse-Inv-loop walk-sparse-μ-loop
 walk-sparse-sparse-head-requires t c κs =
-    let i = known-in _ _ (c .before .before .before .before .before .before .before .before .before .before .before .before .before .pre .1 .0) (c .before .before .before .before .before .before .before .before .before .before .before .before .before .pre .1 .1) _ _ _ _ (c .before .before .before .before .before .before .before .before .before .second-at .ensures) _ (c .before .before .before .before .before .sparse-index .ensures) (c .before .before .before .index .given .1) (c .before .before .before .before .before .before .before .loop .inv .0) in
-    (c .before .before .before .before .before .before .before .before .before .before .before .before .before .pre .1 .0, c .before .before .before .before .before .before .before .before .before .before .before .before .before .pre .1 .1, i .0, i .2)
+    let i = known-in _ _ (c .before .before .before .before .before .before .before .before .before .before .before .before .before .before .before .pre .1 .0) (c .before .before .before .before .before .before .before .before .before .before .before .before .before .before .before .pre .1 .1) _ _ _ _ (c .before .before .before .before .before .before .before .before .before .before .second-at .ensures) _ (c .before .before .before .before .before .before .sparse-index .ensures) (c .before .before .before .before .index .given .1) (c .before .before .before .before .before .before .before .before .loop .inv .0) in
+    (c .before .before .before .before .before .before .before .before .before .before .before .before .before .before .before .pre .1 .0, c .before .before .before .before .before .before .before .before .before .before .before .before .before .before .before .pre .1 .1, i .0, i .2)
 
 walk-sparse-walk-member-requires : (t : ℕ) → walk-sparse-lts.Need-walk-member-requires (walk-sparse-claims t) (walk-sparse-at t) walk-sparse.Post walk-sparse-Inv-loop walk-sparse-μ-loop
 walk-sparse-walk-member-requires t c κs =
-    (omega (arith, c .before .before .before .before .before .before .before .before .before .before .before .before .before .before .before .pre .0), (c .before .before .before .before .before .before .before .before .before .before .before .before .before .before .before .pre .1 .0, c .before .before .before .before .before .before .before .before .before .before .before .before .before .before .before .pre .1 .2, sparse-turn _ _ (c .before .before .before .before .before .before .before .before .before .before .before .before .before .before .before .pre .1 .0) (c .before .before .before .before .before .before .before .before .before .before .before .before .before .before .before .pre .1 .1) _ _ _ _ (c .before .before .before .before .before .before .before .before .before .before .before .second-at .ensures) _ (c .before .before .before .before .before .before .before .sparse-index .ensures) (c .before .before .before .before .before .index .given .1) (c .before .before .before .before .before .before .before .before .before .loop .seen .marks) (sym (c .before .before .before .mark .ensures .0) ∙ c .before .before .if1 .left) _ (c .before .sparse-head .ensures) (c .before .before .before .before .before .before .before .before .before .loop .inv .0) .inside, c .before .before .before .before .before .before .before .before .before .loop .inv .1))
+    (omega (arith, c .before .before .before .before .before .before .before .before .before .before .before .before .before .before .before .before .before .pre .0), (c .before .before .before .before .before .before .before .before .before .before .before .before .before .before .before .before .before .pre .1 .0, c .before .before .before .before .before .before .before .before .before .before .before .before .before .before .before .before .before .pre .1 .2, sparse-turn _ _ (c .before .before .before .before .before .before .before .before .before .before .before .before .before .before .before .before .before .pre .1 .0) (c .before .before .before .before .before .before .before .before .before .before .before .before .before .before .before .before .before .pre .1 .1) _ _ _ _ (c .before .before .before .before .before .before .before .before .before .before .before .before .second-at .ensures) _ (c .before .before .before .before .before .before .before .before .sparse-index .ensures) (c .before .before .before .before .before .before .index .given .1) (c .before .before .before .before .before .before .before .before .before .before .loop .seen .marks) (sym (c .before .before .before .before .mark .ensures .0) ∙ c .before .before .before .if1 .left) _ (c .before .sparse-head .ensures) (c .before .before .before .before .before .before .before .before .before .before .loop .inv .0) .inside, c .before .before .before .before .before .before .before .before .before .before .loop .inv .1, c .before .before .before .before .before .before .before .before .before .before .before .before .before .before .before .before .before .pre .1 .5))
 
 walk-sparse-enum-known-step : (t : ℕ) → walk-sparse-lts.Need-enum-known-step (walk-sparse-claims t) (walk-sparse-at t) walk-sparse.Post walk-sparse-Inv-loop walk-sparse-μ-loop
 walk-sparse-enum-known-step t c = search needs
@@ -343,20 +351,20 @@ walk-sparse-enum-told-2 t c = search needs
 
 walk-sparse-same-length-3 : (t : ℕ) → walk-sparse-lts.Need-same-length-3 (walk-sparse-claims t) (walk-sparse-at t) walk-sparse.Post walk-sparse-Inv-loop walk-sparse-μ-loop
 walk-sparse-same-length-3 t c =
-    c .before .before .before .before .walk-member .kept .1 .1 .1 .1 .1 .1 .0 ∙ c .before .before .before .before .before .before .before .before .before .before .before .before .before .before .loop .inv .2
+    c .before .before .before .before .walk-member .kept .1 .1 .1 .1 .1 .1 .1 .0 ∙ c .before .before .before .before .before .before .before .before .before .before .before .before .before .before .before .loop .inv .2
 
 walk-sparse-returns-3 : (t : ℕ) → walk-sparse-lts.Need-returns-3 (walk-sparse-claims t) (walk-sparse-at t) walk-sparse.Post walk-sparse-Inv-loop walk-sparse-μ-loop
 walk-sparse-returns-3 t c =
-    let r = sparse-turn _ _ (c .before .before .before .before .before .before .before .before .before .before .before .before .before .before .before .before .before .before .before .before .pre .1 .0) (c .before .before .before .before .before .before .before .before .before .before .before .before .before .before .before .before .before .before .before .before .pre .1 .1) _ _ _ _ (c .before .before .before .before .before .before .before .before .before .before .before .before .before .before .before .before .second-at .ensures) _ (c .before .before .before .before .before .before .before .before .before .before .before .before .sparse-index .ensures) (c .before .before .before .before .before .before .before .before .before .before .index .given .1) (c .before .before .before .before .before .before .before .before .before .before .before .before .before .before .loop .seen .marks) (sym (c .before .before .before .before .before .before .before .before .mark .ensures .0) ∙ c .before .before .before .before .before .before .before .if1 .left) _ (c .before .before .before .before .before .before .sparse-head .ensures) (c .before .before .before .before .before .before .before .before .before .before .before .before .before .before .loop .inv .0) in
-    (turn-stop _ (single (look (c .before .before .before .before .before .before .before .before .before .before .before .before .before .before .before .before .before .before .before .before .args .plan .now))) _ _ _ (sparseForm (cardsAt (c .before .before .before .before .before .before .before .before .before .before .before .before .before .before .before .before .before .before .before .before .args .plan .now) (c .before .before .before .before .before .before .before .before .before .before .before .before .before .before .before .before .before .before .before .before .args .node)) (c .before .before .before .before .before .before .before .before .before .before .before .before .before .before .before .before .before .before .before .before .args .part .now)) (c .before .before .before .before .before .before .before .before .before .before .before .before .before .before .loop .seen .marks) (c .before .before .before .before .before .before .before .before .before .before .before .before .before .before .loop .pos) _ _ _ (c .before .before .before .before .before .before .before .before .before .before .before .before .before .loop-test .taken) _ (r .is) _ _ (c .before .before .before .before .walk-member .ensures .0) _ _ (c .enum-told2 .given .1) ∙ sym (c .before .before .before .before .before .before .before .before .before .before .before .before .before .before .loop .inv .3), refused-within _ _ _ _ (c .enum-told2 .given .1))
+    let r = sparse-turn _ _ (c .before .before .before .before .before .before .before .before .before .before .before .before .before .before .before .before .before .before .before .before .before .before .pre .1 .0) (c .before .before .before .before .before .before .before .before .before .before .before .before .before .before .before .before .before .before .before .before .before .before .pre .1 .1) _ _ _ _ (c .before .before .before .before .before .before .before .before .before .before .before .before .before .before .before .before .before .second-at .ensures) _ (c .before .before .before .before .before .before .before .before .before .before .before .before .before .sparse-index .ensures) (c .before .before .before .before .before .before .before .before .before .before .before .index .given .1) (c .before .before .before .before .before .before .before .before .before .before .before .before .before .before .before .loop .seen .marks) (sym (c .before .before .before .before .before .before .before .before .before .mark .ensures .0) ∙ c .before .before .before .before .before .before .before .before .if1 .left) _ (c .before .before .before .before .before .before .sparse-head .ensures) (c .before .before .before .before .before .before .before .before .before .before .before .before .before .before .before .loop .inv .0) in
+    (turn-stop _ (single (look (c .before .before .before .before .before .before .before .before .before .before .before .before .before .before .before .before .before .before .before .before .before .before .args .plan .now))) _ _ _ (sparseForm (cardsAt (c .before .before .before .before .before .before .before .before .before .before .before .before .before .before .before .before .before .before .before .before .before .before .args .plan .now) (c .before .before .before .before .before .before .before .before .before .before .before .before .before .before .before .before .before .before .before .before .before .before .args .node)) (c .before .before .before .before .before .before .before .before .before .before .before .before .before .before .before .before .before .before .before .before .before .before .args .part .now)) (c .before .before .before .before .before .before .before .before .before .before .before .before .before .before .before .loop .seen .marks) (c .before .before .before .before .before .before .before .before .before .before .before .before .before .before .before .loop .pos) _ _ _ (c .before .before .before .before .before .before .before .before .before .before .before .before .before .before .loop-test .taken) _ (r .is) _ _ (c .before .before .before .before .walk-member .ensures .0) _ _ (c .enum-told2 .given .1) ∙ sym (c .before .before .before .before .before .before .before .before .before .before .before .before .before .before .before .loop .inv .3), refused-within _ _ _ _ (c .enum-told2 .given .1))
 
 walk-sparse-cast-to : (t : ℕ) → walk-sparse-lts.Need-cast-to (walk-sparse-claims t) (walk-sparse-at t) walk-sparse.Post walk-sparse-Inv-loop walk-sparse-μ-loop
 walk-sparse-cast-to t c = search needs
 
 walk-sparse-end-of-requires : (t : ℕ) → walk-sparse-lts.Need-end-of-requires (walk-sparse-claims t) (walk-sparse-at t) walk-sparse.Post walk-sparse-Inv-loop walk-sparse-μ-loop
 walk-sparse-end-of-requires t c κs =
-    let r = sparse-turn _ _ (c .before .before .before .before .before .before .before .before .before .before .before .before .before .before .before .before .before .before .before .before .before .pre .1 .0) (c .before .before .before .before .before .before .before .before .before .before .before .before .before .before .before .before .before .before .before .before .before .pre .1 .1) _ _ _ _ (c .before .before .before .before .before .before .before .before .before .before .before .before .before .before .before .before .before .second-at .ensures) _ (c .before .before .before .before .before .before .before .before .before .before .before .before .before .sparse-index .ensures) (c .before .before .before .before .before .before .before .before .before .before .before .index .given .1) (c .before .before .before .before .before .before .before .before .before .before .before .before .before .before .before .loop .seen .marks) (sym (c .before .before .before .before .before .before .before .before .before .mark .ensures .0) ∙ c .before .before .before .before .before .before .before .before .if1 .left) _ (c .before .before .before .before .before .before .before .sparse-head .ensures) (c .before .before .before .before .before .before .before .before .before .before .before .before .before .before .before .loop .inv .0) in
-    omega (arith, end-in _ _ _ _ (r .inside), c .before .before .before .before .before .before .before .before .before .before .before .before .before .before .before .before .before .before .before .before .before .pre .1 .2)
+    let r = sparse-turn _ _ (c .before .before .before .before .before .before .before .before .before .before .before .before .before .before .before .before .before .before .before .before .before .before .before .pre .1 .0) (c .before .before .before .before .before .before .before .before .before .before .before .before .before .before .before .before .before .before .before .before .before .before .before .pre .1 .1) _ _ _ _ (c .before .before .before .before .before .before .before .before .before .before .before .before .before .before .before .before .before .before .second-at .ensures) _ (c .before .before .before .before .before .before .before .before .before .before .before .before .before .before .sparse-index .ensures) (c .before .before .before .before .before .before .before .before .before .before .before .before .index .given .1) (c .before .before .before .before .before .before .before .before .before .before .before .before .before .before .before .before .loop .seen .marks) (sym (c .before .before .before .before .before .before .before .before .before .before .mark .ensures .0) ∙ c .before .before .before .before .before .before .before .before .before .if1 .left) _ (c .before .before .before .before .before .before .before .sparse-head .ensures) (c .before .before .before .before .before .before .before .before .before .before .before .before .before .before .before .before .loop .inv .0) in
+    omega (arith, end-in _ _ _ _ (r .inside), c .before .before .before .before .before .before .before .before .before .before .before .before .before .before .before .before .before .before .before .before .before .before .before .pre .1 .2)
 
 walk-sparse-sub-left : (t : ℕ) → walk-sparse-lts.Need-sub-left (walk-sparse-claims t) (walk-sparse-at t) walk-sparse.Post walk-sparse-Inv-loop walk-sparse-μ-loop
 walk-sparse-sub-left t c = search needs
@@ -366,34 +374,35 @@ walk-sparse-loop-less t c = omega arith
 
 walk-sparse-loop-again : (t : ℕ) → walk-sparse-lts.Need-loop-again (walk-sparse-claims t) (walk-sparse-at t) walk-sparse.Post walk-sparse-Inv-loop walk-sparse-μ-loop
 walk-sparse-loop-again t c =
+    let i = known-in _ _ (c .before .before .before .before .before .before .before .before .before .before .before .before .before .before .before .before .before .before .before .before .before .before .before .before .pre .1 .0) (c .before .before .before .before .before .before .before .before .before .before .before .before .before .before .before .before .before .before .before .before .before .before .before .before .pre .1 .1) _ _ _ _ (c .before .before .before .before .before .before .before .before .before .before .before .before .before .before .before .before .before .before .before .second-at .ensures) _ (c .before .before .before .before .before .before .before .before .before .before .before .before .before .before .before .sparse-index .ensures) (c .before .before .before .before .before .before .before .before .before .before .before .before .before .index .given .1) (c .before .before .before .before .before .before .before .before .before .before .before .before .before .before .before .before .before .loop .inv .0) in
     let w = reached-in _ _ _ _ (c .before .before .step .given .1) (c .before .before .before .before .before .before .walk-member .ensures .1) in
-    let r = sparse-turn _ _ (c .before .before .before .before .before .before .before .before .before .before .before .before .before .before .before .before .before .before .before .before .before .before .pre .1 .0) (c .before .before .before .before .before .before .before .before .before .before .before .before .before .before .before .before .before .before .before .before .before .before .pre .1 .1) _ _ _ _ (c .before .before .before .before .before .before .before .before .before .before .before .before .before .before .before .before .before .before .second-at .ensures) _ (c .before .before .before .before .before .before .before .before .before .before .before .before .before .before .sparse-index .ensures) (c .before .before .before .before .before .before .before .before .before .before .before .before .index .given .1) (c .before .before .before .before .before .before .before .before .before .before .before .before .before .before .before .before .loop .seen .marks) (sym (c .before .before .before .before .before .before .before .before .before .before .mark .ensures .0) ∙ c .before .before .before .before .before .before .before .before .before .if1 .left) _ (c .before .before .before .before .before .before .before .before .sparse-head .ensures) (c .before .before .before .before .before .before .before .before .before .before .before .before .before .before .before .before .loop .inv .0) in
-    (rw (c .end-of .ensures) (end-in _ _ _ _ (r .inside)), rw (c .end-of .ensures) (w .1), c .before .before .before .before .before .before .walk-member .kept .1 .1 .1 .1 .1 .1 .0 ∙ c .before .before .before .before .before .before .before .before .before .before .before .before .before .before .before .before .loop .inv .2, c .before .before .before .before .before .before .before .before .before .before .before .before .before .before .before .before .loop .inv .3 ∙ turn-go _ (single (look (c .before .before .before .before .before .before .before .before .before .before .before .before .before .before .before .before .before .before .before .before .before .before .args .plan .now))) _ _ _ (sparseForm (cardsAt (c .before .before .before .before .before .before .before .before .before .before .before .before .before .before .before .before .before .before .before .before .before .before .args .plan .now) (c .before .before .before .before .before .before .before .before .before .before .before .before .before .before .before .before .before .before .before .before .before .before .args .node)) (c .before .before .before .before .before .before .before .before .before .before .before .before .before .before .before .before .before .before .before .before .before .before .args .part .now)) (c .before .before .before .before .before .before .before .before .before .before .before .before .before .before .before .before .loop .seen .marks) (c .before .before .before .before .before .before .before .before .before .before .before .before .before .before .before .before .loop .pos) _ _ _ (c .before .before .before .before .before .before .before .before .before .before .before .before .before .before .before .loop-test .taken) _ (r .is) _ _ (c .before .before .before .before .before .before .walk-member .ensures .0) _ (c .before .before .step .given .1) _ (c .before .before .before .before .before .before .before .before .before .before .mark .ensures .1 ∙ r .next (w .0)) _ (c .end-of .ensures))
+    let r = sparse-turn _ _ (c .before .before .before .before .before .before .before .before .before .before .before .before .before .before .before .before .before .before .before .before .before .before .before .before .pre .1 .0) (c .before .before .before .before .before .before .before .before .before .before .before .before .before .before .before .before .before .before .before .before .before .before .before .before .pre .1 .1) _ _ _ _ (c .before .before .before .before .before .before .before .before .before .before .before .before .before .before .before .before .before .before .before .second-at .ensures) _ (c .before .before .before .before .before .before .before .before .before .before .before .before .before .before .before .sparse-index .ensures) (c .before .before .before .before .before .before .before .before .before .before .before .before .before .index .given .1) (c .before .before .before .before .before .before .before .before .before .before .before .before .before .before .before .before .before .loop .seen .marks) (sym (c .before .before .before .before .before .before .before .before .before .before .before .mark .ensures .0) ∙ c .before .before .before .before .before .before .before .before .before .before .if1 .left) _ (c .before .before .before .before .before .before .before .before .sparse-head .ensures) (c .before .before .before .before .before .before .before .before .before .before .before .before .before .before .before .before .before .loop .inv .0) in
+    (rw (c .end-of .ensures) (end-in _ _ _ _ (r .inside)), rw (c .end-of .ensures) (w .1), c .before .before .before .before .before .before .walk-member .kept .1 .1 .1 .1 .1 .1 .1 .0 ∙ c .before .before .before .before .before .before .before .before .before .before .before .before .before .before .before .before .before .loop .inv .2, c .before .before .before .before .before .before .before .before .before .before .before .before .before .before .before .before .before .loop .inv .3 ∙ turn-go _ (single (look (c .before .before .before .before .before .before .before .before .before .before .before .before .before .before .before .before .before .before .before .before .before .before .before .before .args .plan .now))) _ _ _ (sparseForm (cardsAt (c .before .before .before .before .before .before .before .before .before .before .before .before .before .before .before .before .before .before .before .before .before .before .before .before .args .plan .now) (c .before .before .before .before .before .before .before .before .before .before .before .before .before .before .before .before .before .before .before .before .before .before .before .before .args .node)) (c .before .before .before .before .before .before .before .before .before .before .before .before .before .before .before .before .before .before .before .before .before .before .before .before .args .part .now)) (c .before .before .before .before .before .before .before .before .before .before .before .before .before .before .before .before .before .loop .seen .marks) (c .before .before .before .before .before .before .before .before .before .before .before .before .before .before .before .before .before .loop .pos) _ _ _ (c .before .before .before .before .before .before .before .before .before .before .before .before .before .before .before .before .loop-test .taken) _ (r .is) _ _ (c .before .before .before .before .before .before .walk-member .ensures .0) _ (c .before .before .step .given .1) _ (c .before .before .before .before .before .before .before .before .before .before .before .mark .ensures .1 ∙ r .next (w .0)) _ (c .end-of .ensures), counted-next _ _ _ _ (c .before .before .before .before .before .before .before .before .before .before .before .before .before .before .before .before .before .loop .inv .4) _ (i .0) (i .1) (sym (c .before .before .before .before .before .before .before .before .before .before .before .mark .ensures .0) ∙ c .before .before .before .before .before .before .before .before .before .before .if1 .left) _ (c .before .before .before .before .before .before .before .before .before .before .before .mark .ensures .1) _ (c .before .before .before .before .before .before .before .before .before .count-given .ensures))
 
-walk-sparse-any-lacking-requires : (t : ℕ) → walk-sparse-lts.Need-any-lacking-requires (walk-sparse-claims t) (walk-sparse-at t) walk-sparse.Post walk-sparse-Inv-loop walk-sparse-μ-loop
-walk-sparse-any-lacking-requires t c κs =
-    (c .before .before .before .before .before .before .before .pre .1 .0, c .before .before .before .before .before .before .before .pre .1 .1)
+walk-sparse-needed-of-requires : (t : ℕ) → walk-sparse-lts.Need-needed-of-requires (walk-sparse-claims t) (walk-sparse-at t) walk-sparse.Post walk-sparse-Inv-loop walk-sparse-μ-loop
+walk-sparse-needed-of-requires t c κs =
+    (c .before .before .before .before .before .before .before .before .pre .1 .0, c .before .before .before .before .before .before .before .before .pre .1 .1, c .before .before .before .before .before .before .before .before .pre .1 .5)
 
 walk-sparse-end-elements-requires : (t : ℕ) → walk-sparse-lts.Need-end-elements-requires (walk-sparse-claims t) (walk-sparse-at t) walk-sparse.Post walk-sparse-Inv-loop walk-sparse-μ-loop
 walk-sparse-end-elements-requires t c κs =
-    (omega (arith, c .before .before .before .before .before .before .before .before .pre .1 .2), omega (arith, c .before .before .loop .inv .0, c .before .before .loop .inv .1, c .before .before .before .before .before .before .before .before .pre .1 .2))
+    (omega (arith, c .before .before .before .before .before .before .before .before .before .pre .1 .2), omega (arith, c .before .before .loop .inv .0, c .before .before .loop .inv .1, c .before .before .before .before .before .before .before .before .before .pre .1 .2))
 
 walk-sparse-same-length-4 : (t : ℕ) → walk-sparse-lts.Need-same-length-4 (walk-sparse-claims t) (walk-sparse-at t) walk-sparse.Post walk-sparse-Inv-loop walk-sparse-μ-loop
 walk-sparse-same-length-4 t c = c .before .before .before .loop .inv .2
 
 walk-sparse-returns-4 : (t : ℕ) → walk-sparse-lts.Need-returns-4 (walk-sparse-claims t) (walk-sparse-at t) walk-sparse.Post walk-sparse-Inv-loop walk-sparse-μ-loop
 walk-sparse-returns-4 t c =
-    (done _ (single (look (c .before .before .before .before .before .before .before .before .before .args .plan .now))) _ _ _ (sparseForm (cardsAt (c .before .before .before .before .before .before .before .before .before .args .plan .now) (c .before .before .before .before .before .before .before .before .before .args .node)) (c .before .before .before .before .before .before .before .before .before .args .part .now)) (c .before .before .before .loop .seen .marks) (c .before .before .before .loop .pos) _ _ _ (c .before .before .loop-test .left) _ _ refl (c .before .any-lacking .ensures) _ (c .end-elements .ensures) ∙ sym (c .before .before .before .loop .inv .3), end-within _ _ _ _ _ _ (c .end-elements .ensures) (omega (arith, c .before .before .before .loop .inv .0, c .before .before .before .loop .inv .1)))
+    (done _ (single (look (c .before .before .before .before .before .before .before .before .before .before .args .plan .now))) _ _ _ (sparseForm (cardsAt (c .before .before .before .before .before .before .before .before .before .before .args .plan .now) (c .before .before .before .before .before .before .before .before .before .before .args .node)) (c .before .before .before .before .before .before .before .before .before .before .args .part .now)) (c .before .before .before .loop .seen .marks) (c .before .before .before .loop .pos) _ _ _ (c .before .before .loop-test .left) _ _ refl (counted-end _ _ _ _ (c .before .before .before .loop .inv .4) _ (c .before .needed-of .ensures)) _ (c .end-elements .ensures) ∙ sym (c .before .before .before .loop .inv .3), end-within _ _ _ _ _ _ (c .end-elements .ensures) (omega (arith, c .before .before .before .loop .inv .0, c .before .before .before .loop .inv .1)))
 
 walk-value-kind-at-requires : (t : ℕ) → walk-value-lts.Need-kind-at-requires (walk-value-claims t) (walk-value-at t) walk-value.Post
-walk-value-kind-at-requires t c κs = c .before .before .before .pre .1 .0
+walk-value-kind-at-requires t c κs = c .before .before .before .before .pre .1 .0
 
 walk-value-is-leaf-requires : (t : ℕ) → walk-value-lts.Need-is-leaf-requires (walk-value-claims t) (walk-value-at t) walk-value.Post
 walk-value-is-leaf-requires t c κs = search needs
 
 walk-value-walk-leaf-requires : (t : ℕ) → walk-value-lts.Need-walk-leaf-requires (walk-value-claims t) (walk-value-at t) walk-value.Post
 walk-value-walk-leaf-requires t c κs =
-    (c .before .before .before .before .before .before .before .pre .1 .0, c .before .before .before .kind-at .ensures .is, sym (c .before .before .is-leaf .ensures) ∙ c .before .if1 .taken, c .before .before .before .before .before .before .before .pre .1 .1, c .before .before .before .before .before .before .before .pre .1 .2, c .before .before .before .before .before .before .before .pre .1 .3)
+    (c .before .before .before .before .before .before .before .before .pre .1 .0, c .before .before .before .kind-at .ensures .is, sym (c .before .before .is-leaf .ensures) ∙ c .before .if1 .taken, c .before .before .before .before .before .before .before .before .pre .1 .1, c .before .before .before .before .before .before .before .before .pre .1 .2, c .before .before .before .before .before .before .before .before .pre .1 .3)
 
 walk-value-same-length : (t : ℕ) → walk-value-lts.Need-same-length (walk-value-claims t) (walk-value-at t) walk-value.Post
 walk-value-same-length t c = search needs
@@ -403,7 +412,7 @@ walk-value-returns t c = c .before .before .walk-leaf .ensures
 
 walk-value-open-node-requires : (t : ℕ) → walk-value-lts.Need-open-node-requires (walk-value-claims t) (walk-value-at t) walk-value.Post
 walk-value-open-node-requires t c κs =
-    (c .before .before .before .before .before .before .pre .1 .0, inner-kind _ _ _ (c .before .before .kind-at .ensures) (sym (c .before .is-leaf .ensures) ∙ c .if1 .left))
+    (c .before .before .before .before .before .before .before .pre .1 .0, inner-kind _ _ _ (c .before .before .kind-at .ensures) (sym (c .before .is-leaf .ensures) ∙ c .if1 .left))
 
 walk-value-enum-known-opening : (t : ℕ) → walk-value-lts.Need-enum-known-opening (walk-value-claims t) (walk-value-at t) walk-value.Post
 walk-value-enum-known-opening t c = search needs
@@ -416,53 +425,53 @@ walk-value-opening-fault-requires t c κs = search needs
 
 walk-value-refused-requires : (t : ℕ) → walk-value-lts.Need-refused-requires (walk-value-claims t) (walk-value-at t) walk-value.Post
 walk-value-refused-requires t c κs =
-    omega (arith, c .before .before .before .before .before .before .before .before .before .before .pre .1 .2)
+    omega (arith, c .before .before .before .before .before .before .before .before .before .before .before .pre .1 .2)
 
 walk-value-returns-2 : (t : ℕ) → walk-value-lts.Need-returns-2 (walk-value-claims t) (walk-value-at t) walk-value.Post
 unfolding walkOf
 walk-value-returns-2 t c =
     let k = inner-kind _ _ _ (c .before .before .before .before .before .before .before .kind-at .ensures) (sym (c .before .before .before .before .before .before .is-leaf .ensures) ∙ c .before .before .before .before .before .if1 .left) in
-    (rw (c .refused .ensures, c .before .opening-fault .ensures) (value-wrong _ _ (c .before .before .before .before .before .before .before .before .before .before .before .pre .1 .0) _ k _ _ _ _ _ _ (c .before .before .before .before .open-node .ensures) _ (c .before .before .enum-told .given .1)), refused-within _ _ _ _ (c .refused .ensures))
+    (rw (c .refused .ensures, c .before .opening-fault .ensures) (value-wrong _ _ (c .before .before .before .before .before .before .before .before .before .before .before .before .pre .1 .0) _ k _ _ _ _ _ _ (c .before .before .before .before .open-node .ensures) _ (c .before .before .enum-told .given .1)), refused-within _ _ _ _ (c .refused .ensures))
 
 walk-value-put-entry-requires : (t : ℕ) → walk-value-lts.Need-put-entry-requires (walk-value-claims t) (walk-value-at t) walk-value.Post
 walk-value-put-entry-requires t c κs =
     let k = inner-kind _ _ _ (c .before .before .before .before .before .before .before .kind-at .ensures) (sym (c .before .before .before .before .before .before .is-leaf .ensures) ∙ c .before .before .before .before .before .if1 .left) in
-    let o = opened _ _ (c .before .before .before .before .before .before .before .before .before .before .before .pre .1 .0) _ k _ _ _ _ (sym (c .before .before .before .before .open-node .ensures) ∙ c .before .before .opening .given .1) in
-    (omega (arith, c .before .before .before .before .before .before .before .before .before .before .before .pre .1 .2, c .before .before .before .before .before .before .before .before .before .before .before .pre .1 .3), c .before .before .before .before .before .before .before .before .before .before .before .pre .1 .0 .small, c .before .before .before .before .before .before .before .before .before .before .before .pre .1 .1, omega (arith, c .before .before .before .before .before .before .before .before .before .before .before .pre .1 .2), omega (arith, c .before .before .before .before .before .before .before .before .before .before .before .pre .1 .2), omega (arith, o .0))
+    let o = opened _ _ (c .before .before .before .before .before .before .before .before .before .before .before .before .pre .1 .0) _ k _ _ _ _ (sym (c .before .before .before .before .open-node .ensures) ∙ c .before .before .opening .given .1) in
+    (omega (arith, c .before .before .before .before .before .before .before .before .before .before .before .before .pre .1 .2, c .before .before .before .before .before .before .before .before .before .before .before .before .pre .1 .3), c .before .before .before .before .before .before .before .before .before .before .before .before .pre .1 .0 .small, c .before .before .before .before .before .before .before .before .before .before .before .before .pre .1 .1, omega (arith, c .before .before .before .before .before .before .before .before .before .before .before .before .pre .1 .2), omega (arith, c .before .before .before .before .before .before .before .before .before .before .before .before .pre .1 .2), omega (arith, o .0))
 
 walk-value-add-to : (t : ℕ) → walk-value-lts.Need-add-to (walk-value-claims t) (walk-value-at t) walk-value.Post
 walk-value-add-to t c =
-    omega (arith, c .before .before .before .before .before .before .before .before .before .before .before .before .before .before .pre .1 .2, c .before .before .before .before .before .before .before .before .before .before .before .before .before .before .pre .1 .3)
+    omega (arith, c .before .before .before .before .before .before .before .before .before .before .before .before .before .before .before .pre .1 .2, c .before .before .before .before .before .before .before .before .before .before .before .before .before .before .before .pre .1 .3)
 
 walk-value-walk-sparse-requires : (t : ℕ) → walk-value-lts.Need-walk-sparse-requires (walk-value-claims t) (walk-value-at t) walk-value.Post
 walk-value-walk-sparse-requires t c κs =
     let k = inner-kind _ _ _ (c .before .before .before .before .before .before .before .before .before .before .before .before .kind-at .ensures) (sym (c .before .before .before .before .before .before .before .before .before .before .before .is-leaf .ensures) ∙ c .before .before .before .before .before .before .before .before .before .before .if1 .left) in
-    let o = opened _ _ (c .before .before .before .before .before .before .before .before .before .before .before .before .before .before .before .before .pre .1 .0) _ k _ _ _ _ (sym (c .before .before .before .before .before .before .before .before .before .open-node .ensures) ∙ c .before .before .before .before .before .before .before .opening .given .1) in
-    (omega (arith, c .before .before .before .before .before .before .before .before .before .before .before .before .before .before .before .before .pre .0), (c .before .before .before .before .before .before .before .before .before .before .before .before .before .before .before .before .pre .1 .0, sym (c .before .before .before .before .before .before .before .before .before .before .before .before .kind-at .ensures .is) ∙ c .before .if2 .taken, c .before .before .before .before .before .before .before .before .before .before .before .before .before .before .before .before .pre .1 .2, o .1, omega (arith, c .before .before .before .before .before .before .before .before .before .before .before .before .before .before .before .before .pre .1 .3)))
+    let o = opened _ _ (c .before .before .before .before .before .before .before .before .before .before .before .before .before .before .before .before .before .pre .1 .0) _ k _ _ _ _ (sym (c .before .before .before .before .before .before .before .before .before .open-node .ensures) ∙ c .before .before .before .before .before .before .before .opening .given .1) in
+    (omega (arith, c .before .before .before .before .before .before .before .before .before .before .before .before .before .before .before .before .before .pre .0), (c .before .before .before .before .before .before .before .before .before .before .before .before .before .before .before .before .before .pre .1 .0, sym (c .before .before .before .before .before .before .before .before .before .before .before .before .kind-at .ensures .is) ∙ c .before .if2 .taken, c .before .before .before .before .before .before .before .before .before .before .before .before .before .before .before .before .before .pre .1 .2, o .1, omega (arith, c .before .before .before .before .before .before .before .before .before .before .before .before .before .before .before .before .before .pre .1 .3), c .before .before .before .before .before .before .before .before .before .before .before .before .before .before .before .before .before .pre .1 .4))
 
 walk-value-same-length-2 : (t : ℕ) → walk-value-lts.Need-same-length-2 (walk-value-claims t) (walk-value-at t) walk-value.Post
 walk-value-same-length-2 t c =
-    c .before .before .walk-sparse .kept .1 .1 .1 .1 .1 .1 .0 ∙ c .before .before .before .before .before .before .before .put-entry .kept .0
+    c .before .before .walk-sparse .kept .1 .1 .1 .1 .1 .1 .1 .0 ∙ c .before .before .before .before .before .before .before .put-entry .kept .0
 
 walk-value-returns-3 : (t : ℕ) → walk-value-lts.Need-returns-3 (walk-value-claims t) (walk-value-at t) walk-value.Post
 walk-value-returns-3 t c =
     let k = inner-kind _ _ _ (c .before .before .before .before .before .before .before .before .before .before .before .before .before .before .before .kind-at .ensures) (sym (c .before .before .before .before .before .before .before .before .before .before .before .before .before .before .is-leaf .ensures) ∙ c .before .before .before .before .before .before .before .before .before .before .before .before .before .if1 .left) in
-    (c .before .before .walk-sparse .ensures .0 ∙ value-sparse _ _ (c .before .before .before .before .before .before .before .before .before .before .before .before .before .before .before .before .before .before .before .pre .1 .0) _ k _ _ _ _ _ _ (c .before .before .before .before .before .before .before .before .before .before .before .before .open-node .ensures) _ _ _ (c .before .before .before .before .before .before .before .before .before .before .opening .given .1) _ (c .before .before .before .before .before .before .before .put-entry .ensures) (sym (c .before .before .before .before .before .before .before .before .before .before .before .before .before .before .before .kind-at .ensures .is) ∙ c .before .before .before .before .if2 .taken), c .before .before .walk-sparse .ensures .1)
+    (c .before .before .walk-sparse .ensures .0 ∙ value-sparse _ _ (c .before .before .before .before .before .before .before .before .before .before .before .before .before .before .before .before .before .before .before .before .pre .1 .0) _ k _ _ _ _ _ _ (c .before .before .before .before .before .before .before .before .before .before .before .before .open-node .ensures) _ _ _ (c .before .before .before .before .before .before .before .before .before .before .opening .given .1) _ (c .before .before .before .before .before .before .before .put-entry .ensures) (sym (c .before .before .before .before .before .before .before .before .before .before .before .before .before .before .before .kind-at .ensures .is) ∙ c .before .before .before .before .if2 .taken), c .before .before .walk-sparse .ensures .1)
 
 walk-value-walk-row-requires : (t : ℕ) → walk-value-lts.Need-walk-row-requires (walk-value-claims t) (walk-value-at t) walk-value.Post
 walk-value-walk-row-requires t c κs =
     let k = inner-kind _ _ _ (c .before .before .before .before .before .before .before .before .before .before .before .before .kind-at .ensures) (sym (c .before .before .before .before .before .before .before .before .before .before .before .is-leaf .ensures) ∙ c .before .before .before .before .before .before .before .before .before .before .if1 .left) in
-    let o = opened _ _ (c .before .before .before .before .before .before .before .before .before .before .before .before .before .before .before .before .pre .1 .0) _ k _ _ _ _ (sym (c .before .before .before .before .before .before .before .before .before .open-node .ensures) ∙ c .before .before .before .before .before .before .before .opening .given .1) in
-    (omega (arith, c .before .before .before .before .before .before .before .before .before .before .before .before .before .before .before .before .pre .0), (c .before .before .before .before .before .before .before .before .before .before .before .before .before .before .before .before .pre .1 .0, same-kind _ _ _ _ k refl, (λ e. c .before .if2 .left (c .before .before .before .before .before .before .before .before .before .before .before .before .kind-at .ensures .is ∙ e)), opening-holds _ _ _ _ _ (is-row _ _ (c .before .before .before .before .before .before .before .before .before .before .before .before .before .before .before .before .pre .1 .0) _ k (λ e. c .before .if2 .left (c .before .before .before .before .before .before .before .before .before .before .before .before .kind-at .ensures .is ∙ e))) (sym (c .before .before .before .before .before .before .before .before .before .open-node .ensures) ∙ c .before .before .before .before .before .before .before .opening .given .1), o .0, c .before .before .before .before .before .before .before .before .before .before .before .before .before .before .before .before .pre .1 .2, o .1, omega (arith, c .before .before .before .before .before .before .before .before .before .before .before .before .before .before .before .before .pre .1 .3)))
+    let o = opened _ _ (c .before .before .before .before .before .before .before .before .before .before .before .before .before .before .before .before .before .pre .1 .0) _ k _ _ _ _ (sym (c .before .before .before .before .before .before .before .before .before .open-node .ensures) ∙ c .before .before .before .before .before .before .before .opening .given .1) in
+    (omega (arith, c .before .before .before .before .before .before .before .before .before .before .before .before .before .before .before .before .before .pre .0), (c .before .before .before .before .before .before .before .before .before .before .before .before .before .before .before .before .before .pre .1 .0, same-kind _ _ _ _ k refl, (λ e. c .before .if2 .left (c .before .before .before .before .before .before .before .before .before .before .before .before .kind-at .ensures .is ∙ e)), opening-holds _ _ _ _ _ (is-row _ _ (c .before .before .before .before .before .before .before .before .before .before .before .before .before .before .before .before .before .pre .1 .0) _ k (λ e. c .before .if2 .left (c .before .before .before .before .before .before .before .before .before .before .before .before .kind-at .ensures .is ∙ e))) (sym (c .before .before .before .before .before .before .before .before .before .open-node .ensures) ∙ c .before .before .before .before .before .before .before .opening .given .1), o .0, c .before .before .before .before .before .before .before .before .before .before .before .before .before .before .before .before .before .pre .1 .2, o .1, omega (arith, c .before .before .before .before .before .before .before .before .before .before .before .before .before .before .before .before .before .pre .1 .3), c .before .before .before .before .before .before .before .before .before .before .before .before .before .before .before .before .before .pre .1 .4))
 
 walk-value-same-length-3 : (t : ℕ) → walk-value-lts.Need-same-length-3 (walk-value-claims t) (walk-value-at t) walk-value.Post
 walk-value-same-length-3 t c =
-    c .before .before .walk-row .kept .1 .1 .1 .1 .1 .1 .1 .0 ∙ c .before .before .before .before .before .before .before .put-entry .kept .0
+    c .before .before .walk-row .kept .1 .1 .1 .1 .1 .1 .1 .1 .0 ∙ c .before .before .before .before .before .before .before .put-entry .kept .0
 
 walk-value-returns-4 : (t : ℕ) → walk-value-lts.Need-returns-4 (walk-value-claims t) (walk-value-at t) walk-value.Post
 walk-value-returns-4 t c =
     let k = inner-kind _ _ _ (c .before .before .before .before .before .before .before .before .before .before .before .before .before .before .before .kind-at .ensures) (sym (c .before .before .before .before .before .before .before .before .before .before .before .before .before .before .is-leaf .ensures) ∙ c .before .before .before .before .before .before .before .before .before .before .before .before .before .if1 .left) in
-    (c .before .before .walk-row .ensures .0 ∙ value-row _ _ (c .before .before .before .before .before .before .before .before .before .before .before .before .before .before .before .before .before .before .before .pre .1 .0) _ k _ _ _ _ _ _ (c .before .before .before .before .before .before .before .before .before .before .before .before .open-node .ensures) _ _ _ (c .before .before .before .before .before .before .before .before .before .before .opening .given .1) _ (c .before .before .before .before .before .before .before .put-entry .ensures) (λ e. c .before .before .before .before .if2 .left (c .before .before .before .before .before .before .before .before .before .before .before .before .before .before .before .kind-at .ensures .is ∙ e)), c .before .before .walk-row .ensures .1)
+    (c .before .before .walk-row .ensures .0 ∙ value-row _ _ (c .before .before .before .before .before .before .before .before .before .before .before .before .before .before .before .before .before .before .before .before .pre .1 .0) _ k _ _ _ _ _ _ (c .before .before .before .before .before .before .before .before .before .before .before .before .open-node .ensures) _ _ _ (c .before .before .before .before .before .before .before .before .before .before .opening .given .1) _ (c .before .before .before .before .before .before .before .put-entry .ensures) (λ e. c .before .before .before .before .if2 .left (c .before .before .before .before .before .before .before .before .before .before .before .before .before .before .before .kind-at .ensures .is ∙ e)), c .before .before .walk-row .ensures .1)
 
 pub +walk-member+walk-row+walk-sparse+walk-value-spec : {M : Type 1} → statement M
 +walk-member+walk-row+walk-sparse+walk-value-spec =
@@ -530,6 +539,7 @@ pub +walk-member+walk-row+walk-sparse+walk-value-spec : {M : Type 1} → stateme
     (walk-sparse-refused-requires-2 t)
     (walk-sparse-same-length-2 t)
     (walk-sparse-returns-2 t)
+    (walk-sparse-count-given-requires t)
     (walk-sparse-sparse-head-requires t)
     (walk-sparse-walk-member-requires t)
     (walk-sparse-enum-known-step t)
@@ -541,7 +551,7 @@ pub +walk-member+walk-row+walk-sparse+walk-value-spec : {M : Type 1} → stateme
     (walk-sparse-sub-left t)
     (walk-sparse-loop-less t)
     (walk-sparse-loop-again t)
-    (walk-sparse-any-lacking-requires t)
+    (walk-sparse-needed-of-requires t)
     (walk-sparse-end-elements-requires t)
     (walk-sparse-same-length-4 t)
     (walk-sparse-returns-4 t))
