@@ -17,18 +17,21 @@ use Rattle.value.proofs.Counted.{Counted, counted-none, counted-few, co
 use Prim.Native.Nat.{ℕ, _+_, _*_, _≤_, _<_}
 use borrow.Fn.Kinds.{In}
 use borrow.Fn.PlainCycle.{Measures, is, falls, and}
+use Rattle.value.proofs.walk.walk_container.Reads as walk-container
+use Rattle.value.proofs.walk.walk_container.Kinds as walk-container-kinds
+use Rattle.value.proofs.walk.+walk_container+walk_member+walk_row+walk_sparse+walk_value.Lts-walk_container as walk-container-lts
 use Rattle.value.proofs.walk.walk_member.Reads as walk-member
 use Rattle.value.proofs.walk.walk_member.Kinds as walk-member-kinds
-use Rattle.value.proofs.walk.+walk_member+walk_row+walk_sparse+walk_value.Lts-walk_member as walk-member-lts
+use Rattle.value.proofs.walk.+walk_container+walk_member+walk_row+walk_sparse+walk_value.Lts-walk_member as walk-member-lts
 use Rattle.value.proofs.walk.walk_row.Reads as walk-row
 use Rattle.value.proofs.walk.walk_row.Kinds as walk-row-kinds
-use Rattle.value.proofs.walk.+walk_member+walk_row+walk_sparse+walk_value.Lts-walk_row as walk-row-lts
+use Rattle.value.proofs.walk.+walk_container+walk_member+walk_row+walk_sparse+walk_value.Lts-walk_row as walk-row-lts
 use Rattle.value.proofs.walk.walk_sparse.Reads as walk-sparse
 use Rattle.value.proofs.walk.walk_sparse.Kinds as walk-sparse-kinds
-use Rattle.value.proofs.walk.+walk_member+walk_row+walk_sparse+walk_value.Lts-walk_sparse as walk-sparse-lts
+use Rattle.value.proofs.walk.+walk_container+walk_member+walk_row+walk_sparse+walk_value.Lts-walk_sparse as walk-sparse-lts
 use Rattle.value.proofs.walk.walk_value.Reads as walk-value
 use Rattle.value.proofs.walk.walk_value.Kinds as walk-value-kinds
-use Rattle.value.proofs.walk.+walk_member+walk_row+walk_sparse+walk_value.Lts-walk_value as walk-value-lts
+use Rattle.value.proofs.walk.+walk_container+walk_member+walk_row+walk_sparse+walk_value.Lts-walk_value as walk-value-lts
 use Rattle.heads.proofs.parts.end_of.Reads as end-of-reads
 use Rattle.heads.proofs.parts.index_fault.Reads as index-fault-reads
 use Rattle.heads.proofs.parts.opening_fault.Reads as opening-fault-reads
@@ -49,20 +52,43 @@ use Rattle.value.proofs.walk.end_elements.Reads as end-elements-reads
 use Rattle.value.proofs.walk.refused.Reads as refused-reads
 use Rattle.value.proofs.walk.walk_absent.Reads as walk-absent-reads
 use Rattle.value.proofs.walk.walk_leaf.Reads as walk-leaf-reads
-use Rattle.value.proofs.walk.+walk_member+walk_row+walk_sparse+walk_value.{statement}
-use Rattle.value.proofs.walk.+walk_member+walk_row+walk_sparse+walk_value.Tie.{close}
+use Rattle.value.proofs.walk.+walk_container+walk_member+walk_row+walk_sparse+walk_value.{
+  statement,
+}
+use Rattle.value.proofs.walk.+walk_container+walk_member+walk_row+walk_sparse+walk_value.Tie.{
+  close,
+}
+
+abbrev μ-walk-container : Measures 4 walk-container-kinds.ps ℕ
+μ-walk-container κs a = 4 * (a .1 .1 .0) + 2
 
 abbrev μ-walk-member : Measures 4 walk-member-kinds.ps ℕ
-μ-walk-member κs a = 3 * (a .1 .1 .0)
+μ-walk-member κs a = 4 * (a .1 .1 .0)
 
 abbrev μ-walk-row : Measures 4 walk-row-kinds.ps ℕ
-μ-walk-row κs a = 3 * (a .1 .1 .0) + 1
+μ-walk-row κs a = 4 * (a .1 .1 .0) + 1
 
 abbrev μ-walk-sparse : Measures 4 walk-sparse-kinds.ps ℕ
-μ-walk-sparse κs a = 3 * (a .1 .1 .0) + 1
+μ-walk-sparse κs a = 4 * (a .1 .1 .0) + 1
 
 abbrev μ-walk-value : Measures 4 walk-value-kinds.ps ℕ
-μ-walk-value κs a = 3 * (a .1 .1 .0) + 2
+μ-walk-value κs a = 4 * (a .1 .1 .0) + 3
+
+abbrev walk-container-at : ℕ → In 4 walk-container-kinds.ps
+walk-container-at t =
+    and
+    4
+    walk-container-kinds.ps
+    (is 4 walk-container-kinds.ps μ-walk-container t)
+    walk-container.Pre
+
+abbrev walk-container-below : ℕ → In 4 walk-container-kinds.ps
+walk-container-below t =
+    and
+    4
+    walk-container-kinds.ps
+    (falls 4 walk-container-kinds.ps _<_ μ-walk-container t)
+    walk-container.Pre
 
 abbrev walk-member-at : ℕ → In 4 walk-member-kinds.ps
 walk-member-at t =
@@ -95,6 +121,10 @@ abbrev walk-value-below : ℕ → In 4 walk-value-kinds.ps
 walk-value-below t =
     and 4 walk-value-kinds.ps (falls 4 walk-value-kinds.ps _<_ μ-walk-value t) walk-value.Pre
 
+abbrev walk-container-claims : ℕ → walk-container-lts.Claims
+walk-container-claims t =
+    (open-node-reads.Asked, open-node-reads.Learnt, opening-fault-reads.Asked, opening-fault-reads.Learnt, refused-reads.Asked, refused-reads.Learnt, put-entry-reads.Asked, put-entry-reads.Learnt, walk-sparse-below t, walk-sparse.Post, walk-row-below t, walk-row.Post)
+
 abbrev walk-member-claims : ℕ → walk-member-lts.Claims
 walk-member-claims t =
     (refused-reads.Asked, refused-reads.Learnt, ref-of-reads.Asked, ref-of-reads.Learnt, walk-absent-reads.Asked, walk-absent-reads.Learnt, walk-value-below t, walk-value.Post)
@@ -109,7 +139,70 @@ walk-sparse-claims t =
 
 abbrev walk-value-claims : ℕ → walk-value-lts.Claims
 walk-value-claims t =
-    (kind-at-reads.Asked, kind-at-reads.Learnt, is-leaf-reads.Asked, is-leaf-reads.Learnt, walk-leaf-reads.Asked, walk-leaf-reads.Learnt, open-node-reads.Asked, open-node-reads.Learnt, opening-fault-reads.Asked, opening-fault-reads.Learnt, refused-reads.Asked, refused-reads.Learnt, put-entry-reads.Asked, put-entry-reads.Learnt, walk-sparse-below t, walk-sparse.Post, walk-row-below t, walk-row.Post)
+    (kind-at-reads.Asked, kind-at-reads.Learnt, is-leaf-reads.Asked, is-leaf-reads.Learnt, walk-leaf-reads.Asked, walk-leaf-reads.Learnt, walk-container-below t, walk-container.Post)
+
+walk-container-open-node-requires : (t : ℕ) → walk-container-lts.Need-open-node-requires (walk-container-claims t) (walk-container-at t) walk-container.Post
+walk-container-open-node-requires t c κs =
+    (c .before .before .before .before .pre .1 .0, c .before .before .before .before .pre .1 .5)
+
+walk-container-enum-known-opening : (t : ℕ) → walk-container-lts.Need-enum-known-opening (walk-container-claims t) (walk-container-at t) walk-container.Post
+walk-container-enum-known-opening t c = search needs
+
+walk-container-enum-told : (t : ℕ) → walk-container-lts.Need-enum-told (walk-container-claims t) (walk-container-at t) walk-container.Post
+walk-container-enum-told t c = search needs
+
+walk-container-opening-fault-requires : (t : ℕ) → walk-container-lts.Need-opening-fault-requires (walk-container-claims t) (walk-container-at t) walk-container.Post
+walk-container-opening-fault-requires t c κs = search needs
+
+walk-container-refused-requires : (t : ℕ) → walk-container-lts.Need-refused-requires (walk-container-claims t) (walk-container-at t) walk-container.Post
+walk-container-refused-requires t c κs =
+    omega (arith, c .before .before .before .before .before .before .before .before .pre .1 .2)
+
+walk-container-returns : (t : ℕ) → walk-container-lts.Need-returns (walk-container-claims t) (walk-container-at t) walk-container.Post
+unfolding walkOf
+walk-container-returns t c =
+    let k = c .before .before .before .before .before .before .before .before .before .pre .1 .5 in
+    (rw (c .refused .ensures, c .before .opening-fault .ensures) (value-wrong _ _ (c .before .before .before .before .before .before .before .before .before .pre .1 .0) _ k _ _ _ _ _ _ (c .before .before .before .before .open-node .ensures) _ (c .before .before .enum-told .given .1)), refused-within _ _ _ _ (c .refused .ensures))
+
+walk-container-put-entry-requires : (t : ℕ) → walk-container-lts.Need-put-entry-requires (walk-container-claims t) (walk-container-at t) walk-container.Post
+walk-container-put-entry-requires t c κs =
+    let k = c .before .before .before .before .before .before .before .before .before .pre .1 .5 in
+    let o = opened _ _ (c .before .before .before .before .before .before .before .before .before .pre .1 .0) _ k _ _ _ _ (sym (c .before .before .before .before .open-node .ensures) ∙ c .before .before .opening .given .1) in
+    (omega (arith, c .before .before .before .before .before .before .before .before .before .pre .1 .2, c .before .before .before .before .before .before .before .before .before .pre .1 .3), c .before .before .before .before .before .before .before .before .before .pre .1 .0 .small, c .before .before .before .before .before .before .before .before .before .pre .1 .1, omega (arith, c .before .before .before .before .before .before .before .before .before .pre .1 .2), omega (arith, c .before .before .before .before .before .before .before .before .before .pre .1 .2), omega (arith, o .0))
+
+walk-container-add-to : (t : ℕ) → walk-container-lts.Need-add-to (walk-container-claims t) (walk-container-at t) walk-container.Post
+walk-container-add-to t c =
+    omega (arith, c .before .before .before .before .before .before .before .before .before .before .before .before .pre .1 .2, c .before .before .before .before .before .before .before .before .before .before .before .before .pre .1 .3)
+
+walk-container-walk-sparse-requires : (t : ℕ) → walk-container-lts.Need-walk-sparse-requires (walk-container-claims t) (walk-container-at t) walk-container.Post
+walk-container-walk-sparse-requires t c κs =
+    let k = c .before .before .before .before .before .before .before .before .before .before .before .before .before .before .pre .1 .5 in
+    let o = opened _ _ (c .before .before .before .before .before .before .before .before .before .before .before .before .before .before .pre .1 .0) _ k _ _ _ _ (sym (c .before .before .before .before .before .before .before .before .before .open-node .ensures) ∙ c .before .before .before .before .before .before .before .opening .given .1) in
+    (omega (arith, c .before .before .before .before .before .before .before .before .before .before .before .before .before .before .pre .0), (c .before .before .before .before .before .before .before .before .before .before .before .before .before .before .pre .1 .0, sym (c .before .before .before .before .before .before .before .before .before .before .before .before .before .before .pre .1 .5 .is) ∙ c .before .if1 .taken, c .before .before .before .before .before .before .before .before .before .before .before .before .before .before .pre .1 .2, o .1, omega (arith, c .before .before .before .before .before .before .before .before .before .before .before .before .before .before .pre .1 .3), c .before .before .before .before .before .before .before .before .before .before .before .before .before .before .pre .1 .4))
+
+walk-container-same-length : (t : ℕ) → walk-container-lts.Need-same-length (walk-container-claims t) (walk-container-at t) walk-container.Post
+walk-container-same-length t c =
+    c .before .before .walk-sparse .kept .1 .1 .1 .1 .1 .1 .1 .0 ∙ c .before .before .before .before .before .before .before .put-entry .kept .0
+
+walk-container-returns-2 : (t : ℕ) → walk-container-lts.Need-returns-2 (walk-container-claims t) (walk-container-at t) walk-container.Post
+walk-container-returns-2 t c =
+    let k = c .before .before .before .before .before .before .before .before .before .before .before .before .before .before .before .before .before .pre .1 .5 in
+    (c .before .before .walk-sparse .ensures .0 ∙ value-sparse _ _ (c .before .before .before .before .before .before .before .before .before .before .before .before .before .before .before .before .before .pre .1 .0) _ k _ _ _ _ _ _ (c .before .before .before .before .before .before .before .before .before .before .before .before .open-node .ensures) _ _ _ (c .before .before .before .before .before .before .before .before .before .before .opening .given .1) _ (c .before .before .before .before .before .before .before .put-entry .ensures) (sym (c .before .before .before .before .before .before .before .before .before .before .before .before .before .before .before .before .before .pre .1 .5 .is) ∙ c .before .before .before .before .if1 .taken), c .before .before .walk-sparse .ensures .1)
+
+walk-container-walk-row-requires : (t : ℕ) → walk-container-lts.Need-walk-row-requires (walk-container-claims t) (walk-container-at t) walk-container.Post
+walk-container-walk-row-requires t c κs =
+    let k = c .before .before .before .before .before .before .before .before .before .before .before .before .before .before .pre .1 .5 in
+    let o = opened _ _ (c .before .before .before .before .before .before .before .before .before .before .before .before .before .before .pre .1 .0) _ k _ _ _ _ (sym (c .before .before .before .before .before .before .before .before .before .open-node .ensures) ∙ c .before .before .before .before .before .before .before .opening .given .1) in
+    (omega (arith, c .before .before .before .before .before .before .before .before .before .before .before .before .before .before .pre .0), (c .before .before .before .before .before .before .before .before .before .before .before .before .before .before .pre .1 .0, same-kind _ _ _ _ k refl, (λ e. c .before .if1 .left (c .before .before .before .before .before .before .before .before .before .before .before .before .before .before .pre .1 .5 .is ∙ e)), opening-holds _ _ _ _ _ (is-row _ _ (c .before .before .before .before .before .before .before .before .before .before .before .before .before .before .pre .1 .0) _ k (λ e. c .before .if1 .left (c .before .before .before .before .before .before .before .before .before .before .before .before .before .before .pre .1 .5 .is ∙ e))) (sym (c .before .before .before .before .before .before .before .before .before .open-node .ensures) ∙ c .before .before .before .before .before .before .before .opening .given .1), o .0, c .before .before .before .before .before .before .before .before .before .before .before .before .before .before .pre .1 .2, o .1, omega (arith, c .before .before .before .before .before .before .before .before .before .before .before .before .before .before .pre .1 .3), c .before .before .before .before .before .before .before .before .before .before .before .before .before .before .pre .1 .4))
+
+walk-container-same-length-2 : (t : ℕ) → walk-container-lts.Need-same-length-2 (walk-container-claims t) (walk-container-at t) walk-container.Post
+walk-container-same-length-2 t c =
+    c .before .before .walk-row .kept .1 .1 .1 .1 .1 .1 .1 .1 .0 ∙ c .before .before .before .before .before .before .before .put-entry .kept .0
+
+walk-container-returns-3 : (t : ℕ) → walk-container-lts.Need-returns-3 (walk-container-claims t) (walk-container-at t) walk-container.Post
+walk-container-returns-3 t c =
+    let k = c .before .before .before .before .before .before .before .before .before .before .before .before .before .before .before .before .before .pre .1 .5 in
+    (c .before .before .walk-row .ensures .0 ∙ value-row _ _ (c .before .before .before .before .before .before .before .before .before .before .before .before .before .before .before .before .before .pre .1 .0) _ k _ _ _ _ _ _ (c .before .before .before .before .before .before .before .before .before .before .before .before .open-node .ensures) _ _ _ (c .before .before .before .before .before .before .before .before .before .before .opening .given .1) _ (c .before .before .before .before .before .before .before .put-entry .ensures) (λ e. c .before .before .before .before .if1 .left (c .before .before .before .before .before .before .before .before .before .before .before .before .before .before .before .before .before .pre .1 .5 .is ∙ e)), c .before .before .walk-row .ensures .1)
 
 walk-member-enum-known-head : (t : ℕ) → walk-member-lts.Need-enum-known-head (walk-member-claims t) (walk-member-at t) walk-member.Post
 walk-member-enum-known-head t c = search needs
@@ -410,72 +503,41 @@ walk-value-same-length t c = search needs
 walk-value-returns : (t : ℕ) → walk-value-lts.Need-returns (walk-value-claims t) (walk-value-at t) walk-value.Post
 walk-value-returns t c = c .before .before .walk-leaf .ensures
 
-walk-value-open-node-requires : (t : ℕ) → walk-value-lts.Need-open-node-requires (walk-value-claims t) (walk-value-at t) walk-value.Post
-walk-value-open-node-requires t c κs =
-    (c .before .before .before .before .before .before .before .pre .1 .0, inner-kind _ _ _ (c .before .before .kind-at .ensures) (sym (c .before .is-leaf .ensures) ∙ c .if1 .left))
-
-walk-value-enum-known-opening : (t : ℕ) → walk-value-lts.Need-enum-known-opening (walk-value-claims t) (walk-value-at t) walk-value.Post
-walk-value-enum-known-opening t c = search needs
-
-walk-value-enum-told : (t : ℕ) → walk-value-lts.Need-enum-told (walk-value-claims t) (walk-value-at t) walk-value.Post
-walk-value-enum-told t c = search needs
-
-walk-value-opening-fault-requires : (t : ℕ) → walk-value-lts.Need-opening-fault-requires (walk-value-claims t) (walk-value-at t) walk-value.Post
-walk-value-opening-fault-requires t c κs = search needs
-
-walk-value-refused-requires : (t : ℕ) → walk-value-lts.Need-refused-requires (walk-value-claims t) (walk-value-at t) walk-value.Post
-walk-value-refused-requires t c κs =
-    omega (arith, c .before .before .before .before .before .before .before .before .before .before .before .pre .1 .2)
-
-walk-value-returns-2 : (t : ℕ) → walk-value-lts.Need-returns-2 (walk-value-claims t) (walk-value-at t) walk-value.Post
-unfolding walkOf
-walk-value-returns-2 t c =
-    let k = inner-kind _ _ _ (c .before .before .before .before .before .before .before .kind-at .ensures) (sym (c .before .before .before .before .before .before .is-leaf .ensures) ∙ c .before .before .before .before .before .if1 .left) in
-    (rw (c .refused .ensures, c .before .opening-fault .ensures) (value-wrong _ _ (c .before .before .before .before .before .before .before .before .before .before .before .before .pre .1 .0) _ k _ _ _ _ _ _ (c .before .before .before .before .open-node .ensures) _ (c .before .before .enum-told .given .1)), refused-within _ _ _ _ (c .refused .ensures))
-
-walk-value-put-entry-requires : (t : ℕ) → walk-value-lts.Need-put-entry-requires (walk-value-claims t) (walk-value-at t) walk-value.Post
-walk-value-put-entry-requires t c κs =
-    let k = inner-kind _ _ _ (c .before .before .before .before .before .before .before .kind-at .ensures) (sym (c .before .before .before .before .before .before .is-leaf .ensures) ∙ c .before .before .before .before .before .if1 .left) in
-    let o = opened _ _ (c .before .before .before .before .before .before .before .before .before .before .before .before .pre .1 .0) _ k _ _ _ _ (sym (c .before .before .before .before .open-node .ensures) ∙ c .before .before .opening .given .1) in
-    (omega (arith, c .before .before .before .before .before .before .before .before .before .before .before .before .pre .1 .2, c .before .before .before .before .before .before .before .before .before .before .before .before .pre .1 .3), c .before .before .before .before .before .before .before .before .before .before .before .before .pre .1 .0 .small, c .before .before .before .before .before .before .before .before .before .before .before .before .pre .1 .1, omega (arith, c .before .before .before .before .before .before .before .before .before .before .before .before .pre .1 .2), omega (arith, c .before .before .before .before .before .before .before .before .before .before .before .before .pre .1 .2), omega (arith, o .0))
-
-walk-value-add-to : (t : ℕ) → walk-value-lts.Need-add-to (walk-value-claims t) (walk-value-at t) walk-value.Post
-walk-value-add-to t c =
-    omega (arith, c .before .before .before .before .before .before .before .before .before .before .before .before .before .before .before .pre .1 .2, c .before .before .before .before .before .before .before .before .before .before .before .before .before .before .before .pre .1 .3)
-
-walk-value-walk-sparse-requires : (t : ℕ) → walk-value-lts.Need-walk-sparse-requires (walk-value-claims t) (walk-value-at t) walk-value.Post
-walk-value-walk-sparse-requires t c κs =
-    let k = inner-kind _ _ _ (c .before .before .before .before .before .before .before .before .before .before .before .before .kind-at .ensures) (sym (c .before .before .before .before .before .before .before .before .before .before .before .is-leaf .ensures) ∙ c .before .before .before .before .before .before .before .before .before .before .if1 .left) in
-    let o = opened _ _ (c .before .before .before .before .before .before .before .before .before .before .before .before .before .before .before .before .before .pre .1 .0) _ k _ _ _ _ (sym (c .before .before .before .before .before .before .before .before .before .open-node .ensures) ∙ c .before .before .before .before .before .before .before .opening .given .1) in
-    (omega (arith, c .before .before .before .before .before .before .before .before .before .before .before .before .before .before .before .before .before .pre .0), (c .before .before .before .before .before .before .before .before .before .before .before .before .before .before .before .before .before .pre .1 .0, sym (c .before .before .before .before .before .before .before .before .before .before .before .before .kind-at .ensures .is) ∙ c .before .if2 .taken, c .before .before .before .before .before .before .before .before .before .before .before .before .before .before .before .before .before .pre .1 .2, o .1, omega (arith, c .before .before .before .before .before .before .before .before .before .before .before .before .before .before .before .before .before .pre .1 .3), c .before .before .before .before .before .before .before .before .before .before .before .before .before .before .before .before .before .pre .1 .4))
+walk-value-walk-container-requires : (t : ℕ) → walk-value-lts.Need-walk-container-requires (walk-value-claims t) (walk-value-at t) walk-value.Post
+walk-value-walk-container-requires t c κs =
+    (omega (arith, c .before .before .before .before .before .before .before .before .pre .0), (c .before .before .before .before .before .before .before .before .pre .1 .0, c .before .before .before .before .before .before .before .before .pre .1 .1, c .before .before .before .before .before .before .before .before .pre .1 .2, c .before .before .before .before .before .before .before .before .pre .1 .3, c .before .before .before .before .before .before .before .before .pre .1 .4, inner-kind _ _ _ (c .before .before .before .kind-at .ensures) (sym (c .before .before .is-leaf .ensures) ∙ c .before .if1 .left)))
 
 walk-value-same-length-2 : (t : ℕ) → walk-value-lts.Need-same-length-2 (walk-value-claims t) (walk-value-at t) walk-value.Post
-walk-value-same-length-2 t c =
-    c .before .before .walk-sparse .kept .1 .1 .1 .1 .1 .1 .1 .0 ∙ c .before .before .before .before .before .before .before .put-entry .kept .0
+walk-value-same-length-2 t c = c .before .before .walk-container .kept .1 .1 .1 .1 .1 .1 .1 .0
 
-walk-value-returns-3 : (t : ℕ) → walk-value-lts.Need-returns-3 (walk-value-claims t) (walk-value-at t) walk-value.Post
-walk-value-returns-3 t c =
-    let k = inner-kind _ _ _ (c .before .before .before .before .before .before .before .before .before .before .before .before .before .before .before .kind-at .ensures) (sym (c .before .before .before .before .before .before .before .before .before .before .before .before .before .before .is-leaf .ensures) ∙ c .before .before .before .before .before .before .before .before .before .before .before .before .before .if1 .left) in
-    (c .before .before .walk-sparse .ensures .0 ∙ value-sparse _ _ (c .before .before .before .before .before .before .before .before .before .before .before .before .before .before .before .before .before .before .before .before .pre .1 .0) _ k _ _ _ _ _ _ (c .before .before .before .before .before .before .before .before .before .before .before .before .open-node .ensures) _ _ _ (c .before .before .before .before .before .before .before .before .before .before .opening .given .1) _ (c .before .before .before .before .before .before .before .put-entry .ensures) (sym (c .before .before .before .before .before .before .before .before .before .before .before .before .before .before .before .kind-at .ensures .is) ∙ c .before .before .before .before .if2 .taken), c .before .before .walk-sparse .ensures .1)
+walk-value-returns-2 : (t : ℕ) → walk-value-lts.Need-returns-2 (walk-value-claims t) (walk-value-at t) walk-value.Post
+walk-value-returns-2 t c = c .before .before .walk-container .ensures
 
-walk-value-walk-row-requires : (t : ℕ) → walk-value-lts.Need-walk-row-requires (walk-value-claims t) (walk-value-at t) walk-value.Post
-walk-value-walk-row-requires t c κs =
-    let k = inner-kind _ _ _ (c .before .before .before .before .before .before .before .before .before .before .before .before .kind-at .ensures) (sym (c .before .before .before .before .before .before .before .before .before .before .before .is-leaf .ensures) ∙ c .before .before .before .before .before .before .before .before .before .before .if1 .left) in
-    let o = opened _ _ (c .before .before .before .before .before .before .before .before .before .before .before .before .before .before .before .before .before .pre .1 .0) _ k _ _ _ _ (sym (c .before .before .before .before .before .before .before .before .before .open-node .ensures) ∙ c .before .before .before .before .before .before .before .opening .given .1) in
-    (omega (arith, c .before .before .before .before .before .before .before .before .before .before .before .before .before .before .before .before .before .pre .0), (c .before .before .before .before .before .before .before .before .before .before .before .before .before .before .before .before .before .pre .1 .0, same-kind _ _ _ _ k refl, (λ e. c .before .if2 .left (c .before .before .before .before .before .before .before .before .before .before .before .before .kind-at .ensures .is ∙ e)), opening-holds _ _ _ _ _ (is-row _ _ (c .before .before .before .before .before .before .before .before .before .before .before .before .before .before .before .before .before .pre .1 .0) _ k (λ e. c .before .if2 .left (c .before .before .before .before .before .before .before .before .before .before .before .before .kind-at .ensures .is ∙ e))) (sym (c .before .before .before .before .before .before .before .before .before .open-node .ensures) ∙ c .before .before .before .before .before .before .before .opening .given .1), o .0, c .before .before .before .before .before .before .before .before .before .before .before .before .before .before .before .before .before .pre .1 .2, o .1, omega (arith, c .before .before .before .before .before .before .before .before .before .before .before .before .before .before .before .before .before .pre .1 .3), c .before .before .before .before .before .before .before .before .before .before .before .before .before .before .before .before .before .pre .1 .4))
-
-walk-value-same-length-3 : (t : ℕ) → walk-value-lts.Need-same-length-3 (walk-value-claims t) (walk-value-at t) walk-value.Post
-walk-value-same-length-3 t c =
-    c .before .before .walk-row .kept .1 .1 .1 .1 .1 .1 .1 .1 .0 ∙ c .before .before .before .before .before .before .before .put-entry .kept .0
-
-walk-value-returns-4 : (t : ℕ) → walk-value-lts.Need-returns-4 (walk-value-claims t) (walk-value-at t) walk-value.Post
-walk-value-returns-4 t c =
-    let k = inner-kind _ _ _ (c .before .before .before .before .before .before .before .before .before .before .before .before .before .before .before .kind-at .ensures) (sym (c .before .before .before .before .before .before .before .before .before .before .before .before .before .before .is-leaf .ensures) ∙ c .before .before .before .before .before .before .before .before .before .before .before .before .before .if1 .left) in
-    (c .before .before .walk-row .ensures .0 ∙ value-row _ _ (c .before .before .before .before .before .before .before .before .before .before .before .before .before .before .before .before .before .before .before .before .pre .1 .0) _ k _ _ _ _ _ _ (c .before .before .before .before .before .before .before .before .before .before .before .before .open-node .ensures) _ _ _ (c .before .before .before .before .before .before .before .before .before .before .opening .given .1) _ (c .before .before .before .before .before .before .before .put-entry .ensures) (λ e. c .before .before .before .before .if2 .left (c .before .before .before .before .before .before .before .before .before .before .before .before .before .before .before .kind-at .ensures .is ∙ e)), c .before .before .walk-row .ensures .1)
-
-pub +walk-member+walk-row+walk-sparse+walk-value-spec : {M : Type 1} → statement M
-+walk-member+walk-row+walk-sparse+walk-value-spec =
-    close μ-walk-member μ-walk-row μ-walk-sparse μ-walk-value (λ t. walk-member-lts.spec (walk-member-claims t) (walk-member-at t)
+pub +walk-container+walk-member+walk-row+walk-sparse+walk-value-spec : {M : Type 1} → statement M
++walk-container+walk-member+walk-row+walk-sparse+walk-value-spec =
+    close
+    μ-walk-container
+    μ-walk-member
+    μ-walk-row
+    μ-walk-sparse
+    μ-walk-value
+    (λ t. walk-container-lts.spec (walk-container-claims t) (walk-container-at t)
+    walk-container.Post
+    (walk-container-open-node-requires t)
+    (walk-container-enum-known-opening t)
+    (walk-container-enum-told t)
+    (walk-container-opening-fault-requires t)
+    (walk-container-refused-requires t)
+    (walk-container-returns t)
+    (walk-container-put-entry-requires t)
+    (walk-container-add-to t)
+    (walk-container-walk-sparse-requires t)
+    (walk-container-same-length t)
+    (walk-container-returns-2 t)
+    (walk-container-walk-row-requires t)
+    (walk-container-same-length-2 t)
+    (walk-container-returns-3 t))
+    (λ t. walk-member-lts.spec (walk-member-claims t) (walk-member-at t)
     walk-member.Post
     (walk-member-enum-known-head t)
     (walk-member-refused-requires t)
@@ -562,17 +624,6 @@ pub +walk-member+walk-row+walk-sparse+walk-value-spec : {M : Type 1} → stateme
     (walk-value-walk-leaf-requires t)
     (walk-value-same-length t)
     (walk-value-returns t)
-    (walk-value-open-node-requires t)
-    (walk-value-enum-known-opening t)
-    (walk-value-enum-told t)
-    (walk-value-opening-fault-requires t)
-    (walk-value-refused-requires t)
-    (walk-value-returns-2 t)
-    (walk-value-put-entry-requires t)
-    (walk-value-add-to t)
-    (walk-value-walk-sparse-requires t)
+    (walk-value-walk-container-requires t)
     (walk-value-same-length-2 t)
-    (walk-value-returns-3 t)
-    (walk-value-walk-row-requires t)
-    (walk-value-same-length-3 t)
-    (walk-value-returns-4 t)
+    (walk-value-returns-2 t)
