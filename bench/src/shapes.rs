@@ -128,6 +128,21 @@ pub fn sparse_object(count: u32) -> Subject {
     }
 }
 
+/// A set of so many empty input objects of a shape of 512: whatever an object costs beside its own
+/// eight bytes shows here the most. (One more would pass 65,535 bytes.)
+pub fn empty_objects(count: usize) -> Subject {
+    let nodes = [
+        vec![1, INT64],
+        object_node(6, &[[2, AT_MOST_ONE]; 512]),
+        vec![2, 4],
+    ];
+    Subject {
+        name: format!("set of {count} empty objects"),
+        plan: plan(&nodes),
+        value: set(&vec![object(&[]); count]),
+    }
+}
+
 /// An int64 under containers of one element each, so that the height is this.
 pub fn nested(height: usize) -> Subject {
     let mut nodes = vec![vec![1, INT64]];

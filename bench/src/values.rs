@@ -7,7 +7,9 @@
 //! was checked. Such rows say so.
 
 use crate::race::race;
-use crate::shapes::{bools, integers, mixed_object, nested, rows, sparse_object, Subject};
+use crate::shapes::{
+    bools, empty_objects, integers, mixed_object, nested, rows, sparse_object, Subject,
+};
 use crate::table;
 use compare::crossed::list;
 use compare::ffi;
@@ -28,6 +30,7 @@ pub fn print() {
         rows(700),
         sparse_object(500),
         nested(30),
+        empty_objects(8_189),
     ] {
         table::row(&subject.label(), subject.times());
     }
