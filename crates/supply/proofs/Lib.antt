@@ -10,3 +10,4 @@ pub mod Parts
 pub mod Elements
 pub mod Values
 pub mod Writes
+pub mod Lacks

@@ -2,6 +2,7 @@
 // containers' reserved fields are zero." A first pass judges and measures, a second puts the bytes out.
 pub mod front;
 pub mod head;
+pub mod lacking;
 pub mod list;
 pub mod walk;
 

@@ -6,6 +6,7 @@ use crate::Opened;
 use crate::Read;
 use crate::front;
 use crate::head;
+use crate::lacking;
 use crate::list;
 use heads::sparse::Seen;
 ghost use mathlib.Core.Path.{_≡_};
@@ -203,7 +204,7 @@ fn build_sparse(
         word = w;
         at = a;
     }
-    if value::node::any_lacking(plan, node, seen) {
+    if lacking::any_lacking(plan, node, seen) {
         return Built::Failed;
     }
     Built::Done { word, at }

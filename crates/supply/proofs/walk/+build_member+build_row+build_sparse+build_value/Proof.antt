@@ -47,7 +47,7 @@ use Rattle.supply.proofs.head.put_head.Reads as put-head-reads
 use Rattle.supply.proofs.list.next_entry.Reads as next-entry-reads
 use Rattle.supply.proofs.walk.build_absent.Reads as build-absent-reads
 use Rattle.supply.proofs.walk.build_leaf.Reads as build-leaf-reads
-use Rattle.value.proofs.node.any_lacking.Reads as any-lacking-reads
+use Rattle.supply.proofs.lacking.any_lacking.Reads as any-lacking-reads
 use Rattle.value.proofs.node.is_leaf.Reads as is-leaf-reads
 use Rattle.supply.proofs.walk.+build_member+build_row+build_sparse+build_value.{statement}
 use Rattle.supply.proofs.walk.+build_member+build_row+build_sparse+build_value.Tie.{close}
