@@ -17,7 +17,7 @@ use Rattle.run.specs.Run.{nothingIn, valueBy, checked}
 use Rattle.supply.specs.Supply.{Agrees, zeroValue, zeroed, HasSupply}
 use Rattle.supply.specs.Build.{buildOf}
 use Rattle.supply.specs.Write.{Put, refusedPut, putOut, madeBy, suppliedBy, roomed, writeOf}
-use Rattle.supply_laws.proofs.Fields.{Stands}
+use Rattle.rules.proofs.Parts.{stands-self}
 use Rattle.supply_laws.proofs.Zeros.{Whole, value-whole}
 
 -- ---- the call
@@ -52,7 +52,7 @@ module _ (p s : List ℕ) (bytes : (i : ℕ) → getD s i 0 < 256) where
       → Whole (look p) s src 0 (buildOf src (look p) (getD p 1 0) 0) (zeroValue (look p) fuel (getD p 1 0) s) (length s) f
   unfolding valueOf buildOf
   of-value src f small e =
-      let top : Stands s 0 s = record { rest = []; is = sym (append-nil s) } in
+      let top = stands-self s in
       rw e at (value-whole (look p) s src fuel (getD p 1 0) 0 0 s top bytes small)
 
   accepted-length : (f : Forest) → Accepts p s f → length (zeroed p s) ≡ length s

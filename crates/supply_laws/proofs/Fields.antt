@@ -20,6 +20,7 @@ use Rattle.heads.specs.declared.Opening.the-variants.{Elements, Wrong}
 use Rattle.heads.specs.declared.Head.{Head}
 use Rattle.heads.specs.declared.Head.the-variants.{Present, Absent, Fault}
 use Rattle.heads.proofs.Cases.{sized-cases, plain-cases, index-cases}
+use Rattle.rules.proofs.Parts.{Stands, stands-whole, stands-part}
 use Rattle.rules.specs.Node.{Node, leaf, enum, row, arrays, tuple, object, sparse, range}
 use Rattle.rules.specs.Values.{Form, rowHead, rowForm, sparseForm, openingOf}
 use Rattle.supply.specs.Supply.{zeros, Claim, SameFlags, SameBytes, zeroOpening, zeroHead, between}
@@ -43,27 +44,11 @@ bytes-part s b start n i =
 
 -- ---- where a value stands
 
--- s stands in t at a position
-pub record Stands (t : List ℕ) (base : ℕ) (s : List ℕ) : Type 0 where
-  pub rest : List ℕ
-  pub is : drop base t ≡ s ++ rest
-
 module _ (t : List ℕ) (base : ℕ) (s : List ℕ) (st : Stands t base s) where
   pub stands-first : 1 ≤ length s → getD t base 0 ≡ getD s 0 0
   stands-first h =
       let e : getD (drop base t) 0 0 ≡ getD t base 0 = rw add-zero at (getD-drop base t 0 0) in
       sym e ∙ rw (st .is) (List·getD-append s (st .rest) 0 0 h)
-
-  pub stands-whole : take (length s) (drop base t) ≡ s
-  stands-whole = rw (st .is) (take-append-seam s (st .rest))
-
-  -- a part of it
-  pub stands-part : (start n : ℕ) → start + n ≤ length s → Stands t (base + start) (take n (drop start s))
-  stands-part start n h =
-      record {
-        rest = drop n (drop start s) ++ st .rest;
-        is = rw (← drop-drop, st .is, drop-append-le start s (st .rest) (omega arith), ← append-assoc, take-append-drop);
-      }
 
 -- ---- words
 

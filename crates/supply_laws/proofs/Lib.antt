@@ -6,3 +6,4 @@ pub mod Fields
 pub mod Zeros
 pub mod Complete
 pub mod RoundTrip
+pub mod Exact

@@ -25,7 +25,8 @@ use Rattle.rules.proofs.Outcomes.{accepted-listed}
 use Rattle.rules.proofs.Widths.{elements-width}
 use Rattle.supply.specs.Supply.{Claim, Next, next, nextOf, SameLeaf, SameBytes, SamePart, Agree, AgreeNext, Agrees, zeroOpening, zeroHead, between, zeroPart, zeroMember, zeroElements, zeroRow, zeroSparse, zeroNode, zeroValue}
 use Rattle.supply.specs.Build.{Made, made, before, andThen, Builder, front, frontOf, Order, rowOrder, sparseOrder, mayLack, absentMade, headed, partMade, memberMade, stateAfter, elementsMade, leafMade, rowMade, sparseMade, nodeMade, entryMade, build}
-use Rattle.supply_laws.proofs.Fields.{Bytes, bytes-part, Stands, stands-whole, stands-part, HeadOf, Element, Again, row-again, sparse-again, Opens, Opened, opened}
+use Rattle.rules.proofs.Parts.{Stands, stands-whole, stands-part}
+use Rattle.supply_laws.proofs.Fields.{Bytes, bytes-part, HeadOf, Element, Again, row-again, sparse-again, Opens, Opened, opened}
 
 -- ---- the entries of a supply
 
