@@ -1,0 +1,42 @@
+/* Compiles a descriptor, runs a value by its plan, and prints the list: an entry a line.
+ *
+ *     cc examples/list.c $(pkg-config --cflags --libs rembulfose) -o list
+ */
+#include <rembulfose.h>
+#include <stdio.h>
+
+/* The blocks of std::int64 and of a set of it, the set's id, and the set {7, -1}. */
+static const uint8_t descriptor[] =
+    "\3\0\0\0\0\0\0\0\0\0\0\0\0\0\0\1\5\0\0\0\12std::int64\1\0\0"
+    "\0\21\21\21\21\21\21\21\21\21\21\21\21\21\21\21\21\0\0";
+static const uint8_t root[] = "\21\21\21\21\21\21\21\21\21\21\21\21\21\21\21\21";
+static const uint8_t value[] = "\0\0\0\1\0\0\0\0\0\0\0\0\0\0\0\2\0\0\0\1"
+                               "\0\0\0\10\0\0\0\0\0\0\0\7"
+                               "\0\0\0\10\377\377\377\377\377\377\377\377";
+
+static uint32_t word(const uint8_t *at) {
+    return (uint32_t)at[0] << 24 | (uint32_t)at[1] << 16 | (uint32_t)at[2] << 8 | at[3];
+}
+
+static int refused(const char *call, rembulfose_answer answer) {
+    if (answer.number != 0)
+        fprintf(stderr, "%s: refusal %u at %u\n", call, answer.number, answer.place);
+    return answer.number != 0;
+}
+
+/* A text has a zero after its last byte, which is not lent. */
+int main(void) {
+    uint8_t plan[64], list[256];
+    rembulfose_answer compiled = rembulfose_compile(descriptor, sizeof descriptor - 1, root,
+                                                    sizeof root - 1, plan, sizeof plan);
+    if (refused("compile", compiled))
+        return 1;
+    rembulfose_answer listed = rembulfose_run(plan, 4 * compiled.first, value, sizeof value - 1,
+                                              list, sizeof list);
+    if (refused("run", listed))
+        return 1;
+    for (const uint8_t *entry = list; entry < list + 4 * listed.first; entry += 20)
+        printf("node %u, index %u, start %u, length %u, below %u\n", word(entry), word(entry + 4),
+               word(entry + 8), word(entry + 12), word(entry + 16));
+    return 0;
+}
