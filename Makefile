@@ -1,4 +1,5 @@
 # make test: the gate. make bench: the benchmark's ratios. make install PREFIX=..: header, archive and pkg-config file.
+# make soak: 10,000,000 cases against the second program, not in the gate.
 .PHONY: test bench clean
 
 test:
@@ -10,7 +11,11 @@ bench:
 clean:
 	rm -rf target build
 
-.PHONY: install
+.PHONY: soak install
+soak:
+	bash tests/build
+	bash tests/soak
+
 PREFIX = /usr/local
 VERSION = 0.1.0
 place := $(abspath $(PREFIX))
