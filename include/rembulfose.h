@@ -126,6 +126,11 @@ rembulfose_answer rembulfose_find(const uint8_t *plan, size_t plan_len, const ui
 rembulfose_number rembulfose_find_number(const uint8_t *plan, size_t plan_len, const uint8_t *value, size_t value_len,
                                          const uint8_t *path, size_t path_len);
 
+/* A refusal number's meaning in English, without a full stop: "the message is not whole yet". 0 is "not refused". The text
+ * is constant and never null. This one is plain C beside the library (host/refusal.c, to be compiled with the host's own
+ * files), and nothing about it is proved. */
+const char *rembulfose_refusal_text(uint32_t number);
+
 #ifdef __cplusplus
 }
 #endif
