@@ -1,0 +1,169 @@
+/* panel: shows what a capture of the wire holds. */
+#include "bytes.h"
+#include "commands.h"
+
+#include <errno.h>
+#include <stdbool.h>
+#include <stdio.h>
+#include <stdlib.h>
+#include <string.h>
+
+static const char help[] =
+    "panel - decodes a capture of the wire between a panel and its batch tracker\n"
+    "\n"
+    "usage:\n"
+    "  panel show  [--client] [FILE]           print every message\n"
+    "  panel check [--client] [FILE]           read every message, stop at the first refusal\n"
+    "  panel find  [--client] FILE ROW [PATH]  print one element of a row\n"
+    "  panel --help                            print this\n"
+    "\n"
+    "FILE is a capture; without one, or with -, standard input is read.\n"
+    "ROW counts the capture's D messages from 1, as `panel show` does.\n"
+    "PATH is the indexes that lead to the element from the top, with dots between\n"
+    "them, as `panel show` prints them: 2 is the third element, 2.0 the first one\n"
+    "inside it. A range's bounds are 0 (lower) and 1 (upper). Without a path the\n"
+    "whole row is printed.\n"
+    "\n"
+    "A D's value is read by the output descriptor of the last T before it, and the\n"
+    "state data of a C by the last s, if it has the id that the C names. Whatever\n"
+    "the library refuses is printed with the number, its meaning, and the bytes\n"
+    "around the place. `show` goes on after a refusal where it can.\n"
+    "\n"
+    "captures:\n"
+    "  side-marked   The line \"rembulfose-capture 1\", then records: a byte for the\n"
+    "                side (0 client, 1 server), a length of 4 bytes, big-endian, and\n"
+    "                so many bytes, which are whole messages of that side.\n"
+    "  one-sided     Any other file: the bytes that the server sent, as they went\n"
+    "                over the wire; with --client, those that the client sent.\n"
+    "\n"
+    "Colour and the bar for long captures appear on a terminal only. If NO_COLOR is\n"
+    "set there is no colour.\n"
+    "\n"
+    "exit status:\n"
+    "  0  all was printed; check: nothing was refused; find: the element was found\n"
+    "  1  check: something was refused, or could not be checked; find: not found\n"
+    "  2  the command was not understood, or the capture could not be read\n";
+
+struct arguments {
+    const char *command;
+    const char *words[3]; /* FILE ROW PATH */
+    int count;
+    uint32_t side;
+};
+
+int no_memory(void) {
+    fputs("panel: no memory\n", stderr);
+    return TROUBLE;
+}
+
+int finished(int status) {
+    if (fflush(stdout) == 0 && !ferror(stdout))
+        return status;
+    fprintf(stderr, "panel: cannot print: %s\n", strerror(errno));
+    return TROUBLE;
+}
+
+static int misused(const char *why) {
+    fprintf(stderr, "panel: %s\nTry `panel --help`.\n", why);
+    return TROUBLE;
+}
+
+/* Sorts the arguments; false if there are too many or an option is not known. */
+static bool sort_arguments(int count, char **words, struct arguments *arguments) {
+    *arguments = (struct arguments){.command = words[1], .side = SERVER};
+    for (int i = 2; i < count; i++) {
+        if (strcmp(words[i], "--client") == 0)
+            arguments->side = CLIENT;
+        else if ((words[i][0] == '-' && words[i][1] != 0) || arguments->count == 3)
+            return false;
+        else
+            arguments->words[arguments->count++] = words[i];
+    }
+    return true;
+}
+
+/* A number below 2^32 in decimal digits alone, which `*text` moves past; false if there is none. */
+static bool take_number(const char **text, uint32_t *number) {
+    uint64_t sum = 0;
+    if (**text < '0' || **text > '9')
+        return false;
+    for (; **text >= '0' && **text <= '9' && sum <= UINT32_MAX; ++*text)
+        sum = 10 * sum + (uint64_t)(**text - '0');
+    *number = (uint32_t)sum;
+    return sum <= UINT32_MAX;
+}
+
+/* The words of a path, 4 bytes each; how many in `*count`. False if it is no path. `path` has four
+ * bytes for each two letters of the text, and four more. */
+static bool take_path(const char *text, uint8_t *path, size_t *count) {
+    uint32_t index;
+    *count = 0;
+    if (*text == 0)
+        return true;
+    while (take_number(&text, &index)) {
+        put_32(path + 4 * (*count)++, index);
+        if (*text == 0)
+            return true;
+        if (*text++ != '.')
+            return false;
+    }
+    return false;
+}
+
+static int run_find(const struct arguments *arguments, const struct capture *capture) {
+    const char *row_text = arguments->words[1];
+    const char *path_text = arguments->count > 2 ? arguments->words[2] : "";
+    uint8_t *path = malloc(4 * (strlen(path_text) / 2 + 1));
+    uint32_t row;
+    size_t path_words;
+    int status;
+    if (path == NULL)
+        return no_memory();
+    if (!take_number(&row_text, &row) || *row_text != 0 || row == 0)
+        status = misused("ROW is a number from 1 up");
+    else if (!take_path(path_text, path, &path_words))
+        status = misused("PATH is numbers with dots between them");
+    else
+        status = command_find(capture, row, path, path_words);
+    free(path);
+    return status;
+}
+
+static int run(const struct arguments *arguments) {
+    struct capture capture;
+    int status;
+    const char *name = arguments->words[0];
+    if (!capture_load(&capture, name, arguments->side)) {
+        fprintf(stderr, "panel: cannot read %s: %s\n", name == NULL ? "standard input" : name,
+                strerror(errno));
+        return TROUBLE;
+    }
+    if (strcmp(arguments->command, "show") == 0)
+        status = command_show(&capture);
+    else if (strcmp(arguments->command, "check") == 0)
+        status = command_check(&capture);
+    else
+        status = run_find(arguments, &capture);
+    capture_free(&capture);
+    return status;
+}
+
+int main(int count, char **words) {
+    struct arguments arguments;
+    if (count < 2)
+        return misused("a command is missing");
+    if (strcmp(words[1], "--help") == 0 || strcmp(words[1], "-h") == 0) {
+        fputs(help, stdout);
+        return finished(DONE);
+    }
+    bool find = strcmp(words[1], "find") == 0;
+    if (!find && strcmp(words[1], "show") != 0 && strcmp(words[1], "check") != 0)
+        return misused("no such command");
+    if (!sort_arguments(count, words, &arguments))
+        return misused("an argument is not understood");
+    if (find && arguments.count < 2)
+        return misused("find needs FILE and ROW");
+    if (!find && arguments.count > 1)
+        return misused("too many arguments");
+    return run(&arguments);
+}

@@ -1,0 +1,188 @@
+#include "messages.h"
+
+#include "bytes.h"
+#include "hexview.h"
+#include "layouts.h"
+#include "tree.h"
+
+#include <inttypes.h>
+
+enum { FIELD_WIDTH = 18 };
+
+/* The fields of a message that are still to be printed. */
+struct fields {
+    const struct message *message;
+    size_t next; /* a word of the list */
+};
+
+static const char *side_name(uint32_t side) {
+    return side == CLIENT ? "client" : side == SERVER ? "server" : "unknown side";
+}
+
+void print_message_head(const struct screen *screen, const struct message *message) {
+    uint8_t type = message->bytes[0];
+    const struct layout *layout = layout_of(message->record.side, type);
+    print(screen, STRONG, "message %lu: %s ", message->number, side_name(message->record.side));
+    if (type > 0x20 && type < 0x7f)
+        print(screen, STRONG, "%c", type);
+    else
+        print(screen, STRONG, "%02x", type);
+    print(screen, STRONG, " %s", layout == NULL ? "(unknown)" : layout->name);
+    print(screen, FAINT, ", %zu bytes at %zu", message->length, message->at);
+    if (message->row > 0)
+        print(screen, GOOD, ", row %lu", message->row);
+    fputc('\n', screen->out);
+}
+
+static uint64_t number_of(const uint8_t *bytes, size_t length) {
+    uint64_t number = 0;
+    for (size_t i = 0; i < length; i++)
+        number = number << 8 | bytes[i];
+    return number;
+}
+
+static void print_code(const struct screen *screen, const struct code *codes, uint8_t code) {
+    while (codes->meaning != NULL && codes->code != code)
+        codes++;
+    fprintf(screen->out, "%s (%02x)", codes->meaning == NULL ? "unknown" : codes->meaning, code);
+}
+
+/* Bytes that are printable letters only are more often meant as text. */
+static bool looks_like_text(const uint8_t *bytes, size_t length) {
+    for (size_t i = 0; i < length; i++)
+        if (bytes[i] < 0x20 || bytes[i] > 0x7e)
+            return false;
+    return length > 0;
+}
+
+static void print_field(const struct screen *screen, const struct field *field,
+                        const uint8_t *bytes, size_t length) {
+    if (field->form == TEXT || (field->form == BYTES_FIELD && looks_like_text(bytes, length)))
+        print_text(screen, bytes, length, true);
+    else if (field->form == BYTES_FIELD)
+        fprintf(screen->out, "%zu bytes", length);
+    else if (field->form == UUID_FIELD && length == 16)
+        print_uuid(screen, bytes);
+    else if (field->form == CODE && length == 1)
+        print_code(screen, field->codes, bytes[0]);
+    else if (field->form == BITS)
+        fprintf(screen->out, "%0*" PRIx64, (int)(2 * length), number_of(bytes, length));
+    else
+        fprintf(screen->out, "%" PRIu64, number_of(bytes, length));
+    fputc('\n', screen->out);
+}
+
+static void print_fields(const struct screen *screen, unsigned depth, const struct field *field,
+                         struct fields *fields);
+
+/* A run's items, each with its number. */
+static void print_items(const struct screen *screen, unsigned depth, const struct field *items,
+                        uint64_t count, struct fields *fields) {
+    for (uint64_t i = 0; i < count; i++) {
+        print_indent(screen, depth);
+        fprintf(screen->out, "%" PRIu64 ":\n", i);
+        print_fields(screen, depth + 1, items, fields);
+    }
+}
+
+static void print_fields(const struct screen *screen, unsigned depth, const struct field *field,
+                         struct fields *fields) {
+    const struct message *message = fields->message;
+    for (; field->name != NULL && fields->next + 2 <= message->answer.second; field++) {
+        const uint8_t *bytes = message->bytes + get_word(message->fields, fields->next);
+        size_t length = get_word(message->fields, fields->next + 1);
+        fields->next += 2;
+        print_indent(screen, depth);
+        fprintf(screen->out, "%-*s ", FIELD_WIDTH, field->name);
+        print_field(screen, field, bytes, length);
+        if (field->form == RUN)
+            print_items(screen, depth + 1, field->items, number_of(bytes, length), fields);
+    }
+}
+
+void print_message_refusal(const struct screen *screen, unsigned depth,
+                           const struct message *message) {
+    print_refusal(screen, depth, message->answer.number, message->answer.place, "message",
+                  message->bytes, message->length, message->at);
+}
+
+void print_part_refusal(const struct screen *screen, unsigned depth, const struct part *part) {
+    print_refusal(screen, depth, part->answer.number, part->answer.place, part->name, part->bytes,
+                  part->length, part->at);
+}
+
+void print_cut_record(const struct screen *screen, unsigned depth, const struct record *record) {
+    print_indent(screen, depth);
+    if (record->promised == 0)
+        print(screen, BAD, "the capture ends inside the head of a record, at byte %zu", record->at);
+    else
+        print(screen, BAD, "the capture ends inside a record: it should have %zu bytes and has %zu",
+              record->promised, record->length);
+    fputc('\n', screen->out);
+}
+
+static void print_descriptor(const struct screen *screen, const struct part *part) {
+    print_indent(screen, 1);
+    fprintf(screen->out, "%s: %zu bytes", part->name, part->length);
+    if (plan_root(part->plan) == 0)
+        fputs(", no type\n", screen->out);
+    else
+        fprintf(screen->out, ", a plan of %u words\n", (unsigned)part->answer.first);
+    print_plan(screen, 2, part->plan);
+}
+
+static void print_value(const struct screen *screen, const struct message *message,
+                        const struct part *part) {
+    struct listed listed = {part->plan, part->bytes, message->list, part->answer.first / 5};
+    print_indent(screen, 1);
+    fprintf(screen->out, "%s: %zu bytes", part->name, part->length);
+    fputs(listed.entries == 0 ? ", no type\n" : "\n", screen->out);
+    print_tree(screen, 2, &listed, 0, 0);
+}
+
+/* Bytes that no description was met for. */
+static void print_unread(const struct screen *screen, const struct part *part) {
+    print_indent(screen, 1);
+    print(screen, BAD, "%s: not read, as no accepted description of it was met", part->name);
+    fputc('\n', screen->out);
+    print_indent(screen, 2);
+    print_bytes(screen, part->bytes, part->length);
+    fputc('\n', screen->out);
+}
+
+static void print_part(const struct screen *screen, const struct message *message,
+                       const struct part *part) {
+    if (part->answer.number != 0)
+        print_part_refusal(screen, 2, part);
+    else if (part->kind == DESCRIPTOR_PART)
+        print_descriptor(screen, part);
+    else if (part->kind == VALUE_PART)
+        print_value(screen, message, part);
+    else
+        print_unread(screen, part);
+}
+
+void print_message(const struct screen *screen, const struct session *session) {
+    const struct message *message = &session->message;
+    if (message->event == CUT_RECORD) {
+        print_cut_record(screen, 0, &message->record);
+        return;
+    }
+    print_message_head(screen, message);
+    if (message->answer.number != 0) {
+        print_message_refusal(screen, 2, message);
+        return;
+    }
+    struct fields fields = {message, 0};
+    print_fields(screen, 1, layout_of(message->record.side, message->bytes[0])->fields, &fields);
+    for (unsigned i = 0; i < message->part_count; i++)
+        print_part(screen, message, &message->parts[i]);
+}
+
+void print_sum(const struct screen *screen, const struct session *session,
+                      unsigned long refusals) {
+    print(screen, STRONG, "%lu message%s, %lu row%s, ", session->messages,
+          session->messages == 1 ? "" : "s", session->rows, session->rows == 1 ? "" : "s");
+    print(screen, refusals > 0 ? BAD : GOOD, "%lu refused", refusals);
+    fputc('\n', screen->out);
+}

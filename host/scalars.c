@@ -1,0 +1,169 @@
+#include "scalars.h"
+
+#include "bytes.h"
+#include "decimal.h"
+#include "times.h"
+
+#include <inttypes.h>
+#include <math.h>
+#include <stdlib.h>
+#include <string.h>
+
+enum format {
+    UUID,
+    STR,
+    BYTES,
+    INT16,
+    INT32,
+    INT64,
+    FLOAT32,
+    FLOAT64,
+    DECIMAL,
+    BOOL,
+    DATETIME,
+    LOCAL_DATETIME,
+    LOCAL_DATE,
+    LOCAL_TIME,
+    DURATION,
+    JSON,
+    BIGINT,
+    RELATIVE_DURATION,
+    DATE_DURATION,
+    MEMORY,
+    FORMATS
+};
+
+struct shape {
+    const char *name;
+    size_t least; /* bytes that the printing below reads without asking */
+};
+
+static const struct shape shapes[FORMATS] = {
+    {"uuid", 16},       {"str", 0},           {"bytes", 0},
+    {"int16", 2},       {"int32", 4},         {"int64", 8},
+    {"float32", 4},     {"float64", 8},       {"decimal", 8},
+    {"bool", 1},        {"datetime", 8},      {"local_datetime", 8},
+    {"local_date", 4},  {"local_time", 8},    {"duration", 16},
+    {"json", 1},        {"bigint", 8},        {"relative_duration", 16},
+    {"date_duration", 16}, {"memory", 8},
+};
+
+const char *format_name(uint32_t format) {
+    return format < FORMATS ? shapes[format].name : "unknown format";
+}
+
+/* The shortest digits that give the same number again. */
+static void print_float64(const struct screen *screen, uint64_t bits) {
+    double number;
+    char text[32];
+    memcpy(&number, &bits, sizeof number);
+    if (isnan(number)) {
+        fprintf(screen->out, "nan (bits %016" PRIx64 ")", bits);
+        return;
+    }
+    for (int digits = 1; digits <= 17; digits++) {
+        snprintf(text, sizeof text, "%.*g", digits, number);
+        if (strtod(text, NULL) == number)
+            break;
+    }
+    fputs(text, screen->out);
+}
+
+static void print_float32(const struct screen *screen, uint32_t bits) {
+    float number;
+    char text[32];
+    memcpy(&number, &bits, sizeof number);
+    if (isnan(number)) {
+        fprintf(screen->out, "nan (bits %08" PRIx32 ")", bits);
+        return;
+    }
+    for (int digits = 1; digits <= 9; digits++) {
+        snprintf(text, sizeof text, "%.*g", digits, (double)number);
+        if (strtof(text, NULL) == number)
+            break;
+    }
+    fputs(text, screen->out);
+}
+
+/* A number of bytes in the largest unit that divides it. */
+static void print_memory(const struct screen *screen, int64_t bytes) {
+    static const char *const units[] = {"B", "KiB", "MiB", "GiB", "TiB", "PiB"};
+    size_t unit = 0;
+    while (bytes != 0 && bytes % 1024 == 0 && unit + 1 < sizeof units / sizeof units[0]) {
+        bytes /= 1024;
+        unit++;
+    }
+    fprintf(screen->out, "%" PRId64 " %s", bytes, units[unit]);
+}
+
+static void print_number(const struct screen *screen, enum format format, const uint8_t *bytes) {
+    if (format == FLOAT32)
+        print_float32(screen, get_32(bytes));
+    else if (format == FLOAT64)
+        print_float64(screen, get_64(bytes));
+    else if (format == MEMORY)
+        print_memory(screen, signed_64(get_64(bytes)));
+    else if (format == BOOL)
+        fputs(bytes[0] != 0 ? "true" : "false", screen->out);
+    else if (format == INT16)
+        fprintf(screen->out, "%d", signed_16(get_16(bytes)));
+    else if (format == INT32)
+        fprintf(screen->out, "%" PRId32, signed_32(get_32(bytes)));
+    else
+        fprintf(screen->out, "%" PRId64, signed_64(get_64(bytes)));
+}
+
+/* Durations: microseconds, days, months. A date_duration's first 8 bytes are reserved. */
+static void print_long(const struct screen *screen, enum format format, const uint8_t *bytes) {
+    int64_t microseconds = format == DATE_DURATION ? 0 : signed_64(get_64(bytes));
+    print_duration(screen, microseconds, signed_32(get_32(bytes + 8)),
+                   signed_32(get_32(bytes + 12)));
+}
+
+static void print_moment(const struct screen *screen, enum format format, const uint8_t *bytes) {
+    if (format == LOCAL_DATE)
+        print_date(screen, signed_32(get_32(bytes)));
+    else if (format == LOCAL_TIME)
+        print_time(screen, signed_64(get_64(bytes)));
+    else
+        print_datetime(screen, signed_64(get_64(bytes)), format == DATETIME);
+}
+
+void print_scalar(const struct screen *screen, uint32_t format, const uint8_t *bytes,
+                  size_t length) {
+    if (format >= FORMATS || length < shapes[format].least) {
+        print_bytes(screen, bytes, length);
+        return;
+    }
+    switch ((enum format)format) {
+    case UUID:
+        print_uuid(screen, bytes);
+        return;
+    case STR:
+        print_text(screen, bytes, length, true);
+        return;
+    case BYTES:
+        print_bytes(screen, bytes, length);
+        return;
+    case JSON:
+        print_text(screen, bytes + 1, length - 1, false);
+        return;
+    case DECIMAL:
+    case BIGINT:
+        print_decimal(screen, bytes, length);
+        return;
+    case DATETIME:
+    case LOCAL_DATETIME:
+    case LOCAL_DATE:
+    case LOCAL_TIME:
+        print_moment(screen, format, bytes);
+        return;
+    case DURATION:
+    case RELATIVE_DURATION:
+    case DATE_DURATION:
+        print_long(screen, format, bytes);
+        return;
+    default:
+        print_number(screen, format, bytes);
+    }
+}

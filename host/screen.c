@@ -1,0 +1,116 @@
+#define _POSIX_C_SOURCE 200809L
+#include "screen.h"
+
+#include <stdarg.h>
+#include <stdlib.h>
+#include <unistd.h>
+
+struct screen screen_on(FILE *out, size_t most_text) {
+    bool colour = isatty(fileno(out)) && getenv("NO_COLOR") == NULL;
+    return (struct screen){out, colour, most_text};
+}
+
+static const char *code_of(enum ink ink) {
+    switch (ink) {
+    case STRONG:
+        return "\033[1m";
+    case FAINT:
+        return "\033[2m";
+    case GOOD:
+        return "\033[32m";
+    case BAD:
+        return "\033[1;31m";
+    default:
+        return "";
+    }
+}
+
+void print(const struct screen *screen, enum ink ink, const char *format, ...) {
+    bool colour = screen->colour && ink != PLAIN;
+    va_list arguments;
+    if (colour)
+        fputs(code_of(ink), screen->out);
+    va_start(arguments, format);
+    vfprintf(screen->out, format, arguments);
+    va_end(arguments);
+    if (colour)
+        fputs("\033[0m", screen->out);
+}
+
+void print_indent(const struct screen *screen, unsigned depth) {
+    fprintf(screen->out, "%*s", (int)(2 * depth), "");
+}
+
+/* Bytes of the UTF-8 character that starts here, and its code; 0 if there is none. Overlong forms
+ * are not told apart: the library has judged the texts that are printed. */
+static size_t character(const uint8_t *text, size_t length, uint32_t *code) {
+    uint8_t first = text[0];
+    size_t size = first < 0x80 ? 1 : first < 0xc0 ? 0 : first < 0xe0 ? 2 : first < 0xf0 ? 3 : 4;
+    if (size == 0 || size > length || first > 0xf4)
+        return 0;
+    *code = size == 1 ? first : first & (0x7fu >> size);
+    for (size_t i = 1; i < size; i++) {
+        if ((text[i] & 0xc0) != 0x80)
+            return 0;
+        *code = *code << 6 | (text[i] & 0x3f);
+    }
+    return size;
+}
+
+/* Controls (C0, DEL, C1), line separators and the marks that turn the direction of writing. */
+static bool unseen(uint32_t code) {
+    return code < 0x20 || (code >= 0x7f && code < 0xa0) || code == 0x61c ||
+           (code >= 0x200e && code <= 0x200f) || (code >= 0x2028 && code <= 0x202e) ||
+           (code >= 0x2066 && code <= 0x2069);
+}
+
+/* Prints one character; how many bytes it has is returned. */
+static size_t print_character(FILE *out, const uint8_t *text, size_t length, bool quoted) {
+    uint32_t code = 0;
+    size_t size = character(text, length, &code);
+    if (size == 0) {
+        fprintf(out, "\\x%02x", text[0]);
+        return 1;
+    }
+    if (code == '\n')
+        fputs("\\n", out);
+    else if (code == '\t')
+        fputs("\\t", out);
+    else if (unseen(code))
+        fprintf(out, "\\u{%x}", (unsigned)code);
+    else if (quoted && (code == '"' || code == '\\'))
+        fprintf(out, "\\%c", (int)code);
+    else
+        fwrite(text, 1, size, out);
+    return size;
+}
+
+void print_text(const struct screen *screen, const uint8_t *text, size_t length, bool quoted) {
+    size_t at = 0;
+    if (quoted)
+        fputc('"', screen->out);
+    while (at < length && at < screen->most_text)
+        at += print_character(screen->out, text + at, length - at, quoted);
+    if (quoted)
+        fputc('"', screen->out);
+    if (at < length)
+        print(screen, FAINT, " ... and %zu bytes more", length - at);
+}
+
+void print_bytes(const struct screen *screen, const uint8_t *bytes, size_t length) {
+    size_t shown = length < screen->most_text / 4 ? length : screen->most_text / 4;
+    if (length == 0)
+        print(screen, FAINT, "no bytes");
+    for (size_t i = 0; i < shown; i++)
+        fprintf(screen->out, "%s%02x", i > 0 ? " " : "", bytes[i]);
+    if (shown < length)
+        print(screen, FAINT, " ... and %zu bytes more", length - shown);
+}
+
+void print_uuid(const struct screen *screen, const uint8_t *bytes) {
+    for (int i = 0; i < 16; i++) {
+        if (i == 4 || i == 6 || i == 8 || i == 10)
+            fputc('-', screen->out);
+        fprintf(screen->out, "%02x", bytes[i]);
+    }
+}

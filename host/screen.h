@@ -1,0 +1,40 @@
+/* Where the program prints, and whether in colour. */
+#ifndef SCREEN_H
+#define SCREEN_H
+
+#include <stdbool.h>
+#include <stddef.h>
+#include <stdint.h>
+#include <stdio.h>
+
+enum ink { PLAIN, STRONG, FAINT, GOOD, BAD };
+
+struct screen {
+    FILE *out;
+    bool colour;
+    size_t most_text; /* texts and bytes longer than this are cut, and the cut is said */
+};
+
+/* A screen on a stream: in colour only if that is a terminal and NO_COLOR is not set. */
+struct screen screen_on(FILE *out, size_t most_text);
+
+/* Prints as printf does, in a colour. */
+void print(const struct screen *screen, enum ink ink, const char *format, ...)
+    __attribute__((format(printf, 3, 4)));
+
+/* Spaces at the start of a line. */
+void print_indent(const struct screen *screen, unsigned depth);
+
+/* Prints UTF-8 text. Control characters, marks that turn the direction of writing, and backslashes
+ * are printed as escapes, so that no text can move the cursor or look like another. With `quoted`
+ * it stands in quotation marks, and those inside are escaped too. Bytes that are no UTF-8 are
+ * printed as \xNN. */
+void print_text(const struct screen *screen, const uint8_t *text, size_t length, bool quoted);
+
+/* Prints bytes in hex. */
+void print_bytes(const struct screen *screen, const uint8_t *bytes, size_t length);
+
+/* Prints a uuid's 16 bytes. */
+void print_uuid(const struct screen *screen, const uint8_t *bytes);
+
+#endif
