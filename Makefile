@@ -1,6 +1,38 @@
+# make run: builds everything and shows the demo's capture. make panel: the panel program alone, build/panel.
 # make test: the gate. make bench: the benchmark's ratios. make install PREFIX=..: header, archive and pkg-config file.
 # make soak: 10,000,000 cases against the second program, not in the gate.
-.PHONY: test bench clean
+.PHONY: run panel demo test bench soak install clean compiler
+
+CFLAGS = -std=c11 -O2 -Wall -Wextra -Werror
+LIBRARY = target/staticlib/libpanel.a
+HEADERS = $(wildcard host/*.h demo/*.h) include/rembulfose.h
+PANEL = $(wildcard host/*.c)
+MAKER = $(wildcard demo/*.c) host/plan.c host/names.c host/refusal.c
+
+run: panel demo
+	build/panel show demo/acid-batches.capture
+
+panel: build/panel
+
+# The capture is made again and must be the one that is shipped.
+demo: build/make-capture
+	build/make-capture >build/acid-batches.capture
+	cmp build/acid-batches.capture demo/acid-batches.capture
+
+build/panel: $(PANEL) $(HEADERS) $(LIBRARY) | compiler
+	mkdir -p build
+	cc $(CFLAGS) $(PANEL) $(LIBRARY) -o $@
+
+build/make-capture: $(MAKER) $(HEADERS) $(LIBRARY) | compiler
+	mkdir -p build
+	cc $(CFLAGS) $(MAKER) $(LIBRARY) -o $@
+
+$(LIBRARY): crates.txt $(wildcard crates/*/src/*.rt)
+	rt staticlib panel
+
+# A missing C compiler is installed from Debian's packages.
+compiler:
+	@command -v cc >/dev/null || { echo installing gcc; apt-get update -qq && apt-get install -y -qq gcc; }
 
 test:
 	bash .ci/run
@@ -8,10 +40,6 @@ test:
 bench:
 	bash bench/run
 
-clean:
-	rm -rf target build
-
-.PHONY: soak install
 soak:
 	bash tests/build
 	bash tests/soak
@@ -20,12 +48,12 @@ PREFIX = /usr/local
 VERSION = 0.1.0
 place := $(abspath $(PREFIX))
 
-install: target/staticlib/libpanel.a
+install: $(LIBRARY)
 	install -d $(place)/include $(place)/lib/pkgconfig
 	install -m 644 include/rembulfose.h $(place)/include/
 	install -m 644 $< $(place)/lib/librembulfose.a
 	sed 's|@PREFIX@|$(place)|; s|@VERSION@|$(VERSION)|' rembulfose.pc.in > $(place)/lib/pkgconfig/rembulfose.pc
 	chmod 644 $(place)/lib/pkgconfig/rembulfose.pc
 
-target/staticlib/libpanel.a: $(wildcard crates/*/src/*.rt)
-	rt staticlib panel
+clean:
+	rm -rf target build
