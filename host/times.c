@@ -40,10 +40,10 @@ static void print_clock(const struct screen *screen, int64_t microseconds) {
 }
 
 void print_datetime(const struct screen *screen, int64_t microseconds, bool utc) {
-    int64_t days = floor_div(microseconds, DAY);
-    print_date(screen, days);
+    int64_t of_day = microseconds % DAY; /* below zero before 2000 */
+    print_date(screen, floor_div(microseconds, DAY));
     fputc('T', screen->out);
-    print_clock(screen, microseconds - days * DAY);
+    print_clock(screen, of_day < 0 ? of_day + DAY : of_day);
     if (utc)
         fputc('Z', screen->out);
 }
