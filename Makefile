@@ -1,13 +1,14 @@
 # make run: builds everything and shows the demo's capture. make panel: the panel program alone, build/panel.
 # make test: the gate. make bench: the benchmark's ratios. make install PREFIX=..: header, archive and pkg-config file.
 # make soak: 10,000,000 cases against the second program, not in the gate.
-.PHONY: run panel demo test bench soak install clean compiler
+.PHONY: run panel demo panel-tests test bench soak install clean compiler
 
 CFLAGS = -std=c11 -O2 -Wall -Wextra -Werror
 LIBRARY = target/staticlib/libpanel.a
 HEADERS = $(wildcard host/*.h demo/*.h) include/rembulfose.h
 PANEL = $(wildcard host/*.c)
-MAKER = $(wildcard demo/*.c) host/plan.c host/names.c host/refusal.c
+BUILDER = demo/build.c host/plan.c host/names.c host/refusal.c
+MAKER = demo/make-capture.c demo/batches.c demo/descriptors.c $(BUILDER)
 
 run: panel demo
 	build/panel show demo/acid-batches.capture
@@ -26,6 +27,17 @@ build/panel: $(PANEL) $(HEADERS) $(LIBRARY) | compiler
 build/make-capture: $(MAKER) $(HEADERS) $(LIBRARY) | compiler
 	mkdir -p build
 	cc $(CFLAGS) $(MAKER) $(LIBRARY) -o $@
+
+# What tests/panel/run needs besides.
+panel-tests: build/panel-captures build/panel-formats build/panel-long-row
+
+build/panel-captures: tests/panel/captures.c host/capture.c $(HEADERS) | compiler
+	mkdir -p build
+	cc $(CFLAGS) tests/panel/captures.c host/capture.c -o $@
+
+build/panel-%: tests/panel/%.c $(BUILDER) $(HEADERS) $(LIBRARY) | compiler
+	mkdir -p build
+	cc $(CFLAGS) $< $(BUILDER) $(LIBRARY) -o $@
 
 $(LIBRARY): crates.txt $(wildcard crates/*/src/*.rt)
 	rt staticlib panel
