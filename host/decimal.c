@@ -81,7 +81,9 @@ void print_decimal(const struct screen *screen, const uint8_t *bytes, size_t len
         print_power(screen, &decimal);
         return;
     }
-    int32_t places = places_needed(&decimal);
+    int32_t places = places_needed(&decimal), zeros = decimal.scale - places;
     print_whole(screen, &decimal);
-    print_fraction(screen, &decimal, places > decimal.scale ? places : decimal.scale);
+    print_fraction(screen, &decimal, zeros > 0 && zeros <= MOST_ZEROS ? decimal.scale : places);
+    if (zeros > MOST_ZEROS)
+        fprintf(screen->out, " (scale %d)", (int)decimal.scale);
 }
