@@ -148,11 +148,19 @@ static int run(const struct arguments *arguments) {
     return status;
 }
 
+/* Whether help is asked for, before or after a command. */
+static bool wants_help(int count, char **words) {
+    for (int i = 1; i < count; i++)
+        if (strcmp(words[i], "--help") == 0 || strcmp(words[i], "-h") == 0)
+            return true;
+    return false;
+}
+
 int main(int count, char **words) {
     struct arguments arguments;
     if (count < 2)
         return misused("a command is missing");
-    if (strcmp(words[1], "--help") == 0 || strcmp(words[1], "-h") == 0) {
+    if (wants_help(count, words)) {
         fputs(help, stdout);
         return finished(DONE);
     }
