@@ -58,7 +58,7 @@ static bool looks_like_text(const uint8_t *bytes, size_t length) {
 static void print_field(const struct screen *screen, const struct field *field,
                         const uint8_t *bytes, size_t length) {
     if (field->form == TEXT || (field->form == BYTES_FIELD && looks_like_text(bytes, length)))
-        print_text(screen, bytes, length, true);
+        print_text(screen, bytes, length, QUOTED);
     else if (field->form == BYTES_FIELD)
         fprintf(screen->out, "%zu bytes", length);
     else if (field->form == UUID_FIELD && length == 16)

@@ -52,37 +52,52 @@ const char *format_name(uint32_t format) {
     return format < FORMATS ? shapes[format].name : "unknown format";
 }
 
-/* The shortest digits that give the same number again. */
-static void print_float64(const struct screen *screen, uint64_t bits) {
-    double number;
-    char text[32];
-    memcpy(&number, &bits, sizeof number);
-    if (isnan(number)) {
-        fprintf(screen->out, "nan (bits %016" PRIx64 ")", bits);
+/* A kind of float: how many digits tell any two of its numbers apart, and how many digits before the
+ * point are all exact. */
+struct float_kind {
+    bool single;
+    int most_digits, most_whole;
+};
+
+static bool gives_again(const char *text, double number, struct float_kind kind) {
+    return kind.single ? strtof(text, NULL) == (float)number : strtod(text, NULL) == number;
+}
+
+/* The shortest digits that give the same number again, without an exponent from 0.00001 up to the
+ * numbers whose whole part would need zeros that are not known to be there. */
+static void print_float(const struct screen *screen, double number, struct float_kind kind) {
+    char text[40];
+    int after = 0; /* digits after the first */
+    if (isinf(number)) {
+        fputs(number < 0 ? "-inf" : "inf", screen->out);
         return;
     }
-    for (int digits = 1; digits <= 17; digits++) {
-        snprintf(text, sizeof text, "%.*g", digits, number);
-        if (strtod(text, NULL) == number)
-            break;
-    }
-    fputs(text, screen->out);
+    snprintf(text, sizeof text, "%.0e", number);
+    while (!gives_again(text, number, kind) && after + 1 < kind.most_digits)
+        snprintf(text, sizeof text, "%.*e", ++after, number);
+    int exponent = atoi(strchr(text, 'e') + 1);
+    if (exponent < -5 || exponent >= kind.most_whole)
+        fputs(text, screen->out);
+    else
+        fprintf(screen->out, "%.*f", after > exponent ? after - exponent : 0, number);
+}
+
+static void print_float64(const struct screen *screen, uint64_t bits) {
+    double number;
+    memcpy(&number, &bits, sizeof number);
+    if (isnan(number))
+        fprintf(screen->out, "nan (bits %016" PRIx64 ")", bits);
+    else
+        print_float(screen, number, (struct float_kind){false, 17, 15});
 }
 
 static void print_float32(const struct screen *screen, uint32_t bits) {
     float number;
-    char text[32];
     memcpy(&number, &bits, sizeof number);
-    if (isnan(number)) {
+    if (isnan(number))
         fprintf(screen->out, "nan (bits %08" PRIx32 ")", bits);
-        return;
-    }
-    for (int digits = 1; digits <= 9; digits++) {
-        snprintf(text, sizeof text, "%.*g", digits, (double)number);
-        if (strtof(text, NULL) == number)
-            break;
-    }
-    fputs(text, screen->out);
+    else
+        print_float(screen, (double)number, (struct float_kind){true, 9, 7});
 }
 
 /* A number of bytes in the largest unit that divides it. */
@@ -113,6 +128,14 @@ static void print_number(const struct screen *screen, enum format format, const 
         fprintf(screen->out, "%" PRId64, signed_64(get_64(bytes)));
 }
 
+/* No JSON grammar is asked for: there may be no text at all. */
+static void print_json(const struct screen *screen, const uint8_t *text, size_t length) {
+    if (length == 0)
+        print(screen, FAINT, "no text");
+    else
+        print_text(screen, text, length, AS_IT_IS);
+}
+
 /* Durations: microseconds, days, months. A date_duration's first 8 bytes are reserved. */
 static void print_long(const struct screen *screen, enum format format, const uint8_t *bytes) {
     int64_t microseconds = format == DATE_DURATION ? 0 : signed_64(get_64(bytes));
@@ -140,13 +163,13 @@ void print_scalar(const struct screen *screen, uint32_t format, const uint8_t *b
         print_uuid(screen, bytes);
         return;
     case STR:
-        print_text(screen, bytes, length, true);
+        print_text(screen, bytes, length, QUOTED);
         return;
     case BYTES:
         print_bytes(screen, bytes, length);
         return;
     case JSON:
-        print_text(screen, bytes + 1, length - 1, false);
+        print_json(screen, bytes + 1, length - 1);
         return;
     case DECIMAL:
     case BIGINT:

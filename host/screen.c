@@ -57,15 +57,26 @@ static size_t character(const uint8_t *text, size_t length, uint32_t *code) {
     return size;
 }
 
-/* Controls (C0, DEL, C1), line separators and the marks that turn the direction of writing. */
+/* Controls (C0, DEL, C1), the soft hyphen, characters of no width, line separators, marks that turn the
+ * direction of writing, the byte order mark, marks of annotations, and tags. */
 static bool unseen(uint32_t code) {
-    return code < 0x20 || (code >= 0x7f && code < 0xa0) || code == 0x61c ||
-           (code >= 0x200e && code <= 0x200f) || (code >= 0x2028 && code <= 0x202e) ||
-           (code >= 0x2066 && code <= 0x2069);
+    static const uint32_t ranges[][2] = {
+        {0x0, 0x1f},      {0x7f, 0x9f},     {0xad, 0xad},     {0x61c, 0x61c},     {0x180e, 0x180e},
+        {0x200b, 0x200f}, {0x2028, 0x202e}, {0x2060, 0x206f}, {0xfeff, 0xfeff},   {0xfff9, 0xfffb},
+        {0xe0000, 0xe0fff}};
+    for (size_t i = 0; i < sizeof ranges / sizeof ranges[0]; i++)
+        if (code >= ranges[i][0] && code <= ranges[i][1])
+            return true;
+    return false;
+}
+
+/* Whether a character that can be seen needs a backslash before it. */
+static bool escaped(uint32_t code, enum writing writing) {
+    return (code == '\\' && writing != AS_IT_IS) || (code == '"' && writing == QUOTED);
 }
 
 /* Prints one character; how many bytes it has is returned. */
-static size_t print_character(FILE *out, const uint8_t *text, size_t length, bool quoted) {
+static size_t print_character(FILE *out, const uint8_t *text, size_t length, enum writing writing) {
     uint32_t code = 0;
     size_t size = character(text, length, &code);
     if (size == 0) {
@@ -78,23 +89,31 @@ static size_t print_character(FILE *out, const uint8_t *text, size_t length, boo
         fputs("\\t", out);
     else if (unseen(code))
         fprintf(out, "\\u{%x}", (unsigned)code);
-    else if (quoted && (code == '"' || code == '\\'))
+    else if (escaped(code, writing))
         fprintf(out, "\\%c", (int)code);
     else
         fwrite(text, 1, size, out);
     return size;
 }
 
-void print_text(const struct screen *screen, const uint8_t *text, size_t length, bool quoted) {
+void print_text(const struct screen *screen, const uint8_t *text, size_t length,
+                enum writing writing) {
     size_t at = 0;
-    if (quoted)
+    if (writing == QUOTED)
         fputc('"', screen->out);
     while (at < length && at < screen->most_text)
-        at += print_character(screen->out, text + at, length - at, quoted);
-    if (quoted)
+        at += print_character(screen->out, text + at, length - at, writing);
+    if (writing == QUOTED)
         fputc('"', screen->out);
     if (at < length)
         print(screen, FAINT, " ... and %zu bytes more", length - at);
+}
+
+size_t text_width(const uint8_t *text, size_t length) {
+    size_t width = 0;
+    for (size_t i = 0; i < length; i++)
+        width += (text[i] & 0xc0) != 0x80;
+    return width;
 }
 
 void print_bytes(const struct screen *screen, const uint8_t *bytes, size_t length) {

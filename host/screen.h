@@ -25,11 +25,18 @@ void print(const struct screen *screen, enum ink ink, const char *format, ...)
 /* Spaces at the start of a line. */
 void print_indent(const struct screen *screen, unsigned depth);
 
-/* Prints UTF-8 text. Control characters, marks that turn the direction of writing, and backslashes
- * are printed as escapes, so that no text can move the cursor or look like another. With `quoted`
- * it stands in quotation marks, and those inside are escaped too. Bytes that are no UTF-8 are
- * printed as \xNN. */
-void print_text(const struct screen *screen, const uint8_t *text, size_t length, bool quoted);
+/* How a text stands on its line. QUOTED: in quotation marks, with those inside and backslashes
+ * escaped. BARE: backslashes escaped. AS_IT_IS: for JSON, which has escapes of its own. */
+enum writing { QUOTED, BARE, AS_IT_IS };
+
+/* Prints UTF-8 text. Control characters, characters that show nothing and marks that turn the
+ * direction of writing are printed as escapes, so that no text can move the cursor or hide a part of
+ * itself. Bytes that are no UTF-8 are printed as \xNN. */
+void print_text(const struct screen *screen, const uint8_t *text, size_t length,
+                enum writing writing);
+
+/* How many characters a UTF-8 text has. */
+size_t text_width(const uint8_t *text, size_t length);
 
 /* Prints bytes in hex. */
 void print_bytes(const struct screen *screen, const uint8_t *bytes, size_t length);

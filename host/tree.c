@@ -59,22 +59,23 @@ static void print_label(const struct screen *screen, const struct plan *plan, ui
     fprintf(screen->out, "%-2u ", (unsigned)index);
     if (name.length == 0)
         return;
-    print_text(screen, name.text, name.length, false);
-    fprintf(screen->out, "%*s", name.length < NAME_WIDTH ? (int)(NAME_WIDTH - name.length) : 0, "");
-    fputc(' ', screen->out);
+    print_text(screen, name.text, name.length, BARE);
+    size_t width = text_width(name.text, name.length);
+    fprintf(screen->out, "%*s ", width < NAME_WIDTH ? (int)(NAME_WIDTH - width) : 0, "");
 }
 
 static void print_leaf(const struct screen *screen, const struct listed *listed,
                        struct entry entry) {
     const uint8_t *bytes = listed->value + entry.start;
     if (plan_kind(listed->plan, entry.node) == ENUMERATION)
-        print_text(screen, bytes, entry.length, true);
+        print_text(screen, bytes, entry.length, QUOTED);
     else
         print_scalar(screen, plan_format(listed->plan, entry.node), bytes, entry.length);
 }
 
 /* A range on one line: square brackets where a bound is included, round ones where it is not, and
- * "-inf" or "inf" where there is none. Its bounds are the entries just after it. */
+ * "unbounded" where there is none, which a float's bound of -inf or inf is not. Its bounds are the
+ * entries just after it. */
 static void print_range(const struct screen *screen, const struct listed *listed, size_t at) {
     uint8_t flags = listed->value[entry_at(listed, at).start];
     if (flags & EMPTY_RANGE) {
@@ -83,12 +84,12 @@ static void print_range(const struct screen *screen, const struct listed *listed
     }
     fputc(flags & LOWER_IN ? '[' : '(', screen->out);
     if (flags & NO_LOWER)
-        fputs("-inf", screen->out);
+        fputs("unbounded", screen->out);
     else
         print_leaf(screen, listed, entry_at(listed, ++at));
     fputs(", ", screen->out);
     if (flags & NO_UPPER)
-        fputs("inf", screen->out);
+        fputs("unbounded", screen->out);
     else
         print_leaf(screen, listed, entry_at(listed, ++at));
     fputc(flags & UPPER_IN ? ']' : ')', screen->out);
