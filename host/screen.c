@@ -96,6 +96,12 @@ static size_t print_character(FILE *out, const uint8_t *text, size_t length, enu
     return size;
 }
 
+/* Says how many bytes were cut off, if any. */
+static void print_rest(const struct screen *screen, size_t length) {
+    if (length > 0)
+        print(screen, FAINT, " ... and %zu byte%s more", length, length == 1 ? "" : "s");
+}
+
 void print_text(const struct screen *screen, const uint8_t *text, size_t length,
                 enum writing writing) {
     size_t at = 0;
@@ -105,8 +111,7 @@ void print_text(const struct screen *screen, const uint8_t *text, size_t length,
         at += print_character(screen->out, text + at, length - at, writing);
     if (writing == QUOTED)
         fputc('"', screen->out);
-    if (at < length)
-        print(screen, FAINT, " ... and %zu bytes more", length - at);
+    print_rest(screen, length - at);
 }
 
 size_t text_width(const uint8_t *text, size_t length) {
@@ -122,8 +127,7 @@ void print_bytes(const struct screen *screen, const uint8_t *bytes, size_t lengt
         print(screen, FAINT, "no bytes");
     for (size_t i = 0; i < shown; i++)
         fprintf(screen->out, "%s%02x", i > 0 ? " " : "", bytes[i]);
-    if (shown < length)
-        print(screen, FAINT, " ... and %zu bytes more", length - shown);
+    print_rest(screen, length - shown);
 }
 
 void print_uuid(const struct screen *screen, const uint8_t *bytes) {

@@ -6,7 +6,7 @@
 static const uint32_t ABSENT = UINT32_MAX;
 enum { ENTRY_WORDS = 5 };
 enum { EMPTY_RANGE = 1, LOWER_IN = 2, UPPER_IN = 4, NO_LOWER = 8, NO_UPPER = 16 };
-enum { NAME_WIDTH = 12, KIND_WIDTH = 19 };
+enum { NAME_WIDTH = 12, KIND_WIDTH = 18 };
 
 struct entry {
     uint32_t node, index, start, length, below;
@@ -41,15 +41,16 @@ static const char *kind_name(const struct plan *plan, uint32_t node) {
     return "unknown kind";
 }
 
-/* Prints what a node is, "set of decimal", and spaces up to so many columns. */
+/* Prints what a node is, "set of decimal". If something follows, it gets its own column, or a space
+ * after a name that is longer ("range of relative_duration"). */
 static void print_kind(const struct screen *screen, const struct plan *plan, uint32_t node,
-                       int width) {
+                       bool followed) {
     enum kind kind = plan_kind(plan, node);
     bool has_of = kind == SET_OR_ARRAY || kind == SET_OF_ARRAYS || kind == RANGE;
     const char *of = has_of ? kind_name(plan, plan_element(plan, node, 0)) : "";
     char text[64];
     snprintf(text, sizeof text, "%s%s%s", kind_name(plan, node), has_of ? " of " : "", of);
-    print(screen, FAINT, "%-*s", width, text);
+    print(screen, FAINT, followed ? "%-*s " : "%*s", followed ? KIND_WIDTH : 0, text);
 }
 
 /* Prints an element's index and its name, if it has one. */
@@ -124,7 +125,7 @@ size_t print_tree(const struct screen *screen, unsigned depth, const struct list
     struct entry entry = entry_at(listed, at);
     print_indent(screen, depth);
     print_label(screen, listed->plan, parent, entry.index);
-    print_kind(screen, listed->plan, entry.node, KIND_WIDTH);
+    print_kind(screen, listed->plan, entry.node, true);
     print_content(screen, listed, at);
     at++;
     if (plan_kind(listed->plan, entry.node) == RANGE)
@@ -182,12 +183,12 @@ void print_plan(const struct screen *screen, unsigned depth, const struct plan *
     enum kind kind = plan_kind(plan, root);
     bool object = kind == OBJECT || kind == INPUT_OBJECT;
     print_indent(screen, depth);
-    print_kind(screen, plan, root, 0);
+    print_kind(screen, plan, root, false);
     fputc('\n', screen->out);
     for (uint32_t i = 0; (object || kind == TUPLE) && i < plan_count(plan, root); i++) {
         print_indent(screen, depth + 1);
         print_label(screen, plan, root, i);
-        print_kind(screen, plan, plan_element(plan, root, i), object ? KIND_WIDTH : 0);
+        print_kind(screen, plan, plan_element(plan, root, i), object);
         fprintf(screen->out, "%s\n", object ? cardinality_name(plan_cardinality(plan, root, i)) : "");
     }
 }
