@@ -14,6 +14,7 @@
 //! * [`finding`] does so with paths, for the program `finding`, and [`supply`] with supplies, for the
 //!   program `supplies`; [`entries`] has the entries of the lists that both start from.
 //! * [`case`] is a case of some of these.
+//! * [`panel`] holds what the panel program prints against the second program, for `panel-shown`.
 
 pub mod case;
 pub mod crossed;
@@ -27,6 +28,7 @@ pub mod finding;
 pub mod lending;
 pub mod memory;
 pub mod message;
+pub mod panel;
 pub mod program;
 pub mod report;
 pub mod rng;

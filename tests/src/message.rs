@@ -9,7 +9,7 @@
 mod bytes;
 mod case;
 mod damage;
-mod draft;
+pub mod draft;
 mod exact;
 mod judge;
 mod reading;

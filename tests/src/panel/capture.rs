@@ -1,0 +1,222 @@
+//! All that `panel show` prints of a capture, as host/README.md says it.
+
+use super::refused::{self, Within};
+use super::tree::{self, Tree};
+use super::{fields, texts};
+use second::descriptor::{self, Descriptor};
+use second::entry::Entry;
+use second::message::{read_message, CLIENT, SERVER};
+use second::off_descriptor;
+use second::refusal::{self, Refusal};
+
+/// The first line of a side-marked capture.
+pub const FIRST_LINE: &[u8] = b"rembulfose-capture 1\n";
+
+/// Words of a list or plan that can cross to a host.
+const MOST_WORDS: usize = 8_192;
+
+/// An accepted or refused description of values.
+#[derive(Clone, Copy)]
+struct Described<'a> {
+    id: &'a [u8],
+    descriptor: &'a [u8],
+    accepted: bool,
+}
+
+/// What is known so far.
+#[derive(Default)]
+struct Session<'a> {
+    capture: &'a [u8],
+    output: Option<Described<'a>>,
+    state: Option<Described<'a>>,
+    messages: usize,
+    rows: usize,
+    refused: usize,
+    lines: Vec<String>,
+}
+
+/// The lines of a capture; `one_side` is whose bytes one without marks has.
+pub fn shown(capture: &[u8], one_side: u32) -> Vec<String> {
+    let mut session = Session {
+        capture,
+        ..Session::default()
+    };
+    if capture.starts_with(FIRST_LINE) {
+        session.records(FIRST_LINE.len());
+    } else {
+        session.record(one_side, 0, capture.len());
+    }
+    let (messages, rows) = (session.messages, session.rows);
+    let (messages, rows) = (plural(messages, "message"), plural(rows, "row"));
+    let refused = session.refused;
+    session
+        .lines
+        .push(format!("{messages}, {rows}, {refused} refused"));
+    session.lines
+}
+
+fn plural(count: usize, what: &str) -> String {
+    format!("{count} {what}{}", if count == 1 { "" } else { "s" })
+}
+
+impl<'a> Session<'a> {
+    fn records(&mut self, mut at: usize) {
+        while at < self.capture.len() {
+            let Some((&[side, a, b, c, d], rest)) = self.capture[at..].split_first_chunk() else {
+                let line = "the capture ends inside the head of a record, at byte";
+                return self.cut(format!("{line} {at}"));
+            };
+            let promised = u32::from_be_bytes([a, b, c, d]) as usize;
+            let there = promised.min(rest.len());
+            self.record(side.into(), at + 5, at + 5 + there);
+            if there < promised {
+                let line = "the capture ends inside a record: it should have";
+                return self.cut(format!("{line} {promised} bytes and has {there}"));
+            }
+            at += 5 + promised;
+        }
+    }
+
+    fn cut(&mut self, line: String) {
+        self.refused += 1;
+        self.lines.push(line);
+    }
+
+    /// The messages of one side, up to `end`.
+    fn record(&mut self, side: u32, mut at: usize, end: usize) {
+        assert_eq!((CLIENT, SERVER), (0, 1));
+        while at < end {
+            at += self.message(side, at, end);
+        }
+    }
+
+    /// One message; how many bytes it has. After 1 or 2 nobody knows where the next one starts.
+    fn message(&mut self, side: u32, at: usize, end: usize) -> usize {
+        self.messages += 1;
+        let all = &self.capture[at..end];
+        let read = read_message(side, all, MOST_WORDS);
+        let length = match read {
+            Err(refused) if refused.number <= refusal::BAD_LENGTH => all.len(),
+            _ => 1 + u32::from_be_bytes([all[1], all[2], all[3], all[4]]) as usize,
+        };
+        let bytes = &all[..length];
+        let row = side == SERVER && bytes[0] == b'D' && read.is_ok();
+        self.rows += usize::from(row);
+        let row = if row {
+            format!(", row {}", self.rows)
+        } else {
+            String::new()
+        };
+        let (number, title) = (self.messages, fields::title(side, bytes[0]));
+        self.lines.push(format!(
+            "message {number}: {title}, {length} bytes at {at}{row}"
+        ));
+        match read {
+            Ok(read) => {
+                self.lines.extend(fields::lines(side, bytes, &read.words));
+                let before = self.lines.len();
+                if side == SERVER {
+                    self.parts(bytes, &read.words, at);
+                }
+                let part_refused = |line: &String| line.starts_with("    refused with ");
+                self.refused += usize::from(self.lines[before..].iter().any(part_refused));
+            }
+            Err(refusal) => {
+                self.refused += 1;
+                let what = "message";
+                self.lines
+                    .extend(refused::lines(refusal, &Within { what, bytes, at }));
+            }
+        }
+        length
+    }
+
+    /// Descriptors and values of a message that was read.
+    fn parts(&mut self, message: &'a [u8], words: &[u32], at: usize) {
+        // The last fields, which no run comes after: 1 is the last.
+        let field = |back: usize| {
+            let pair = &words[words.len() - 2 * back..];
+            let (start, length) = (pair[0] as usize, pair[1] as usize);
+            (&message[start..start + length], at + start)
+        };
+        match message[0] {
+            b'T' => {
+                self.describe("input descriptor", field(4).0, field(3));
+                self.output = Some(self.describe("output descriptor", field(2).0, field(1)));
+            }
+            b's' => self.state = Some(self.describe("state descriptor", field(2).0, field(1))),
+            b'C' => self.value("state data", self.state_description(field(2).0), field(1)),
+            b'D' => self.value("row", self.output, field(1)),
+            _ => {}
+        }
+    }
+
+    /// Id zero is "no type"; any other is that of the last s, or of nothing.
+    fn state_description(&self, id: &'a [u8]) -> Option<Described<'a>> {
+        if id == [0; 16] {
+            let (descriptor, accepted) = (&id[..0], true);
+            return Some(Described {
+                id,
+                descriptor,
+                accepted,
+            });
+        }
+        self.state.filter(|state| state.id == id)
+    }
+
+    fn describe(&mut self, what: &str, id: &'a [u8], field: (&'a [u8], usize)) -> Described<'a> {
+        let (bytes, at) = field;
+        let head = format!("  {what}: {} bytes", bytes.len());
+        let compiled = descriptor::compile(bytes, id, MOST_WORDS);
+        let read = compiled.and_then(|plan| Ok((plan.len(), descriptor::read(bytes, id)?)));
+        match &read {
+            Err(refusal) => self
+                .lines
+                .extend(refused::lines(*refusal, &Within { what, bytes, at })),
+            Ok((_, Descriptor::NoType)) => self.lines.push(format!("{head}, no type")),
+            Ok((words, Descriptor::Typed { blocks, root })) => {
+                self.lines.push(format!("{head}, a plan of {words} words"));
+                let lines = tree::plan(&blocks.list, *root);
+                self.lines
+                    .extend(lines.iter().map(|line| format!("    {line}")));
+            }
+        }
+        Described {
+            id,
+            descriptor: bytes,
+            accepted: read.is_ok(),
+        }
+    }
+
+    fn value(&mut self, what: &str, by: Option<Described>, field: (&'a [u8], usize)) {
+        let (bytes, at) = field;
+        let Some(by) = by.filter(|by| by.accepted) else {
+            let why = "not read, as no accepted description of it was met";
+            self.lines.push(format!("  {what}: {why}"));
+            self.lines.push(format!("    {}", texts::hex(bytes)));
+            return;
+        };
+        match tree_lines(by, bytes) {
+            Err(refusal) => self
+                .lines
+                .extend(refused::lines(refusal, &Within { what, bytes, at })),
+            Ok(tree) => {
+                let none = if tree.is_empty() { ", no type" } else { "" };
+                self.lines
+                    .push(format!("  {what}: {} bytes{none}", bytes.len()));
+                self.lines
+                    .extend(tree.iter().map(|line| format!("    {line}")));
+            }
+        }
+    }
+}
+
+/// The lines of a value by its description, by the rules off the descriptor.
+fn tree_lines(by: Described, value: &[u8]) -> Result<Vec<String>, Refusal> {
+    let words = off_descriptor::run(by.descriptor, by.id, value, MOST_WORDS)?;
+    let entries = Entry::all(&words).expect("five words an entry");
+    Ok(match descriptor::read(by.descriptor, by.id)? {
+        Descriptor::NoType => Vec::new(),
+        Descriptor::Typed { blocks, root } => Tree::lines(&blocks.list, root, value, &entries),
+    })
+}

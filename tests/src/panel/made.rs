@@ -1,0 +1,67 @@
+//! Captures made at random: descriptions with rows of them, good and damaged, among other messages.
+
+use super::capture::FIRST_LINE;
+use super::table::{complete, data, description, state};
+use crate::descriptor::{Descriptors, Second};
+use crate::message::draft::Draft;
+use crate::program::Comparison;
+use crate::rng::Rng;
+
+/// Bytes of a message's body, so that its length is permitted.
+const MOST_BODY: usize = 65_000;
+
+pub fn capture(rng: &mut Rng) -> Vec<u8> {
+    let mut capture = if rng.once_in(4) {
+        Vec::new()
+    } else {
+        FIRST_LINE.to_vec()
+    };
+    let marked = !capture.is_empty();
+    for _ in 0..rng.between(1, 6) {
+        let (side, bytes) = messages(rng);
+        if marked {
+            capture.push(side);
+            capture.extend((bytes.len() as u32).to_be_bytes());
+        }
+        capture.extend(bytes);
+    }
+    if rng.once_in(3) {
+        damage(rng, &mut capture);
+    }
+    capture
+}
+
+/// Messages of one side: a description and a value by it, or one message of any type.
+fn messages(rng: &mut Rng) -> (u8, Vec<u8>) {
+    if rng.once_in(3) {
+        let draft = Draft::make(rng);
+        return (draft.side as u8, draft.message());
+    }
+    let seed = rng.draw();
+    let case = <Descriptors<Second> as Comparison>::random(seed, 0);
+    let (descriptor, root) = (&case.call.descriptor, &case.call.root);
+    if root.len() != 16 || descriptor.len() > MOST_BODY {
+        return (1, data(&[]));
+    }
+    let value = case.running.map(|running| running.value);
+    let value = value
+        .filter(|value| value.len() <= MOST_BODY)
+        .unwrap_or_default();
+    let bytes = match rng.once_in(4) {
+        true => [state(descriptor, root), complete(root, &value)].concat(),
+        false => [description(descriptor, root), data(&value)].concat(),
+    };
+    (1, bytes)
+}
+
+/// A few bytes altered, or the end cut off.
+fn damage(rng: &mut Rng, capture: &mut Vec<u8>) {
+    if rng.once_in(2) {
+        capture.truncate(rng.below(capture.len() + 1));
+        return;
+    }
+    for _ in 0..rng.between(1, 4) {
+        let at = rng.below(capture.len());
+        capture[at] = rng.pick(&[0, 1, 0x7f, 0x80, 0xff, capture[at] ^ 1, capture[at] ^ 0x10]);
+    }
+}
