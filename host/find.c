@@ -34,8 +34,9 @@ static void print_found(const struct screen *screen, const struct message *messa
     struct listed listed = {part->plan, part->bytes, message->list, part->answer.first / 5};
     size_t entry;
     uint32_t parent;
-    fprintf(screen->out, "%u bytes at %u of row %lu (byte %zu of the capture)\n",
-            (unsigned)found.second, (unsigned)found.first, message->row, part->at + found.first);
+    print_size(screen, PLAIN, found.second);
+    fprintf(screen->out, " at %u of row %lu (byte %zu of the capture)\n", (unsigned)found.first,
+            message->row, part->at + found.first);
     if (part->answer.number == 0 && tree_entry(&listed, path, path_words, &entry, &parent)) {
         print_tree(screen, 0, &listed, entry, parent);
     } else {

@@ -110,7 +110,29 @@ static bool take_path(const char *text, uint8_t *path, size_t *count) {
     return false;
 }
 
-static int run_find(const struct arguments *arguments, const struct capture *capture) {
+/* Reads the capture that is named; if it cannot be read, says so. */
+static bool load(const struct arguments *arguments, struct capture *capture) {
+    const char *name = arguments->words[0];
+    if (capture_load(capture, name, arguments->side))
+        return true;
+    fprintf(stderr, "panel: cannot read %s: %s\n", name == NULL ? "standard input" : name,
+            strerror(errno));
+    return false;
+}
+
+static int find_in_capture(const struct arguments *arguments, uint32_t row, const uint8_t *path,
+                           size_t path_words) {
+    struct capture capture;
+    if (!load(arguments, &capture))
+        return TROUBLE;
+    int status = command_find(&capture, row, path, path_words);
+    capture_free(&capture);
+    return status;
+}
+
+/* Row and path are understood before anything is read: whoever mistypes them should not have to wait
+ * for standard input to end. */
+static int run_find(const struct arguments *arguments) {
     const char *row_text = arguments->words[1];
     const char *path_text = arguments->count > 2 ? arguments->words[2] : "";
     uint8_t *path = malloc(4 * (strlen(path_text) / 2 + 1));
@@ -124,26 +146,17 @@ static int run_find(const struct arguments *arguments, const struct capture *cap
     else if (!take_path(path_text, path, &path_words))
         status = misused("PATH is numbers with dots between them");
     else
-        status = command_find(capture, row, path, path_words);
+        status = find_in_capture(arguments, row, path, path_words);
     free(path);
     return status;
 }
 
-static int run(const struct arguments *arguments) {
+static int run_whole(const struct arguments *arguments) {
     struct capture capture;
-    int status;
-    const char *name = arguments->words[0];
-    if (!capture_load(&capture, name, arguments->side)) {
-        fprintf(stderr, "panel: cannot read %s: %s\n", name == NULL ? "standard input" : name,
-                strerror(errno));
+    if (!load(arguments, &capture))
         return TROUBLE;
-    }
-    if (strcmp(arguments->command, "show") == 0)
-        status = command_show(&capture);
-    else if (strcmp(arguments->command, "check") == 0)
-        status = command_check(&capture);
-    else
-        status = run_find(arguments, &capture);
+    bool show = strcmp(arguments->command, "show") == 0;
+    int status = show ? command_show(&capture) : command_check(&capture);
     capture_free(&capture);
     return status;
 }
@@ -173,5 +186,5 @@ int main(int count, char **words) {
         return misused("find needs FILE and ROW");
     if (!find && arguments.count > 1)
         return misused("too many arguments");
-    return run(&arguments);
+    return find ? run_find(&arguments) : run_whole(&arguments);
 }

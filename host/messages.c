@@ -28,7 +28,9 @@ void print_message_head(const struct screen *screen, const struct message *messa
     else
         print(screen, STRONG, "%02x", type);
     print(screen, STRONG, " %s", layout == NULL ? "(unknown)" : layout->name);
-    print(screen, FAINT, ", %zu bytes at %zu", message->length, message->at);
+    print(screen, FAINT, ", ");
+    print_size(screen, FAINT, message->length);
+    print(screen, FAINT, " at %zu", message->at);
     if (message->row > 0)
         print(screen, GOOD, ", row %lu", message->row);
     fputc('\n', screen->out);
@@ -60,7 +62,7 @@ static void print_field(const struct screen *screen, const struct field *field,
     if (field->form == TEXT || (field->form == BYTES_FIELD && looks_like_text(bytes, length)))
         print_text(screen, bytes, length, QUOTED);
     else if (field->form == BYTES_FIELD)
-        fprintf(screen->out, "%zu bytes", length);
+        print_size(screen, PLAIN, length);
     else if (field->form == UUID_FIELD && length == 16)
         print_uuid(screen, bytes);
     else if (field->form == CODE && length == 1)
@@ -116,14 +118,15 @@ void print_cut_record(const struct screen *screen, unsigned depth, const struct 
     if (record->promised == 0)
         print(screen, BAD, "the capture ends inside the head of a record, at byte %zu", record->at);
     else
-        print(screen, BAD, "the capture ends inside a record: it should have %zu bytes and has %zu",
+        print(screen, BAD, "the capture ends inside a record: of its %zu bytes %zu are there",
               record->promised, record->length);
     fputc('\n', screen->out);
 }
 
 static void print_descriptor(const struct screen *screen, const struct part *part) {
     print_indent(screen, 1);
-    fprintf(screen->out, "%s: %zu bytes", part->name, part->length);
+    fprintf(screen->out, "%s: ", part->name);
+    print_size(screen, PLAIN, part->length);
     if (plan_root(part->plan) == 0)
         fputs(", no type\n", screen->out);
     else
@@ -135,7 +138,8 @@ static void print_value(const struct screen *screen, const struct message *messa
                         const struct part *part) {
     struct listed listed = {part->plan, part->bytes, message->list, part->answer.first / 5};
     print_indent(screen, 1);
-    fprintf(screen->out, "%s: %zu bytes", part->name, part->length);
+    fprintf(screen->out, "%s: ", part->name);
+    print_size(screen, PLAIN, part->length);
     fputs(listed.entries == 0 ? ", no type\n" : "\n", screen->out);
     print_tree(screen, 2, &listed, 0, 0);
 }

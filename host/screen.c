@@ -37,6 +37,10 @@ void print(const struct screen *screen, enum ink ink, const char *format, ...) {
         fputs("\033[0m", screen->out);
 }
 
+void print_size(const struct screen *screen, enum ink ink, size_t bytes) {
+    print(screen, ink, "%zu byte%s", bytes, bytes == 1 ? "" : "s");
+}
+
 void print_indent(const struct screen *screen, unsigned depth) {
     fprintf(screen->out, "%*s", (int)(2 * depth), "");
 }
@@ -98,8 +102,11 @@ static size_t print_character(FILE *out, const uint8_t *text, size_t length, enu
 
 /* Says how many bytes were cut off, if any. */
 static void print_rest(const struct screen *screen, size_t length) {
-    if (length > 0)
-        print(screen, FAINT, " ... and %zu byte%s more", length, length == 1 ? "" : "s");
+    if (length == 0)
+        return;
+    print(screen, FAINT, " ... and ");
+    print_size(screen, FAINT, length);
+    print(screen, FAINT, " more");
 }
 
 void print_text(const struct screen *screen, const uint8_t *text, size_t length,

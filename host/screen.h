@@ -22,6 +22,9 @@ struct screen screen_on(FILE *out, size_t most_text);
 void print(const struct screen *screen, enum ink ink, const char *format, ...)
     __attribute__((format(printf, 3, 4)));
 
+/* "1 byte", "2 bytes". */
+void print_size(const struct screen *screen, enum ink ink, size_t bytes);
+
 /* Spaces at the start of a line. */
 void print_indent(const struct screen *screen, unsigned depth);
 

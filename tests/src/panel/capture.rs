@@ -70,8 +70,8 @@ impl<'a> Session<'a> {
             let there = promised.min(rest.len());
             self.record(side.into(), at + 5, at + 5 + there);
             if there < promised {
-                let line = "the capture ends inside a record: it should have";
-                return self.cut(format!("{line} {promised} bytes and has {there}"));
+                let line = "the capture ends inside a record: of its";
+                return self.cut(format!("{line} {promised} bytes {there} are there"));
             }
             at += 5 + promised;
         }
@@ -109,7 +109,8 @@ impl<'a> Session<'a> {
         };
         let (number, title) = (self.messages, fields::title(side, bytes[0]));
         self.lines.push(format!(
-            "message {number}: {title}, {length} bytes at {at}{row}"
+            "message {number}: {title}, {} at {at}{row}",
+            texts::size(length)
         ));
         match read {
             Ok(read) => {
@@ -166,7 +167,7 @@ impl<'a> Session<'a> {
 
     fn describe(&mut self, what: &str, id: &'a [u8], field: (&'a [u8], usize)) -> Described<'a> {
         let (bytes, at) = field;
-        let head = format!("  {what}: {} bytes", bytes.len());
+        let head = format!("  {what}: {}", texts::size(bytes.len()));
         let compiled = descriptor::compile(bytes, id, MOST_WORDS);
         let read = compiled.and_then(|plan| Ok((plan.len(), descriptor::read(bytes, id)?)));
         match &read {
@@ -203,7 +204,7 @@ impl<'a> Session<'a> {
             Ok(tree) => {
                 let none = if tree.is_empty() { ", no type" } else { "" };
                 self.lines
-                    .push(format!("  {what}: {} bytes{none}", bytes.len()));
+                    .push(format!("  {what}: {}{none}", texts::size(bytes.len())));
                 self.lines
                     .extend(tree.iter().map(|line| format!("    {line}")));
             }

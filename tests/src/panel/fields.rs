@@ -169,7 +169,7 @@ fn shown(form: &Form, content: &[u8]) -> String {
         Uuid => texts::uuid(content),
         Text => texts::quoted(human::text(content)),
         Bytes if is_printable(content) => texts::quoted(human::text(content)),
-        Bytes => format!("{} bytes", content.len()),
+        Bytes => texts::size(content.len()),
         Code(codes) => {
             let known = codes.iter().find(|(code, _)| *code == content[0]);
             let (code, words) = known.expect("an accepted code");

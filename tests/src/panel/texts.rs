@@ -34,9 +34,13 @@ fn written(text: &str, mark: &str, escaped: &[char]) -> String {
 fn cut(bytes: usize) -> String {
     match bytes {
         0 => String::new(),
-        1 => " ... and 1 byte more".into(),
-        _ => format!(" ... and {bytes} bytes more"),
+        _ => format!(" ... and {} more", size(bytes)),
     }
+}
+
+/// So many bytes, in words.
+pub fn size(bytes: usize) -> String {
+    format!("{bytes} byte{}", if bytes == 1 { "" } else { "s" })
 }
 
 fn shown(letter: char, escaped: &[char]) -> String {
