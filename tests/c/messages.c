@@ -4,7 +4,8 @@
  *         -o target/c-messages
  *
  * Bytes are written in hex, spaces for the eye only. Every room is filled before the call and looked
- * at whole after it, with some bytes more on either side.
+ * at whole after it, with some bytes more on either side. The largest cases run on a thread with a
+ * small stack.
  */
 #define _DEFAULT_SOURCE
 #include "cases.h"
@@ -130,8 +131,27 @@ static rembulfose_answer write_data(uint32_t length, uint8_t *out, size_t room) 
     return rembulfose_write_message(SERVER, 0x44, list, sizeof list, src, sizeof src, out, room);
 }
 
+/* A V whose list has 8,192 words, the most that cross: 2,046 pairs of empty texts. It is read, and written
+ * again from its list. */
+static void most_fields(void) {
+    enum { PAIRS = 2046, LENGTH = 5 + 3 * 2 + 8 * PAIRS + 2 };
+    static uint8_t message[LENGTH], list[4 * MOST_WORDS], out[LENGTH];
+    message[0] = 0x56;
+    put_word(message + 1, LENGTH - 1);
+    message[9] = PAIRS >> 8;
+    message[10] = PAIRS & 0xff;
+    count("8,192 words, read",
+          same_answer(rembulfose_read_message(CLIENT, message, LENGTH, list, sizeof list),
+                      answered(LENGTH, MOST_WORDS)));
+    count("8,192 words, written",
+          same_answer(rembulfose_write_message(CLIENT, 0x56, list, sizeof list, message, LENGTH, out,
+                                               LENGTH),
+                      answered(LENGTH, 0)) && memcmp(out, message, LENGTH) == 0);
+}
+
 static void large(void) {
     static uint8_t list[32772], out[65537];
+    most_fields();
     rembulfose_answer six = refused(6, 0);
     count("list of 32,772 bytes", same_answer(rembulfose_write_message(CLIENT, 0x53, list, 32772,
                                                                        NULL, 0, out, 5), six));
@@ -165,7 +185,7 @@ int main(void) {
     good_messages();
     reader_refusals();
     writer_refusals();
-    large();
+    small_stack(large);
     null_pointers();
     return finish();
 }
