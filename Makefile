@@ -60,7 +60,14 @@ PREFIX = /usr/local
 VERSION = 0.1.0
 place := $(abspath $(PREFIX))
 
-install: $(LIBRARY)
+# The library and the refusals in words, as one archive.
+build/librembulfose.a: $(LIBRARY) host/refusal.c include/rembulfose.h | compiler
+	mkdir -p build
+	cc $(CFLAGS) -c host/refusal.c -o build/refusal.o
+	cp $(LIBRARY) $@
+	ar rsD $@ build/refusal.o
+
+install: build/librembulfose.a
 	install -d $(place)/include $(place)/lib/pkgconfig
 	install -m 644 include/rembulfose.h $(place)/include/
 	install -m 644 $< $(place)/lib/librembulfose.a

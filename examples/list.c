@@ -20,7 +20,8 @@ static uint32_t word(const uint8_t *at) {
 
 static int refused(const char *call, rembulfose_answer answer) {
     if (answer.number != 0)
-        fprintf(stderr, "%s: refusal %u at %u\n", call, answer.number, answer.place);
+        fprintf(stderr, "%s: refused with %u at %u: %s\n", call, answer.number, answer.place,
+                rembulfose_refusal_text(answer.number));
     return answer.number != 0;
 }
 
