@@ -22,6 +22,14 @@ static bool grow(struct capture *capture, size_t *room) {
     return true;
 }
 
+/* Gives back the room that is not needed, so that whatever reads past the capture's end leaves the
+ * memory that it was given, and is found by a sanitizer or valgrind. */
+static void shrink(struct capture *capture) {
+    uint8_t *bytes = realloc(capture->bytes, capture->length > 0 ? capture->length : 1);
+    if (bytes != NULL)
+        capture->bytes = bytes;
+}
+
 static bool read_all(struct capture *capture, FILE *file) {
     size_t room = 0;
     for (;;) {
@@ -30,8 +38,10 @@ static bool read_all(struct capture *capture, FILE *file) {
         size_t got = fread(capture->bytes + capture->length, 1, room - capture->length, file);
         capture->length += got;
         if (got == 0)
-            return !ferror(file);
+            break;
     }
+    shrink(capture);
+    return !ferror(file);
 }
 
 static bool starts_with_magic(const struct capture *capture) {
