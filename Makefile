@@ -39,12 +39,14 @@ build/panel-%: tests/panel/%.c $(BUILDER) $(HEADERS) $(LIBRARY) | compiler
 	mkdir -p build
 	cc $(CFLAGS) $< $(BUILDER) $(LIBRARY) -o $@
 
-$(LIBRARY): crates.txt $(wildcard crates/*/src/*.rt)
+$(LIBRARY): crates.txt $(wildcard crates/*/src/*.rt) | compiler
+	@command -v rt >/dev/null || { echo 'rt is missing: install the Rattle toolchain first' >&2; exit 1; }
+	@echo 'proving and building the library: the first time this takes some minutes'
 	rt staticlib panel
 
 # A missing C compiler is installed from Debian's packages.
 compiler:
-	@command -v cc >/dev/null || { echo installing gcc; apt-get update -qq && apt-get install -y -qq gcc; }
+	@command -v cc >/dev/null || { echo 'installing gcc'; apt-get update -qq && apt-get install -y -qq gcc libc6-dev; }
 
 test:
 	bash .ci/run
