@@ -12,12 +12,16 @@ const CAPACITY: usize = 262_144;
 
 /// Memory for calls that read so many runs of bytes and write to a room.
 pub struct Memory<const N: usize> {
-    inputs: [Input; N],
-    room: Room,
-    /// What rooms hold before a call.
-    pattern: Vec<u8>,
+    fenced: Fenced<N>,
     /// The room as the second program leaves it.
     left: Vec<u8>,
+}
+
+/// The part of it that is fenced, and what rooms hold before a call.
+struct Fenced<const N: usize> {
+    inputs: [Input; N],
+    room: Room,
+    pattern: Vec<u8>,
 }
 
 /// What a call is lent.
@@ -33,12 +37,13 @@ pub type Named<'a, F> = (&'a str, F);
 
 impl<const N: usize> Memory<N> {
     pub fn new(seed: u64) -> Memory<N> {
-        Memory {
+        let fenced = Fenced {
             inputs: std::array::from_fn(|_| Input::new(CAPACITY)),
             room: Room::new(CAPACITY),
             pattern: Rng::new(seed).bytes(CAPACITY + FILLS),
-            left: Vec::new(),
-        }
+        };
+        let left = Vec::new();
+        Memory { fenced, left }
     }
 
     /// The room as both programs left it.
@@ -67,19 +72,34 @@ impl<const N: usize> Memory<N> {
         (name, tested): Named<impl Fn([&[u8]; N], &mut [u8]) -> A>,
         (other, second): Named<impl Fn([&[u8]; N], &mut [u8]) -> A>,
     ) -> Result<A, String> {
-        let Lending { edge, fill } = lent.lending;
-        let before = &self.pattern[fill..][..lent.room];
+        let before = &self.fenced.pattern[lent.lending.fill..][..lent.room];
         self.left.clear();
         self.left.extend(before);
         let second = second(lent.inputs, &mut self.left);
+        let (answer, room) = self.fenced.call(&lent, tested);
+        compare(call, (name, (answer, room)), (other, (second, &self.left)))
+    }
+
+    /// A call on fenced memory alone: its answer, and the room as it left it.
+    pub fn fenced<A>(
+        &mut self,
+        lent: &Lent<N>,
+        call: impl Fn([&[u8]; N], &mut [u8]) -> A,
+    ) -> (A, &[u8]) {
+        self.fenced.call(lent, call)
+    }
+}
+
+impl<const N: usize> Fenced<N> {
+    fn call<A>(&mut self, lent: &Lent<N>, call: impl Fn([&[u8]; N], &mut [u8]) -> A) -> (A, &[u8]) {
+        let Lending { edge, fill } = lent.lending;
         let mut contents = lent.inputs.into_iter();
         let inputs = self.inputs.each_mut().map(|input| {
             let content = contents.next().expect("as many as there are inputs");
             input.lend(content, edge)
         });
         let room = self.room.lend(lent.room, edge);
-        room.copy_from_slice(before);
-        let answer = tested(inputs, room);
-        compare(call, (name, (answer, room)), (other, (second, &self.left)))
+        room.copy_from_slice(&self.pattern[fill..][..lent.room]);
+        (call(inputs, room), room)
     }
 }

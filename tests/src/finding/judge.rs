@@ -19,7 +19,7 @@ type Call<A> = fn(&[u8], &[u8], &[u8]) -> A;
 
 pub struct Judge {
     memory: Memory<3>,
-    list: Vec<u8>,
+    running: Memory<2>,
 }
 
 /// The answers of a case in which nothing differs.
@@ -32,7 +32,7 @@ impl Judge {
     pub fn new(seed: u64) -> Judge {
         Judge {
             memory: Memory::new(seed),
-            list: vec![0; LIST],
+            running: Memory::new(seed),
         }
     }
 
@@ -72,11 +72,17 @@ impl Judge {
     /// What is found is at the start and length of the entry named. A list that cannot cross is
     /// left out.
     fn hold_against_run(&mut self, case: &Case, entry: usize, found: Answer) -> Result<(), String> {
-        let run = ffi::run(&case.call.plan, &case.call.value, &mut self.list);
+        let lent = Lent {
+            inputs: [&case.call.plan, &case.call.value],
+            room: LIST,
+            lending: case.lending,
+        };
+        let library = |[plan, value]: [&[u8]; 2], list: &mut [u8]| ffi::run(plan, value, list);
+        let (run, list) = self.running.fenced(&lent, library);
         if run.number == 31 {
             return Ok(());
         }
-        let words = words(&self.list[..4 * run.first as usize]);
+        let words = words(&list[..4 * run.first as usize]);
         let known = match entries(&words).get(entry) {
             None => run,
             Some(entry) if entry.is_absent() => refused(36, 0),

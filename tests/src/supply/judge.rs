@@ -15,16 +15,14 @@ use second::crossing::{self, Answer};
 
 pub struct Judge {
     memory: Memory<3>,
-    list: Vec<u8>,
-    again: Vec<u8>,
+    running: Memory<2>,
 }
 
 impl Judge {
     pub fn new(seed: u64) -> Judge {
         Judge {
             memory: Memory::new(seed),
-            list: Vec::new(),
-            again: Vec::new(),
+            running: Memory::new(seed),
         }
     }
 
@@ -36,38 +34,49 @@ impl Judge {
             room: call.room,
             lending: case.lending,
         };
-        let library =
-            |[plan, list, src]: [&[u8]; 3], out: &mut [u8]| ffi::write_value(plan, list, src, out);
         let second = |[plan, list, src]: [&[u8]; 3], out: &mut [u8]| {
             crossing::write_value(plan, list, src, out)
         };
         let answer = self.memory.compare(call, lent, library, second)?;
         case.expected.hold(call, answer, self.memory.left())?;
         match answer.number {
-            0 => self.read_back(call, answer),
+            0 => self.read_back(case, answer),
             _ => Ok(answer),
         }
     }
 
-    fn read_back(&mut self, call: &WriteCall, answer: Answer) -> Result<Answer, String> {
-        let value = &self.memory.left()[..answer.first as usize];
-        self.list.clear();
-        self.list.resize(call.list.len(), 0);
-        let run = ffi::run(&call.plan, value, &mut self.list);
+    fn read_back(&mut self, case: &Case, answer: Answer) -> Result<Answer, String> {
+        let (call, lending) = (&case.call, case.lending);
+        let value = self.memory.left()[..answer.first as usize].to_vec();
+        let lent = Lent {
+            inputs: [&call.plan, &value],
+            room: call.list.len(),
+            lending,
+        };
+        let runs = |[plan, value]: [&[u8]; 2], list: &mut [u8]| ffi::run(plan, value, list);
+        let (run, list) = self.running.fenced(&lent, runs);
         let whole = run.number == 0 && 4 * run.first as usize == call.list.len();
-        if !whole || !has_supply(call, &self.list, value) {
+        if !whole || !has_supply(call, list, &value) {
             let what = "a written value does not have the supply";
             return Err(report(what, call, &[("written", answer), ("run", run)]));
         }
-        self.again.clear();
-        self.again.resize(value.len(), 0);
-        let again = ffi::write_value(&call.plan, &self.list, value, &mut self.again);
-        if again != answer || self.again != value {
+        let lent = Lent {
+            inputs: [&call.plan, list, &value],
+            room: value.len(),
+            lending,
+        };
+        let (again, written) = self.memory.fenced(&lent, library);
+        if again != answer || written != value {
             let what = "a written value does not come back from its list";
             return Err(report(what, call, &[("written", answer), ("again", again)]));
         }
         Ok(answer)
     }
+}
+
+/// The library's writer, on the runs that it is lent.
+fn library([plan, list, src]: [&[u8]; 3], out: &mut [u8]) -> Answer {
+    ffi::write_value(plan, list, src, out)
 }
 
 /// Whether a value with this list has the supply that was accepted.
