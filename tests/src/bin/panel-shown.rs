@@ -47,14 +47,18 @@ fn main() -> ExitCode {
     let panel = Path::new(panel);
     for name in captures {
         let capture = fs::read(name).map_err(|error| error.to_string());
-        count.add(name, capture.and_then(|capture| same(panel, &capture)));
+        let mut rng = Rng::new(SEED);
+        let outcome = capture.and_then(|capture| same(panel, &capture, &mut rng));
+        count.add(name, outcome);
     }
     if let Err(why) = hold_table(panel, table, &mut count) {
         count.add(table, Err(why));
     }
     for number in 0..cases.parse().unwrap_or(0) {
-        let capture = made::capture(&mut Rng::of_case(SEED, number));
-        count.add(&format!("random capture {number}"), same(panel, &capture));
+        let mut rng = Rng::of_case(SEED, number);
+        let capture = made::capture(&mut rng);
+        let outcome = same(panel, &capture, &mut rng);
+        count.add(&format!("random capture {number}"), outcome);
     }
     println!("{} passed, {} failed", count.passed, count.failed);
     ExitCode::from(u8::from(count.failed > 0))
@@ -65,8 +69,11 @@ fn hold_table(panel: &Path, name: &str, count: &mut Count) -> Result<(), String>
     let text = fs::read_to_string(name).map_err(|error| error.to_string())?;
     let rows = table::rows(&text)?;
     let capture = table::capture(&rows)?;
-    let printed = printed(panel, &capture)?;
-    for (whose, lines) in [("panel", printed), ("second", shown(&capture, SERVER))] {
+    let (printed, _) = printed(panel, &["show"], &capture)?;
+    for (whose, lines) in [
+        ("panel", printed),
+        ("second", shown(&capture, SERVER).lines),
+    ] {
         let trees = table::trees(&lines);
         if trees.len() != rows.len() {
             return Err(format!("{whose}: {} rows of {}", trees.len(), rows.len()));

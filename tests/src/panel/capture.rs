@@ -17,10 +17,23 @@ const MOST_WORDS: usize = 8_192;
 
 /// An accepted or refused description of values.
 #[derive(Clone, Copy)]
-struct Described<'a> {
-    id: &'a [u8],
-    descriptor: &'a [u8],
-    accepted: bool,
+pub struct Described<'a> {
+    pub id: &'a [u8],
+    pub descriptor: &'a [u8],
+    pub accepted: bool,
+}
+
+/// A row: by what it is read, its bytes, and where they start in the capture.
+pub struct RowAt<'a> {
+    pub by: Option<Described<'a>>,
+    pub bytes: &'a [u8],
+    pub at: usize,
+}
+
+/// All that is known of a capture.
+pub struct Shown<'a> {
+    pub lines: Vec<String>,
+    pub rows: Vec<RowAt<'a>>,
 }
 
 /// What is known so far.
@@ -30,13 +43,13 @@ struct Session<'a> {
     output: Option<Described<'a>>,
     state: Option<Described<'a>>,
     messages: usize,
-    rows: usize,
+    rows: Vec<RowAt<'a>>,
     refused: usize,
     lines: Vec<String>,
 }
 
-/// The lines of a capture; `one_side` is whose bytes one without marks has.
-pub fn shown(capture: &[u8], one_side: u32) -> Vec<String> {
+/// The lines and rows of a capture; `one_side` is whose bytes one without marks has.
+pub fn shown(capture: &[u8], one_side: u32) -> Shown<'_> {
     let mut session = Session {
         capture,
         ..Session::default()
@@ -46,13 +59,16 @@ pub fn shown(capture: &[u8], one_side: u32) -> Vec<String> {
     } else {
         session.record(one_side, 0, capture.len());
     }
-    let (messages, rows) = (session.messages, session.rows);
+    let (messages, rows) = (session.messages, session.rows.len());
     let (messages, rows) = (plural(messages, "message"), plural(rows, "row"));
     let refused = session.refused;
     session
         .lines
         .push(format!("{messages}, {rows}, {refused} refused"));
-    session.lines
+    Shown {
+        lines: session.lines,
+        rows: session.rows,
+    }
 }
 
 fn plural(count: usize, what: &str) -> String {
@@ -101,9 +117,8 @@ impl<'a> Session<'a> {
         };
         let bytes = &all[..length];
         let row = side == SERVER && bytes[0] == b'D' && read.is_ok();
-        self.rows += usize::from(row);
         let row = if row {
-            format!(", row {}", self.rows)
+            format!(", row {}", self.rows.len() + 1)
         } else {
             String::new()
         };
@@ -147,7 +162,11 @@ impl<'a> Session<'a> {
             }
             b's' => self.state = Some(self.describe("state descriptor", field(2).0, field(1))),
             b'C' => self.value("state data", self.state_description(field(2).0), field(1)),
-            b'D' => self.value("row", self.output, field(1)),
+            b'D' => {
+                let (by, (bytes, at)) = (self.output, field(1));
+                self.rows.push(RowAt { by, bytes, at });
+                self.value("row", by, (bytes, at));
+            }
             _ => {}
         }
     }
@@ -214,10 +233,15 @@ impl<'a> Session<'a> {
 
 /// The lines of a value by its description, by the rules off the descriptor.
 fn tree_lines(by: Described, value: &[u8]) -> Result<Vec<String>, Refusal> {
-    let words = off_descriptor::run(by.descriptor, by.id, value, MOST_WORDS)?;
-    let entries = Entry::all(&words).expect("five words an entry");
+    let entries = listed(by, value)?;
     Ok(match descriptor::read(by.descriptor, by.id)? {
         Descriptor::NoType => Vec::new(),
-        Descriptor::Typed { blocks, root } => Tree::lines(&blocks.list, root, value, &entries),
+        Descriptor::Typed { blocks, root } => Tree::lines(&blocks.list, root, value, &entries, &[]),
     })
+}
+
+/// The entries of a value, if there are not too many for a host to list.
+pub fn listed(by: Described, value: &[u8]) -> Result<Vec<Entry>, Refusal> {
+    let words = off_descriptor::run(by.descriptor, by.id, value, MOST_WORDS)?;
+    Ok(Entry::all(&words).expect("five words an entry"))
 }

@@ -57,6 +57,14 @@ fn cardinality_in_words(cardinality: u8) -> &'static str {
     }
 }
 
+/// Whether all elements are of one block.
+fn is_alike(body: &Body) -> bool {
+    matches!(
+        body,
+        Body::Set { .. } | Body::Array { .. } | Body::Range { .. }
+    )
+}
+
 /// What a block is called, without what it is of.
 fn kind(body: &Body) -> &'static str {
     match body {
@@ -126,12 +134,13 @@ pub struct Tree<'a> {
 }
 
 impl<'a> Tree<'a> {
-    /// The lines of a value of the root block.
+    /// The lines of the element that a path leads to, in a value of the root block.
     pub fn lines(
         blocks: &'a [Block<'a>],
         root: usize,
         value: &'a [u8],
         entries: &'a [Entry],
+        path: &[u32],
     ) -> Vec<String> {
         let mut tree = Tree {
             blocks,
@@ -140,9 +149,34 @@ impl<'a> Tree<'a> {
             next: 0,
             lines: Vec::new(),
         };
-        tree.element(root, "", 0);
-        assert_eq!(tree.next, entries.len(), "an entry that belongs nowhere");
+        let (block, name) = tree.descend(root, path);
+        tree.element(block, name, 0);
+        let whole = tree.next == entries.len();
+        assert!(whole || !path.is_empty(), "an entry that belongs nowhere");
         tree.lines
+    }
+
+    /// Goes down a path; the block and name of what it leads to, whose entry is then the next.
+    fn descend(&mut self, root: usize, path: &[u32]) -> (usize, &'a str) {
+        let (mut block, mut name) = (root, "");
+        for &index in path {
+            let body = &self.blocks[block].body;
+            let all = elements(body);
+            self.next += 1;
+            while self.entries[self.next].index != index {
+                self.skip();
+            }
+            let element = &all[if is_alike(body) { 0 } else { index as usize }];
+            (block, name) = (element.block, element.name);
+        }
+        (block, name)
+    }
+
+    /// Passes over an entry and all below it.
+    fn skip(&mut self) {
+        for _ in 0..self.take().below {
+            self.skip();
+        }
     }
 
     fn take(&mut self) -> Entry {
@@ -173,10 +207,9 @@ impl<'a> Tree<'a> {
     /// The elements of a container.
     fn inside(&mut self, body: &Body, count: u32, depth: usize) {
         let inside = elements(body);
-        let alike = matches!(body, Body::Set { .. } | Body::Array { .. });
         for _ in 0..count {
             let index = self.entries[self.next].index as usize;
-            let element = &inside[if alike { 0 } else { index }];
+            let element = &inside[if is_alike(body) { 0 } else { index }];
             self.element(element.block, element.name, depth);
         }
     }
