@@ -1,6 +1,7 @@
 //! The fields of the ten messages by name, as source document 003 has them.
 
 use super::{human, texts};
+use second::message::{CLIENT, SERVER};
 use Form::{Bits, Bytes, Code, Number, Run, Text, Uuid};
 
 /// What a field is printed as.
@@ -42,69 +43,58 @@ const CARDINALITY: Form = Code(&[
     (0x4d, "at least one"),
 ]);
 
+const ERROR: &[Named] = &[
+    ("severity", ERROR_SEVERITY),
+    ("error_code", Bits),
+    ("message", Text),
+    ("attributes", Run(ATTRIBUTE)),
+];
+const LOG: &[Named] = &[
+    ("severity", LOG_SEVERITY),
+    ("code", Bits),
+    ("text", Text),
+    ANNOTATIONS,
+];
+const READY: &[Named] = &[ANNOTATIONS, ("transaction_state", STATE)];
+const COMPLETE: &[Named] = &[
+    ANNOTATIONS,
+    ("capabilities", Bits),
+    ("status", Text),
+    ("state_typedesc_id", Uuid),
+    ("state_data", Bytes),
+];
+const DESCRIPTION: &[Named] = &[
+    ANNOTATIONS,
+    ("capabilities", Bits),
+    ("result_cardinality", CARDINALITY),
+    ("input_typedesc_id", Uuid),
+    ("input_typedesc", Bytes),
+    ("output_typedesc_id", Uuid),
+    ("output_typedesc", Bytes),
+];
+const STATE_DESCRIPTION: &[Named] = &[("typedesc_id", Uuid), ("typedesc", Bytes)];
+const DATA: &[Named] = &[("num_data", Number), ("data", Bytes)];
+const PARAMETER: &[Named] = &[("name", Bytes), ("value", Bytes)];
+const HANDSHAKE: &[Named] = &[
+    ("major_ver", Number),
+    ("minor_ver", Number),
+    ("params", Run(PAIR)),
+    ("extensions", Run(EXTENSION)),
+];
+
 /// A message's name and fields, or none if the side does not know the type.
 fn message(side: u32, type_byte: u8) -> Option<(&'static str, &'static [Named])> {
     Some(match (side, type_byte) {
-        (1, b'E') => (
-            "ErrorResponse",
-            &[
-                ("severity", ERROR_SEVERITY),
-                ("error_code", Bits),
-                ("message", Text),
-                ("attributes", Run(ATTRIBUTE)),
-            ],
-        ),
-        (1, b'L') => (
-            "LogMessage",
-            &[
-                ("severity", LOG_SEVERITY),
-                ("code", Bits),
-                ("text", Text),
-                ANNOTATIONS,
-            ],
-        ),
-        (1, b'Z') => (
-            "ReadyForCommand",
-            &[ANNOTATIONS, ("transaction_state", STATE)],
-        ),
-        (1, b'C') => (
-            "CommandComplete",
-            &[
-                ANNOTATIONS,
-                ("capabilities", Bits),
-                ("status", Text),
-                ("state_typedesc_id", Uuid),
-                ("state_data", Bytes),
-            ],
-        ),
-        (1, b'T') => (
-            "CommandDataDescription",
-            &[
-                ANNOTATIONS,
-                ("capabilities", Bits),
-                ("result_cardinality", CARDINALITY),
-                ("input_typedesc_id", Uuid),
-                ("input_typedesc", Bytes),
-                ("output_typedesc_id", Uuid),
-                ("output_typedesc", Bytes),
-            ],
-        ),
-        (1, b's') => (
-            "StateDataDescription",
-            &[("typedesc_id", Uuid), ("typedesc", Bytes)],
-        ),
-        (1, b'D') => ("Data", &[("num_data", Number), ("data", Bytes)]),
-        (1, b'S') => ("ParameterStatus", &[("name", Bytes), ("value", Bytes)]),
-        (0, b'S') => ("Sync", &[]),
-        (0, b'V') => (
-            "ClientHandshake",
-            &[
-                ("major_ver", Number),
-                ("minor_ver", Number),
-                ("params", Run(PAIR)),
-                ("extensions", Run(EXTENSION)),
-            ],
-        ),
+        (SERVER, b'E') => ("ErrorResponse", ERROR),
+        (SERVER, b'L') => ("LogMessage", LOG),
+        (SERVER, b'Z') => ("ReadyForCommand", READY),
+        (SERVER, b'C') => ("CommandComplete", COMPLETE),
+        (SERVER, b'T') => ("CommandDataDescription", DESCRIPTION),
+        (SERVER, b's') => ("StateDataDescription", STATE_DESCRIPTION),
+        (SERVER, b'D') => ("Data", DATA),
+        (SERVER, b'S') => ("ParameterStatus", PARAMETER),
+        (CLIENT, b'S') => ("Sync", &[]),
+        (CLIENT, b'V') => ("ClientHandshake", HANDSHAKE),
         _ => return None,
     })
 }
