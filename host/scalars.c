@@ -63,8 +63,8 @@ static bool gives_again(const char *text, double number, struct float_kind kind)
     return kind.single ? strtof(text, NULL) == (float)number : strtod(text, NULL) == number;
 }
 
-/* The shortest digits that give the same number again, without an exponent from 0.00001 up to the
- * numbers whose whole part would need zeros that are not known to be there. */
+/* The fewest digits that, rounded, give the same number again; without an exponent from 0.00001 up to
+ * the numbers whose whole part would need zeros that are not known to be there. */
 static void print_float(const struct screen *screen, double number, struct float_kind kind) {
     char text[40];
     int after = 0; /* digits after the first */
