@@ -1,6 +1,7 @@
 // Checks a value by a plan and lists it: one walk, whose stores past the end of the list do nothing, so that a walk with no list only
 // checks and counts.
 pub mod entry;
+pub mod leaves;
 pub mod node;
 pub mod walk;
 
@@ -8,4 +9,18 @@ pub mod walk;
 pub enum Step {
     Refused { no: u32, place: u32 },
     Reached { at: u32 },
+}
+
+// An element that is a leaf, is there and is permitted: where its bytes start, and how many they are. Or another.
+pub enum Leaf {
+    Good { start: usize, size: usize },
+    Other,
+}
+
+// Where a stretch of elements ends: how many of the container's elements are left, where the next one's head stands, and the words of the
+// list so far.
+pub struct Stretch {
+    pub left: usize,
+    pub pos: usize,
+    pub at: usize,
 }

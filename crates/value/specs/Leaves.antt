@@ -1,0 +1,41 @@
+-- What a stretch of leaves leaves to the walk. Assumes nothing: these are definitions.
+use mathlib.Core.Path.{_≡_}
+use mathlib.Core.Bool.{Bool, true, false}
+use mathlib.Core.List.{List}
+use Prim.Native.Nat.{ℕ, _+_, _-_, _*_, _<_, _≤_}
+use lib.Dec.{eqb, ltb}
+use lib.ListN.{length, take, drop, getD}
+use Rattle.wire.specs.Choice.{pick}
+use Rattle.heads.specs.Heads.{word, plainHead}
+use Rattle.heads.specs.declared.Head.the-variants.{Present}
+use Rattle.rules.specs.Node.{refAt}
+use Rattle.rules.specs.Values.{elements, rowForm, valueOf}
+use Rattle.plan.specs.Plan.{look}
+use Rattle.value.specs.Walk.{led, leafKind, leafGood}
+use Rattle.value.specs.declared.Leaf.{Leaf}
+use Rattle.value.specs.declared.Leaf.the-variants.{Good, Other}
+
+-- the size of a leaf whose values are any bytes of that size; 0 says nothing
+pub record FixedAt (p : List ℕ) (k size : ℕ) : Type 0 where
+  pub small : size ≤ 16
+  pub leaf : 0 < size → leafKind (getD p k 0) ≡ true
+  pub rule : 0 < size → (s : List ℕ) → leafGood (look p k) s ≡ eqb (length s) size
+
+-- an element of a size that is not 0 stands at a position, its length before it
+unfoldable pub stands : List ℕ → ℕ → ℕ → Bool
+stands s at size = pick (eqb size 0) false (pick (ltb (length s - at) (size + 4)) false (eqb (word s at) size))
+
+-- an element of a tuple or an object that is there, is a leaf and is permitted
+unfoldable pub GoodLeaf : List ℕ → ℕ → List ℕ → ℕ → ℕ → Leaf → Type 0
+GoodLeaf p k s i at Other = Unit {0}
+GoodLeaf p k s i at (Good start size) =
+    (plainHead s 4 i at ≡ Present i start size) × (leafKind (getD p k 0) ≡ true) × (leafGood (look p k) (take size (drop start s)) ≡ true)
+
+-- Of n elements from the index `first` on, which stand at `from`, `left` are left, which stand at `pos`: from there on they lead to the same
+-- place. How many of them are left is free.
+pub record Stretched (p : List ℕ) (k base : ℕ) (s : List ℕ) (end n first from at : ℕ) (l : List ℕ) (left pos to : ℕ) (l′ : List ℕ) : Type 0 where
+  pub some : left ≤ n
+  pub inside : pos ≤ length s
+  pub few : 4 * to ≤ 5 * (base + pos) + 20
+  pub leads : led (elements (rowForm (look p k) s) (valueOf (look p)) (refAt (look p k)) base s n first from) at l
+      ≡ led (elements (rowForm (look p k) s) (valueOf (look p)) (refAt (look p k)) base s left (end - left) pos) to l′

@@ -1,0 +1,178 @@
+// Elements that are leaves, as most are: a loop over them spares each the calls of the walk. It ends before the first element that is no
+// leaf, not there or not permitted, and there the walk goes on. So nothing is refused here, and how far a stretch goes is a matter of
+// time alone: what is left after it leads to the same place.
+use crate::Leaf;
+use crate::Stretch;
+use crate::entry;
+use crate::node;
+use heads::Head;
+ghost use mathlib.Core.Path.{_≡_};
+ghost use Prim.Native.Nat.{_+_, _*_, _^_, _<_, _≤_};
+ghost use lib.ListN.{length, getD};
+ghost use Rattle.plan.specs.Plan.{look, At};
+ghost use Rattle.value.specs.Walk.{Container, Holds, leafGood, leafKind};
+ghost use Rattle.value.specs.Leaves.{FixedAt, Stretched, GoodLeaf, stands};
+ghost use mathlib.Core.Bool.{true};
+
+// The size of a leaf whose values are any bytes of that size, and 0 for every other node.
+fn fixed_at(plan: &[u32], node: usize) -> usize
+    requires { ⌜ At (now plan) node ⌝ }
+    ensures { λ r. ⌜ FixedAt (now (plan .entry)) node r ⌝ }
+{
+    let kind = plan::node::kind_at(plan, node);
+    if kind == 1 {
+        return scalars::format::fixed_size(plan::node::second_at(plan, node) as u32);
+    }
+    0
+}
+
+// Whether an element of this size stands at `pos`, its length before it; none does of size 0.
+fn element_stands(part: &[u8], pos: usize, size: usize) -> bool
+    requires { ⌜ (pos ≤ length (now part)) × (size ≤ 16) ⌝ }
+    ensures { λ b. ⌜ b ≡ stands (now (part .entry)) pos size ⌝ }
+{
+    if size == 0 {
+        return false;
+    }
+    if part.len() - pos < size + 4 {
+        return false;
+    }
+    wire::be::u32_at(part, pos) == size as u32
+}
+
+// Elements of a set or an array, which share one node and so one size.
+fn same_leaves(
+    plan: &[u32],
+    node: usize,
+    count: usize,
+    first: usize,
+    base: usize,
+    from: usize,
+    part: &[u8],
+    list: &mut [u32],
+    at: usize,
+) -> Stretch
+    requires { ⌜ (At (now plan) node) × (getD (now plan) node 0 ≡ 2) × (first + count < 2 ^ 32) × (base + length (now part) ≤ 65535) × (from ≤ length (now part)) × (4 * at ≤ 5 * (base + from) + 20) ⌝ }
+    ensures { λ r. ⌜ Stretched (now (plan .entry)) node base (now (part .entry)) (first + count) count first from at (now (list .entry)) (r .left) (r .pos) (r .at) (now (list .exit)) ⌝ }
+{
+    let child = plan::node::ref_of(plan, node, first);
+    let size = fixed_at(plan, child);
+    let mut left = count;
+    let mut i = first;
+    let mut pos = from;
+    let mut to = at;
+    while 0 < left {
+        if !element_stands(part, pos, size) {
+            return Stretch { left, pos, at: to };
+        }
+        let start = pos + 4;
+        entry::put_entry(list, to, child, i, base + start, size, 0);
+        to += entry::WORDS;
+        pos = start + size;
+        i += 1;
+        left -= 1;
+    }
+    Stretch { left, pos, at: to }
+}
+
+// Whether a leaf's content is permitted. A fixed size is told without the call of a function that knows all formats.
+fn is_good(plan: &[u32], node: usize, kind: u32, part: &[u8]) -> bool
+    requires { ⌜ (At (now plan) node) × (kind ≡ getD (now plan) node 0) × (leafKind kind ≡ true) ⌝ }
+    ensures { λ b. ⌜ b ≡ leafGood (look (now (plan .entry)) node) (now (part .entry)) ⌝ }
+{
+    let size = fixed_at(plan, node);
+    if 0 < size {
+        return part.len() == size;
+    }
+    node::leaf_ok(plan, node, kind, part)
+}
+
+// The element of a tuple or an object at `pos`, where it is there, is a leaf and is permitted.
+fn leaf_at(plan: &[u32], child: usize, part: &[u8], i: usize, pos: usize) -> Leaf
+    requires { ⌜ (At (now plan) child) × (pos ≤ length (now part)) ⌝ }
+    ensures { λ r. ⌜ GoodLeaf (now (plan .entry)) child (now (part .entry)) i pos r ⌝ }
+{
+    let kind = plan::node::kind_at(plan, child);
+    if !node::is_leaf(kind) {
+        return Leaf::Other;
+    }
+    let head = heads::element::plain_head(part, 4, i, pos);
+    let Head::Present {
+        index: _,
+        start,
+        size,
+    } = head
+    else {
+        return Leaf::Other;
+    };
+    let end = start + size;
+    if is_good(plan, child, kind, &part[start..end]) {
+        return Leaf::Good { start, size };
+    }
+    Leaf::Other
+}
+
+// Elements of a tuple or an object, each with a node of its own.
+fn field_leaves(
+    plan: &[u32],
+    node: usize,
+    count: usize,
+    first: usize,
+    base: usize,
+    from: usize,
+    part: &[u8],
+    list: &mut [u32],
+    at: usize,
+) -> Stretch
+    requires { ⌜ (At (now plan) node) × (Container (now plan) node (getD (now plan) node 0)) × (3 < getD (now plan) node 0) × (getD (now plan) node 0 < 6) × (Holds (look (now plan) node) (first + count)) × (first + count < 2 ^ 32) × (base + length (now part) ≤ 65535) × (from ≤ length (now part)) × (4 * at ≤ 5 * (base + from) + 20) ⌝ }
+    ensures { λ r. ⌜ Stretched (now (plan .entry)) node base (now (part .entry)) (first + count) count first from at (now (list .entry)) (r .left) (r .pos) (r .at) (now (list .exit)) ⌝ }
+{
+    let mut left = count;
+    let mut i = first;
+    let mut pos = from;
+    let mut to = at;
+    while 0 < left {
+        let child = plan::node::ref_of(plan, node, i);
+        let leaf = leaf_at(plan, child, part, i, pos);
+        let Leaf::Good { start, size } = leaf else {
+            return Stretch { left, pos, at: to };
+        };
+        entry::put_entry(list, to, child, i, base + start, size, 0);
+        to += entry::WORDS;
+        pos = start + size;
+        i += 1;
+        left -= 1;
+    }
+    Stretch { left, pos, at: to }
+}
+
+// A stretch of leaves in a container whose elements come in order.
+pub fn walk_leaves(
+    plan: &[u32],
+    node: usize,
+    kind: u32,
+    count: usize,
+    first: usize,
+    base: usize,
+    from: usize,
+    part: &[u8],
+    list: &mut [u32],
+    at: usize,
+) -> Stretch
+    requires { ⌜ (At (now plan) node) × (Container (now plan) node kind) × (Holds (look (now plan) node) (first + count)) × (first + count < 2 ^ 32) × (base + length (now part) ≤ 65535) × (from ≤ length (now part)) × (4 * at ≤ 5 * (base + from) + 20) ⌝ }
+    ensures { λ r. ⌜ Stretched (now (plan .entry)) node base (now (part .entry)) (first + count) count first from at (now (list .entry)) (r .left) (r .pos) (r .at) (now (list .exit)) ⌝ }
+{
+    if kind == 2 {
+        return same_leaves(plan, node, count, first, base, from, part, list, at);
+    }
+    if 3 < kind {
+        if kind < 6 {
+            return field_leaves(plan, node, count, first, base, from, part, list, at);
+        }
+    }
+    Stretch {
+        left: count,
+        pos: from,
+        at,
+    }
+}
