@@ -214,3 +214,27 @@ module _ (p : List ℕ) (k base : ℕ) (s : List ℕ) (n first from at : ℕ) (l
     going-field z kind c low high a child r leaf start size x e l″ el same =
         let t = leaf-in p child s i pos leaf start size (g .2) x e in
         going-next z start size child (field-head s i pos p k kind c low high start size (t .0)) (t .1) (t .2) r (at-ref p k i child a r .0) (t .3) (t .4) l″ el same
+
+-- ---- a container's elements by turns: one that is no leaf, and the stretch after it
+
+pub from-end : (end left : ℕ) → left ≤ end → end - left + left ≡ end
+from-end end left h = omega arith
+
+-- of the elements up to the index `end`, `left` are left
+abbrev pub Left : List ℕ → ℕ → ℕ → List ℕ → ℕ → ℕ → ℕ → ℕ → List ℕ → ℕ → ℕ → ℕ → List ℕ → Type 0
+Left p k base s end n from at l left pos to l′ =
+    (left ≤ end) × (pos ≤ length s) × (4 * to ≤ 5 * (base + pos) + 20) × (length l′ ≡ length l)
+    × (led (elements (rowForm (look p k) s) (valueOf (look p)) (refAt (look p k)) base s n (end - n) from) at l
+    ≡ led (elements (rowForm (look p k) s) (valueOf (look p)) (refAt (look p k)) base s left (end - left) pos) to l′)
+
+module _ (p : List ℕ) (k base : ℕ) (s : List ℕ) (end n from at : ℕ) (l : List ℕ) (left pos to : ℕ) (l₁ : List ℕ) (inv : Left p k base s end n from at l left pos to l₁) (z : 0 < left) where
+  pub left-next : (after word : ℕ) (l₂ : List ℕ)
+      → led (elements (rowForm (look p k) s) (valueOf (look p)) (refAt (look p k)) base s left (end - left) pos) to l₁
+      ≡ led (elements (rowForm (look p k) s) (valueOf (look p)) (refAt (look p k)) base s (left - 1) (end - left + 1) after) word l₂
+      → length l₂ ≡ length l₁ → (left′ pos′ to′ : ℕ) (l₃ : List ℕ) → Stretched p k base s (end - left + 1 + (left - 1)) (left - 1) (end - left + 1) after word l₂ left′ pos′ to′ l₃
+      → length l₃ ≡ length l₂ → Left p k base s end n from at l left′ pos′ to′ l₃
+  left-next after word l₂ turn same left′ pos′ to′ l₃ x kept =
+      let h = inv .0 in
+      let e : end - left + 1 + (left - 1) ≡ end = omega arith in
+      let y = x .some in
+      (omega arith, x .inside, x .few, kept ∙ same ∙ inv .3, inv .4 ∙ turn ∙ rw e at (x .leads))

@@ -2,6 +2,7 @@
 // are a loop, so that the stack grows with nesting only.
 use crate::Step;
 use crate::entry;
+use crate::leaves;
 use crate::node;
 use heads::Head;
 use heads::Index;
@@ -137,7 +138,7 @@ fn walk_container(
     walk_row(plan, needs, node, count, first, base, from, part, list, to)
 }
 
-// Elements in the order of their indexes.
+// Elements in the order of their indexes: a stretch of leaves, and then by turns an element of another kind and the leaves after it.
 fn walk_row(
     plan: &[u32],
     needs: &[u32],
@@ -155,20 +156,35 @@ fn walk_row(
     ensures within { λ r. ⌜ Within (base + length (now (part .entry))) r ⌝ }
 {
     let kind = plan::node::kind_at(plan, node);
-    let mut left = count;
-    let mut i = first;
-    let mut pos = from;
-    let mut to = at;
+    let end = first + count;
+    let run = leaves::walk_leaves(plan, node, kind, count, first, base, from, part, list, at);
+    let mut left = run.left;
+    let mut pos = run.pos;
+    let mut to = run.at;
     while 0 < left {
+        let i = end - left;
         let head = node::row_head(plan, node, kind, part, i, pos);
         let step = walk_member(plan, needs, node, base, part, head, pos, list, to);
         let Step::Reached { at: next } = step else {
             return step;
         };
-        to = next as usize;
-        pos = heads::parts::end_of(head);
-        i += 1;
-        left -= 1;
+        let after = heads::parts::end_of(head);
+        let word = next as usize;
+        let more = leaves::walk_leaves(
+            plan,
+            node,
+            kind,
+            left - 1,
+            i + 1,
+            base,
+            after,
+            part,
+            list,
+            word,
+        );
+        left = more.left;
+        pos = more.pos;
+        to = more.at;
     }
     end_elements(pos == part.len(), false, base, to)
 }

@@ -1,3 +1,4 @@
+use Rattle.value.proofs.Stretches.{Left, left-next, from-end}
 -- A value, its container's elements and one of them: the functions of the walk, which call each other. The node falls from a value to its
 -- elements' values. Assumes nothing.
 use Rattle.value.proofs.Members.{opening-holds, is-row, opened, inner-kind, same-kind, value-wrong, value-sparse, value-row, member-fault, member-absent, member-present, absent-in, present-in, end-in, within-present, within-absent, reached-in, refused-within, fault-within, end-within, anew, anew-within, object-below, row-at, known-in, sparse-twice, sparse-turn, part-size}
@@ -43,6 +44,7 @@ use Rattle.plan.proofs.node.kind_at.Reads as kind-at-reads
 use Rattle.plan.proofs.node.ref_of.Reads as ref-of-reads
 use Rattle.plan.proofs.node.second_at.Reads as second-at-reads
 use Rattle.value.proofs.entry.put_entry.Reads as put-entry-reads
+use Rattle.value.proofs.leaves.walk_leaves.Reads as walk-leaves-reads
 use Rattle.value.proofs.node.count_given.Reads as count-given-reads
 use Rattle.value.proofs.node.is_leaf.Reads as is-leaf-reads
 use Rattle.value.proofs.node.open_node.Reads as open-node-reads
@@ -131,7 +133,7 @@ walk-member-claims t =
 
 abbrev walk-row-claims : ℕ → walk-row-lts.Claims
 walk-row-claims t =
-    (kind-at-reads.Asked, kind-at-reads.Learnt, row-head-reads.Asked, row-head-reads.Learnt, walk-member-below t, walk-member.Post, end-of-reads.Asked, end-of-reads.Learnt, end-elements-reads.Asked, end-elements-reads.Learnt)
+    (kind-at-reads.Asked, kind-at-reads.Learnt, walk-leaves-reads.Asked, walk-leaves-reads.Learnt, row-head-reads.Asked, row-head-reads.Learnt, walk-member-below t, walk-member.Post, end-of-reads.Asked, end-of-reads.Learnt, end-elements-reads.Asked, end-elements-reads.Learnt)
 
 abbrev walk-sparse-claims : ℕ → walk-sparse-lts.Claims
 walk-sparse-claims t =
@@ -290,28 +292,35 @@ walk-member-returns-4 t c =
     (anew _ _ (c .before .step .given .1) _ _ (c .before .before .before .before .before .walk-value .ensures .0 ∙ member-present _ _ _ _ _ _ _ _ _ _ (c .before .before .before .before .before .before .before .before .ref-of2 .ensures) _ (c .before .before .before .before .before .before .before .before .before .before .head3 .given .1)), anew-within _ _ (c .before .step .given .1) _ _ (within-present _ _ _ _ _ _ _ (c .before .before .before .before .before .before .before .before .before .before .head3 .given .1) (part-size _ _ _ (present-in _ _ _ _ (c .before .before .before .before .before .before .before .before .before .before .before .before .before .before .before .before .pre .1 .2) _ _ _ (c .before .before .before .before .before .before .before .before .before .before .head3 .given .1) .2)) (c .before .before .before .before .before .walk-value .ensures .1)))
 
 abbrev walk-row-Inv-loop : walk-row-lts.InvT-loop
-walk-row-Inv-loop plan needs node count first base from part list₀ at kind left₀ i₀ pos₀ to₀ list left i pos to =
-    (i + left ≡ first + count) × (pos ≤ length part) × (4 * to ≤ 5 * (base + pos) + 20) × (length list ≡ length list₀)
-    × (led (elements (rowForm (look plan node) part) (valueOf (look plan)) (refAt (look plan node)) base part left₀ i₀ pos₀) to₀ list₀
-    ≡ led (elements (rowForm (look plan node) part) (valueOf (look plan)) (refAt (look plan node)) base part left i pos) to list)
+walk-row-Inv-loop plan needs node count first base from part list₀ at kind end left₀ pos₀ to₀ list left pos to = Left plan node base part end left₀ pos₀ to₀ list₀ left pos to list
 
 abbrev walk-row-μ-loop : walk-row-lts.MeasureT-loop
-walk-row-μ-loop plan needs node count first base from part list₀ at kind left₀ i₀ pos₀ to₀ list left i pos to = left
+walk-row-μ-loop plan needs node count first base from part list₀ at kind end left₀ pos₀ to₀ list left pos to = left
 
 walk-row-kind-at-requires : (t : ℕ) → walk-row-lts.Need-kind-at-requires (walk-row-claims t) (walk-row-at t) walk-row.Post walk-row-Inv-loop walk-row-μ-loop
 walk-row-kind-at-requires t c κs = c .before .before .before .before .pre .1 .0
 
+walk-row-add-end : (t : ℕ) → walk-row-lts.Need-add-end (walk-row-claims t) (walk-row-at t) walk-row.Post walk-row-Inv-loop walk-row-μ-loop
+walk-row-add-end t c = omega (arith, c .before .before .before .before .before .pre .1 .4)
+
+walk-row-walk-leaves-requires : (t : ℕ) → walk-row-lts.Need-walk-leaves-requires (walk-row-claims t) (walk-row-at t) walk-row.Post walk-row-Inv-loop walk-row-μ-loop
+walk-row-walk-leaves-requires t c κs =
+    (c .before .before .before .before .before .before .pre .1 .0, same-kind _ _ _ _ (c .before .before .before .before .before .before .pre .1 .1) (c .before .kind-at .ensures .is), c .before .before .before .before .before .before .pre .1 .3, c .before .before .before .before .before .before .pre .1 .4, c .before .before .before .before .before .before .pre .1 .5, c .before .before .before .before .before .before .pre .1 .6, c .before .before .before .before .before .before .pre .1 .7)
+
 walk-row-loop-holds : (t : ℕ) → walk-row-lts.Need-loop-holds (walk-row-claims t) (walk-row-at t) walk-row.Post walk-row-Inv-loop walk-row-μ-loop
 walk-row-loop-holds t c =
-    (omega arith, c .before .before .before .before .before .pre .1 .6, c .before .before .before .before .before .pre .1 .7, refl, refl)
+    (omega (arith, c .before .before .walk-leaves .ensures .some), c .before .before .walk-leaves .ensures .inside, c .before .before .walk-leaves .ensures .few, refl, refl)
+
+walk-row-sub-i : (t : ℕ) → walk-row-lts.Need-sub-i (walk-row-claims t) (walk-row-at t) walk-row.Post walk-row-Inv-loop walk-row-μ-loop
+walk-row-sub-i t c = c .before .loop .inv .0
 
 walk-row-row-head-requires : (t : ℕ) → walk-row-lts.Need-row-head-requires (walk-row-claims t) (walk-row-at t) walk-row.Post walk-row-Inv-loop walk-row-μ-loop
 walk-row-row-head-requires t c κs =
-    (c .before .before .before .before .before .before .before .pre .1 .0, same-kind _ _ _ _ (c .before .before .before .before .before .before .before .pre .1 .1) (c .before .before .kind-at .ensures .is), (λ e. c .before .before .before .before .before .before .before .pre .1 .2 (sym (c .before .before .kind-at .ensures .is) ∙ e)), (λ e. object-below _ _ _ (sym (c .before .before .kind-at .ensures .is) ∙ e) (c .before .before .before .before .before .before .before .pre .1 .3 _ (omega (arith, c .before .loop .inv .0, c .loop-test .taken)))), c .before .loop .inv .1)
+    (c .before .before .before .before .before .before .before .before .before .before .before .pre .1 .0, same-kind _ _ _ _ (c .before .before .before .before .before .before .before .before .before .before .before .pre .1 .1) (c .before .before .before .before .before .before .kind-at .ensures .is), (λ e. c .before .before .before .before .before .before .before .before .before .before .before .pre .1 .2 (sym (c .before .before .before .before .before .before .kind-at .ensures .is) ∙ e)), (λ e. object-below _ _ _ (sym (c .before .before .before .before .before .before .kind-at .ensures .is) ∙ e) (c .before .before .before .before .before .before .before .before .before .before .before .pre .1 .3 _ (omega (arith, c .before .loop .inv .0, c .loop-test .taken)))), c .before .loop .inv .1)
 
 walk-row-walk-member-requires : (t : ℕ) → walk-row-lts.Need-walk-member-requires (walk-row-claims t) (walk-row-at t) walk-row.Post walk-row-Inv-loop walk-row-μ-loop
 walk-row-walk-member-requires t c κs =
-    (omega (arith, c .before .before .before .before .before .before .before .before .before .pre .0), (c .before .before .before .before .before .before .before .before .before .pre .1 .0, c .before .before .before .before .before .before .before .before .before .pre .1 .5, row-at _ _ (c .before .before .before .before .before .before .before .before .before .pre .1 .0) _ (c .before .before .before .before .before .before .before .before .before .pre .1 .1) (c .before .before .before .before .before .before .before .before .before .pre .1 .2) _ (c .before .before .before .before .before .before .before .before .before .pre .1 .3) (c .before .before .before .before .before .before .before .before .before .pre .1 .4) _ _ _ _ _ (c .before .before .before .loop .inv .0) (c .before .before .loop-test .taken) (c .before .before .before .loop .inv .1) (c .before .row-head .ensures), c .before .before .before .loop .inv .2, c .before .before .before .before .before .before .before .before .before .pre .1 .8))
+    (omega (arith, c .before .before .before .before .before .before .before .before .before .before .before .before .before .pre .0), (c .before .before .before .before .before .before .before .before .before .before .before .before .before .pre .1 .0, c .before .before .before .before .before .before .before .before .before .before .before .before .before .pre .1 .5, row-at _ _ (c .before .before .before .before .before .before .before .before .before .before .before .before .before .pre .1 .0) _ (c .before .before .before .before .before .before .before .before .before .before .before .before .before .pre .1 .1) (c .before .before .before .before .before .before .before .before .before .before .before .before .before .pre .1 .2) _ (c .before .before .before .before .before .before .before .before .before .before .before .before .before .pre .1 .3) (c .before .before .before .before .before .before .before .before .before .before .before .before .before .pre .1 .4) _ _ _ _ _ (from-end _ _ (c .before .before .before .loop .inv .0)) (c .before .before .loop-test .taken) (c .before .before .before .loop .inv .1) (c .before .row-head .ensures), c .before .before .before .loop .inv .2, c .before .before .before .before .before .before .before .before .before .before .before .before .before .pre .1 .8))
 
 walk-row-enum-known-step : (t : ℕ) → walk-row-lts.Need-enum-known-step (walk-row-claims t) (walk-row-at t) walk-row.Post walk-row-Inv-loop walk-row-μ-loop
 walk-row-enum-known-step t c = search needs
@@ -321,46 +330,52 @@ walk-row-enum-told t c = search needs
 
 walk-row-same-length : (t : ℕ) → walk-row-lts.Need-same-length (walk-row-claims t) (walk-row-at t) walk-row.Post walk-row-Inv-loop walk-row-μ-loop
 walk-row-same-length t c =
-    c .before .before .before .before .walk-member .kept .1 .1 .1 .1 .1 .1 .1 .0 ∙ c .before .before .before .before .before .before .before .before .loop .inv .3
+    c .before .before .before .before .walk-member .kept .1 .1 .1 .1 .1 .1 .1 .0 ∙ c .before .before .before .before .before .before .before .before .loop .inv .3 ∙ c .before .before .before .before .before .before .before .before .before .before .before .walk-leaves .kept .1 .1 .1 .1 .1 .1 .1 .1 .0
 
 walk-row-returns : (t : ℕ) → walk-row-lts.Need-returns (walk-row-claims t) (walk-row-at t) walk-row.Post walk-row-Inv-loop walk-row-μ-loop
 walk-row-returns t c =
-    (turn-stop _ (single (look (c .before .before .before .before .before .before .before .before .before .before .before .before .before .before .args .plan .now))) _ _ _ (rowForm (look (c .before .before .before .before .before .before .before .before .before .before .before .before .before .before .args .plan .now) (c .before .before .before .before .before .before .before .before .before .before .before .before .before .before .args .node)) (c .before .before .before .before .before .before .before .before .before .before .before .before .before .before .args .part .now)) (c .before .before .before .before .before .before .before .before .loop .i) (c .before .before .before .before .before .before .before .before .loop .pos) _ _ _ (c .before .before .before .before .before .before .before .loop-test .taken) _ (c .before .before .before .before .before .before .row-head .ensures) _ _ (c .before .before .before .before .walk-member .ensures .0) _ _ (c .enum-told .given .1) ∙ sym (c .before .before .before .before .before .before .before .before .loop .inv .4), refused-within _ _ _ _ (c .enum-told .given .1))
-
-walk-row-cast-to : (t : ℕ) → walk-row-lts.Need-cast-to (walk-row-claims t) (walk-row-at t) walk-row.Post walk-row-Inv-loop walk-row-μ-loop
-walk-row-cast-to t c = search needs
+    (turn-stop _ (single (look (c .before .before .before .before .before .before .before .before .before .before .before .before .before .before .before .before .before .before .args .plan .now))) _ _ _ (rowForm (look (c .before .before .before .before .before .before .before .before .before .before .before .before .before .before .before .before .before .before .args .plan .now) (c .before .before .before .before .before .before .before .before .before .before .before .before .before .before .before .before .before .before .args .node)) (c .before .before .before .before .before .before .before .before .before .before .before .before .before .before .before .before .before .before .args .part .now)) _ (c .before .before .before .before .before .before .before .before .loop .pos) _ _ _ (c .before .before .before .before .before .before .before .loop-test .taken) _ (c .before .before .before .before .before .before .row-head .ensures) _ _ (c .before .before .before .before .walk-member .ensures .0) _ _ (c .enum-told .given .1) ∙ sym (c .before .before .before .before .before .before .before .before .loop .inv .4) ∙ sym (c .before .before .before .before .before .before .before .before .before .before .before .walk-leaves .ensures .leads), refused-within _ _ _ _ (c .enum-told .given .1))
 
 walk-row-end-of-requires : (t : ℕ) → walk-row-lts.Need-end-of-requires (walk-row-claims t) (walk-row-at t) walk-row.Post walk-row-Inv-loop walk-row-μ-loop
 walk-row-end-of-requires t c κs =
-    let h = row-at _ _ (c .before .before .before .before .before .before .before .before .before .before .before .before .before .before .before .pre .1 .0) _ (c .before .before .before .before .before .before .before .before .before .before .before .before .before .before .before .pre .1 .1) (c .before .before .before .before .before .before .before .before .before .before .before .before .before .before .before .pre .1 .2) _ (c .before .before .before .before .before .before .before .before .before .before .before .before .before .before .before .pre .1 .3) (c .before .before .before .before .before .before .before .before .before .before .before .before .before .before .before .pre .1 .4) _ _ _ _ _ (c .before .before .before .before .before .before .before .before .before .loop .inv .0) (c .before .before .before .before .before .before .before .before .loop-test .taken) (c .before .before .before .before .before .before .before .before .before .loop .inv .1) (c .before .before .before .before .before .before .before .row-head .ensures) in
-    omega (arith, end-in _ _ _ _ h, c .before .before .before .before .before .before .before .before .before .before .before .before .before .before .before .pre .1 .5)
+    let h = row-at _ _ (c .before .before .before .before .before .before .before .before .before .before .before .before .before .before .before .before .before .before .before .pre .1 .0) _ (c .before .before .before .before .before .before .before .before .before .before .before .before .before .before .before .before .before .before .before .pre .1 .1) (c .before .before .before .before .before .before .before .before .before .before .before .before .before .before .before .before .before .before .before .pre .1 .2) _ (c .before .before .before .before .before .before .before .before .before .before .before .before .before .before .before .before .before .before .before .pre .1 .3) (c .before .before .before .before .before .before .before .before .before .before .before .before .before .before .before .before .before .before .before .pre .1 .4) _ _ _ _ _ (from-end _ _ (c .before .before .before .before .before .before .before .before .before .loop .inv .0)) (c .before .before .before .before .before .before .before .before .loop-test .taken) (c .before .before .before .before .before .before .before .before .before .loop .inv .1) (c .before .before .before .before .before .before .before .row-head .ensures) in
+    omega (arith, end-in _ _ _ _ h, c .before .before .before .before .before .before .before .before .before .before .before .before .before .before .before .before .before .before .before .pre .1 .5)
 
-walk-row-add-i : (t : ℕ) → walk-row-lts.Need-add-i (walk-row-claims t) (walk-row-at t) walk-row.Post walk-row-Inv-loop walk-row-μ-loop
-walk-row-add-i t c =
-    omega (arith, c .before .before .before .before .before .before .before .before .before .before .loop .inv .0, c .before .before .before .before .before .before .before .before .before .loop-test .taken, c .before .before .before .before .before .before .before .before .before .before .before .before .before .before .before .before .pre .1 .4)
+walk-row-cast-word : (t : ℕ) → walk-row-lts.Need-cast-word (walk-row-claims t) (walk-row-at t) walk-row.Post walk-row-Inv-loop walk-row-μ-loop
+walk-row-cast-word t c = search needs
 
-walk-row-sub-left : (t : ℕ) → walk-row-lts.Need-sub-left (walk-row-claims t) (walk-row-at t) walk-row.Post walk-row-Inv-loop walk-row-μ-loop
-walk-row-sub-left t c = search needs
+walk-row-sub-walk-leaves : (t : ℕ) → walk-row-lts.Need-sub-walk-leaves (walk-row-claims t) (walk-row-at t) walk-row.Post walk-row-Inv-loop walk-row-μ-loop
+walk-row-sub-walk-leaves t c = search needs
+
+walk-row-add-walk-leaves : (t : ℕ) → walk-row-lts.Need-add-walk-leaves (walk-row-claims t) (walk-row-at t) walk-row.Post walk-row-Inv-loop walk-row-μ-loop
+walk-row-add-walk-leaves t c =
+    omega (arith, c .before .before .before .before .before .before .before .before .before .before .loop .inv .0, c .before .before .before .before .before .before .before .before .before .loop-test .taken, c .before .before .before .before .before .before .before .before .before .before .before .before .before .before .before .before .before .before .before .before .pre .1 .4)
+
+walk-row-walk-leaves-requires-2 : (t : ℕ) → walk-row-lts.Need-walk-leaves-requires-2 (walk-row-claims t) (walk-row-at t) walk-row.Post walk-row-Inv-loop walk-row-μ-loop
+walk-row-walk-leaves-requires-2 t c κs =
+    let w = reached-in _ _ _ _ (c .before .before .before .step .given .1) (c .before .before .before .before .before .before .before .walk-member .ensures .1) in
+    let h = row-at _ _ (c .before .before .before .before .before .before .before .before .before .before .before .before .before .before .before .before .before .before .before .before .before .pre .1 .0) _ (c .before .before .before .before .before .before .before .before .before .before .before .before .before .before .before .before .before .before .before .before .before .pre .1 .1) (c .before .before .before .before .before .before .before .before .before .before .before .before .before .before .before .before .before .before .before .before .before .pre .1 .2) _ (c .before .before .before .before .before .before .before .before .before .before .before .before .before .before .before .before .before .before .before .before .before .pre .1 .3) (c .before .before .before .before .before .before .before .before .before .before .before .before .before .before .before .before .before .before .before .before .before .pre .1 .4) _ _ _ _ _ (from-end _ _ (c .before .before .before .before .before .before .before .before .before .before .before .loop .inv .0)) (c .before .before .before .before .before .before .before .before .before .before .loop-test .taken) (c .before .before .before .before .before .before .before .before .before .before .before .loop .inv .1) (c .before .before .before .before .before .before .before .before .before .row-head .ensures) in
+    (c .before .before .before .before .before .before .before .before .before .before .before .before .before .before .before .before .before .before .before .before .before .pre .1 .0, same-kind _ _ _ _ (c .before .before .before .before .before .before .before .before .before .before .before .before .before .before .before .before .before .before .before .before .before .pre .1 .1) (c .before .before .before .before .before .before .before .before .before .before .before .before .before .before .before .before .kind-at .ensures .is), (λ i q. c .before .before .before .before .before .before .before .before .before .before .before .before .before .before .before .before .before .before .before .before .before .pre .1 .3 i (omega (arith, q, c .before .before .before .before .before .before .before .before .before .before .before .loop .inv .0, c .before .before .before .before .before .before .before .before .before .before .loop-test .taken))), omega (arith, c .before .before .before .before .before .before .before .before .before .before .before .loop .inv .0, c .before .before .before .before .before .before .before .before .before .before .loop-test .taken, c .before .before .before .before .before .before .before .before .before .before .before .before .before .before .before .before .before .before .before .before .before .pre .1 .4), c .before .before .before .before .before .before .before .before .before .before .before .before .before .before .before .before .before .before .before .before .before .pre .1 .5, rw (c .before .end-of .ensures) (end-in _ _ _ _ h), rw (c .before .end-of .ensures) (w .1))
 
 walk-row-loop-less : (t : ℕ) → walk-row-lts.Need-loop-less (walk-row-claims t) (walk-row-at t) walk-row.Post walk-row-Inv-loop walk-row-μ-loop
-walk-row-loop-less t c = omega arith
+walk-row-loop-less t c =
+    omega (arith, c .before .before .walk-leaves2 .ensures .some, c .before .before .before .before .before .before .before .before .before .before .before .before .before .loop-test .taken)
 
 walk-row-loop-again : (t : ℕ) → walk-row-lts.Need-loop-again (walk-row-claims t) (walk-row-at t) walk-row.Post walk-row-Inv-loop walk-row-μ-loop
 walk-row-loop-again t c =
-    let w = reached-in _ _ _ _ (c .before .before .step .given .1) (c .before .before .before .before .before .before .walk-member .ensures .1) in
-    let h = row-at _ _ (c .before .before .before .before .before .before .before .before .before .before .before .before .before .before .before .before .pre .1 .0) _ (c .before .before .before .before .before .before .before .before .before .before .before .before .before .before .before .before .pre .1 .1) (c .before .before .before .before .before .before .before .before .before .before .before .before .before .before .before .before .pre .1 .2) _ (c .before .before .before .before .before .before .before .before .before .before .before .before .before .before .before .before .pre .1 .3) (c .before .before .before .before .before .before .before .before .before .before .before .before .before .before .before .before .pre .1 .4) _ _ _ _ _ (c .before .before .before .before .before .before .before .before .before .before .loop .inv .0) (c .before .before .before .before .before .before .before .before .before .loop-test .taken) (c .before .before .before .before .before .before .before .before .before .before .loop .inv .1) (c .before .before .before .before .before .before .before .before .row-head .ensures) in
-    (omega (arith, c .before .before .before .before .before .before .before .before .before .before .loop .inv .0, c .before .before .before .before .before .before .before .before .before .loop-test .taken), rw (c .end-of .ensures) (end-in _ _ _ _ h), rw (c .end-of .ensures) (w .1), c .before .before .before .before .before .before .walk-member .kept .1 .1 .1 .1 .1 .1 .1 .0 ∙ c .before .before .before .before .before .before .before .before .before .before .loop .inv .3, c .before .before .before .before .before .before .before .before .before .before .loop .inv .4 ∙ turn-go _ (single (look (c .before .before .before .before .before .before .before .before .before .before .before .before .before .before .before .before .args .plan .now))) _ _ _ (rowForm (look (c .before .before .before .before .before .before .before .before .before .before .before .before .before .before .before .before .args .plan .now) (c .before .before .before .before .before .before .before .before .before .before .before .before .before .before .before .before .args .node)) (c .before .before .before .before .before .before .before .before .before .before .before .before .before .before .before .before .args .part .now)) (c .before .before .before .before .before .before .before .before .before .before .loop .i) (c .before .before .before .before .before .before .before .before .before .before .loop .pos) _ _ _ (c .before .before .before .before .before .before .before .before .before .loop-test .taken) _ (c .before .before .before .before .before .before .before .before .row-head .ensures) _ _ (c .before .before .before .before .before .before .walk-member .ensures .0) _ (c .before .before .step .given .1) _ refl _ (c .end-of .ensures))
+    left-next _ _ _ _ _ _ _ _ _ _ _ _ _ (c .before .before .before .before .before .before .before .before .before .before .before .before .before .before .loop .inv) (c .before .before .before .before .before .before .before .before .before .before .before .before .before .loop-test .taken) _ _ _ (turn-go _ (single (look (c .before .before .before .before .before .before .before .before .before .before .before .before .before .before .before .before .before .before .before .before .before .before .before .before .args .plan .now))) _ _ _ (rowForm (look (c .before .before .before .before .before .before .before .before .before .before .before .before .before .before .before .before .before .before .before .before .before .before .before .before .args .plan .now) (c .before .before .before .before .before .before .before .before .before .before .before .before .before .before .before .before .before .before .before .before .before .before .before .before .args .node)) (c .before .before .before .before .before .before .before .before .before .before .before .before .before .before .before .before .before .before .before .before .before .before .before .before .args .part .now)) _ (c .before .before .before .before .before .before .before .before .before .before .before .before .before .before .loop .pos) _ _ _ (c .before .before .before .before .before .before .before .before .before .before .before .before .before .loop-test .taken) _ (c .before .before .before .before .before .before .before .before .before .before .before .before .row-head .ensures) _ _ (c .before .before .before .before .before .before .before .before .before .before .walk-member .ensures .0) _ (c .before .before .before .before .before .before .step .given .1) _ refl _ (c .before .before .before .before .end-of .ensures)) (c .before .before .before .before .before .before .before .before .before .before .walk-member .kept .1 .1 .1 .1 .1 .1 .1 .0) _ _ _ _ (c .before .before .walk-leaves2 .ensures) (c .before .before .walk-leaves2 .kept .1 .1 .1 .1 .1 .1 .1 .1 .0)
 
 walk-row-end-elements-requires : (t : ℕ) → walk-row-lts.Need-end-elements-requires (walk-row-claims t) (walk-row-at t) walk-row.Post walk-row-Inv-loop walk-row-μ-loop
 walk-row-end-elements-requires t c κs =
-    (omega (arith, c .before .before .before .before .before .before .before .pre .1 .5), omega (arith, c .before .loop .inv .1, c .before .loop .inv .2, c .before .before .before .before .before .before .before .pre .1 .5))
+    (omega (arith, c .before .before .before .before .before .before .before .before .before .before .before .pre .1 .5), omega (arith, c .before .loop .inv .1, c .before .loop .inv .2, c .before .before .before .before .before .before .before .before .before .before .before .pre .1 .5))
 
 walk-row-same-length-2 : (t : ℕ) → walk-row-lts.Need-same-length-2 (walk-row-claims t) (walk-row-at t) walk-row.Post walk-row-Inv-loop walk-row-μ-loop
-walk-row-same-length-2 t c = c .before .before .loop .inv .3
+walk-row-same-length-2 t c =
+    c .before .before .loop .inv .3 ∙ c .before .before .before .before .before .walk-leaves .kept .1 .1 .1 .1 .1 .1 .1 .1 .0
 
 walk-row-returns-2 : (t : ℕ) → walk-row-lts.Need-returns-2 (walk-row-claims t) (walk-row-at t) walk-row.Post walk-row-Inv-loop walk-row-μ-loop
 walk-row-returns-2 t c =
-    (done _ (single (look (c .before .before .before .before .before .before .before .before .args .plan .now))) _ _ _ (rowForm (look (c .before .before .before .before .before .before .before .before .args .plan .now) (c .before .before .before .before .before .before .before .before .args .node)) (c .before .before .before .before .before .before .before .before .args .part .now)) (c .before .before .loop .i) (c .before .before .loop .pos) _ _ _ (c .before .loop-test .left) _ _ refl refl _ (c .end-elements .ensures) ∙ sym (c .before .before .loop .inv .4), end-within _ _ _ _ _ _ (c .end-elements .ensures) (omega (arith, c .before .before .loop .inv .1, c .before .before .loop .inv .2)))
+    (done _ (single (look (c .before .before .before .before .before .before .before .before .before .before .before .before .args .plan .now))) _ _ _ (rowForm (look (c .before .before .before .before .before .before .before .before .before .before .before .before .args .plan .now) (c .before .before .before .before .before .before .before .before .before .before .before .before .args .node)) (c .before .before .before .before .before .before .before .before .before .before .before .before .args .part .now)) _ (c .before .before .loop .pos) _ _ _ (c .before .loop-test .left) _ _ refl refl _ (c .end-elements .ensures) ∙ sym (c .before .before .loop .inv .4) ∙ sym (c .before .before .before .before .before .walk-leaves .ensures .leads), end-within _ _ _ _ _ _ (c .end-elements .ensures) (omega (arith, c .before .before .loop .inv .1, c .before .before .loop .inv .2)))
 
 abbrev walk-sparse-Inv-loop : walk-sparse-lts.InvT-loop
 walk-sparse-Inv-loop plan needs node count base from part list₀ at n seen₀ given₀ left₀ pos₀ to₀ list seen given left pos to =
@@ -567,17 +582,21 @@ pub +walk-container+walk-member+walk-row+walk-sparse+walk-value-spec : {M : Type
     walk-row-Inv-loop
     walk-row-μ-loop
     (walk-row-kind-at-requires t)
+    (walk-row-add-end t)
+    (walk-row-walk-leaves-requires t)
     (walk-row-loop-holds t)
+    (walk-row-sub-i t)
     (walk-row-row-head-requires t)
     (walk-row-walk-member-requires t)
     (walk-row-enum-known-step t)
     (walk-row-enum-told t)
     (walk-row-same-length t)
     (walk-row-returns t)
-    (walk-row-cast-to t)
     (walk-row-end-of-requires t)
-    (walk-row-add-i t)
-    (walk-row-sub-left t)
+    (walk-row-cast-word t)
+    (walk-row-sub-walk-leaves t)
+    (walk-row-add-walk-leaves t)
+    (walk-row-walk-leaves-requires-2 t)
     (walk-row-loop-less t)
     (walk-row-loop-again t)
     (walk-row-end-elements-requires t)
