@@ -287,14 +287,6 @@ pub fault-within : (base : ℕ) (h : Head) (r : Step) (n p : ℕ) → r ≡ Refu
 unfolding WithinHead
 fault-within base h r n p x = rw x tt
 
--- a step that is made anew from its parts
-module _ (x y : Step) (e : x ≡ y) where
-  pub anew : (l : List ℕ) (w : Walk) → walkOf x l ≡ w → walkOf y l ≡ w
-  anew l w q = rw e at q
-
-  pub anew-within : (base : ℕ) (h : Head) → WithinHead base h x → WithinHead base h y
-  anew-within base h q = rw e at q
-
 -- the end of a container's elements
 pub end-within : (w b : Bool) (e base at : ℕ) (x : Step) → x ≡ endStep w b base at → 4 * at ≤ 5 * e + 20 → Within e x
 unfolding Within endStep pick

@@ -150,7 +150,6 @@ fn field_leaves(
 pub fn walk_leaves(
     plan: &[u32],
     node: usize,
-    kind: u32,
     count: usize,
     first: usize,
     base: usize,
@@ -159,9 +158,10 @@ pub fn walk_leaves(
     list: &mut [u32],
     at: usize,
 ) -> Stretch
-    requires { ⌜ (At (now plan) node) × (Container (now plan) node kind) × (Holds (look (now plan) node) (first + count)) × (first + count < 2 ^ 32) × (base + length (now part) ≤ 65535) × (from ≤ length (now part)) × (4 * at ≤ 5 * (base + from) + 20) ⌝ }
+    requires { ⌜ (At (now plan) node) × (Container (now plan) node (getD (now plan) node 0)) × (Holds (look (now plan) node) (first + count)) × (first + count < 2 ^ 32) × (base + length (now part) ≤ 65535) × (from ≤ length (now part)) × (4 * at ≤ 5 * (base + from) + 20) ⌝ }
     ensures { λ r. ⌜ Stretched (now (plan .entry)) node base (now (part .entry)) (first + count) count first from at (now (list .entry)) (r .left) (r .pos) (r .at) (now (list .exit)) ⌝ }
 {
+    let kind = plan::node::kind_at(plan, node);
     if kind == 2 {
         return same_leaves(plan, node, count, first, base, from, part, list, at);
     }

@@ -157,7 +157,7 @@ fn walk_row(
 {
     let kind = plan::node::kind_at(plan, node);
     let end = first + count;
-    let run = leaves::walk_leaves(plan, node, kind, count, first, base, from, part, list, at);
+    let run = leaves::walk_leaves(plan, node, count, first, base, from, part, list, at);
     let mut left = run.left;
     let mut pos = run.pos;
     let mut to = run.at;
@@ -170,18 +170,7 @@ fn walk_row(
         };
         let after = heads::parts::end_of(head);
         let word = next as usize;
-        let more = leaves::walk_leaves(
-            plan,
-            node,
-            kind,
-            left - 1,
-            i + 1,
-            base,
-            after,
-            part,
-            list,
-            word,
-        );
+        let more = leaves::walk_leaves(plan, node, left - 1, i + 1, base, after, part, list, word);
         left = more.left;
         pos = more.pos;
         to = more.at;
@@ -258,23 +247,14 @@ fn walk_member(
         }
         Head::Present { index, start, size } => {
             let child = plan::node::ref_of(plan, node, index);
+            let kind = plan::node::kind_at(plan, child);
             let end = start + size;
+            let bytes = &part[start..end];
             let place = base + start;
-            let step = walk_value(
-                plan,
-                needs,
-                child,
-                index,
-                place,
-                &part[start..end],
-                list,
-                at,
-            );
-            // Made anew: to hand the whole enum on is a copy that waits until its parts are stored, for every element.
-            let Step::Reached { at: next } = step else {
-                return step;
-            };
-            Step::Reached { at: next }
+            if node::is_leaf(kind) {
+                return walk_leaf(plan, child, kind, index, place, bytes, list, at);
+            }
+            walk_value(plan, needs, child, index, place, bytes, list, at)
         }
     }
 }

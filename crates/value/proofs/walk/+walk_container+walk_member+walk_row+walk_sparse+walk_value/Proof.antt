@@ -1,7 +1,7 @@
 use Rattle.value.proofs.Stretches.{Left, left-next, from-end}
 -- A value, its container's elements and one of them: the functions of the walk, which call each other. The node falls from a value to its
 -- elements' values. Assumes nothing.
-use Rattle.value.proofs.Members.{opening-holds, is-row, opened, inner-kind, same-kind, value-wrong, value-sparse, value-row, member-fault, member-absent, member-present, absent-in, present-in, end-in, within-present, within-absent, reached-in, refused-within, fault-within, end-within, anew, anew-within, object-below, row-at, known-in, sparse-twice, sparse-turn, part-size}
+use Rattle.value.proofs.Members.{opening-holds, is-row, opened, inner-kind, same-kind, value-wrong, value-sparse, value-row, member-fault, member-absent, member-present, absent-in, present-in, end-in, within-present, within-absent, reached-in, refused-within, fault-within, end-within, object-below, row-at, known-in, sparse-twice, sparse-turn, part-size}
 use lib.ListN.{length, length-take, length-drop}
 use mathlib.Core.Path.{_≡_, refl, sym, _∙_}
 use native.Mathlib.Omega.{arith}
@@ -129,7 +129,7 @@ walk-container-claims t =
 
 abbrev walk-member-claims : ℕ → walk-member-lts.Claims
 walk-member-claims t =
-    (refused-reads.Asked, refused-reads.Learnt, ref-of-reads.Asked, ref-of-reads.Learnt, walk-absent-reads.Asked, walk-absent-reads.Learnt, walk-value-below t, walk-value.Post)
+    (refused-reads.Asked, refused-reads.Learnt, ref-of-reads.Asked, ref-of-reads.Learnt, walk-absent-reads.Asked, walk-absent-reads.Learnt, kind-at-reads.Asked, kind-at-reads.Learnt, is-leaf-reads.Asked, is-leaf-reads.Learnt, walk-leaf-reads.Asked, walk-leaf-reads.Learnt, walk-value-below t, walk-value.Post)
 
 abbrev walk-row-claims : ℕ → walk-row-lts.Claims
 walk-row-claims t =
@@ -236,42 +236,49 @@ walk-member-ref-of-requires-2 : (t : ℕ) → walk-member-lts.Need-ref-of-requir
 walk-member-ref-of-requires-2 t c κs =
     (c .before .before .before .before .before .before .before .pre .1 .0, present-in _ _ _ _ (c .before .before .before .before .before .before .before .pre .1 .2) _ _ _ (c .before .head3 .given .1) .0)
 
+walk-member-kind-at-requires : (t : ℕ) → walk-member-lts.Need-kind-at-requires (walk-member-claims t) (walk-member-at t) walk-member.Post
+walk-member-kind-at-requires t c κs =
+    at-ref _ _ _ _ (c .before .before .before .before .before .before .before .before .pre .1 .0) (c .ref-of2 .ensures) .0
+
 walk-member-add-end : (t : ℕ) → walk-member-lts.Need-add-end (walk-member-claims t) (walk-member-at t) walk-member.Post
 walk-member-add-end t c =
-    let f = present-in _ _ _ _ (c .before .before .before .before .before .before .before .before .pre .1 .2) _ _ _ (c .before .before .head3 .given .1) in omega (arith, f .2, c .before .before .before .before .before .before .before .before .pre .1 .1)
+    let f = present-in _ _ _ _ (c .before .before .before .before .before .before .before .before .before .pre .1 .2) _ _ _ (c .before .before .before .head3 .given .1) in omega (arith, f .2, c .before .before .before .before .before .before .before .before .before .pre .1 .1)
+
+walk-member-sub-bytes : (t : ℕ) → walk-member-lts.Need-sub-bytes (walk-member-claims t) (walk-member-at t) walk-member.Post
+walk-member-sub-bytes t c = search needs
+
+walk-member-part-bytes-start : (t : ℕ) → walk-member-lts.Need-part-bytes-start (walk-member-claims t) (walk-member-at t) walk-member.Post
+walk-member-part-bytes-start t c = search needs
+
+walk-member-part-bytes-end : (t : ℕ) → walk-member-lts.Need-part-bytes-end (walk-member-claims t) (walk-member-at t) walk-member.Post
+walk-member-part-bytes-end t c =
+    present-in _ _ _ _ (c .before .before .before .before .before .before .before .before .before .pre .1 .2) _ _ _ (c .before .before .before .head3 .given .1) .2
 
 walk-member-add-place : (t : ℕ) → walk-member-lts.Need-add-place (walk-member-claims t) (walk-member-at t) walk-member.Post
 walk-member-add-place t c =
-    let f = present-in _ _ _ _ (c .before .before .before .before .before .before .before .before .pre .1 .2) _ _ _ (c .before .before .head3 .given .1) in omega (arith, f .2, c .before .before .before .before .before .before .before .before .pre .1 .1)
+    let f = present-in _ _ _ _ (c .before .before .before .before .before .before .before .before .before .before .pre .1 .2) _ _ _ (c .before .before .before .before .head3 .given .1) in omega (arith, f .2, c .before .before .before .before .before .before .before .before .before .before .pre .1 .1)
 
-walk-member-sub-walk-value : (t : ℕ) → walk-member-lts.Need-sub-walk-value (walk-member-claims t) (walk-member-at t) walk-member.Post
-walk-member-sub-walk-value t c = search needs
+walk-member-is-leaf-requires : (t : ℕ) → walk-member-lts.Need-is-leaf-requires (walk-member-claims t) (walk-member-at t) walk-member.Post
+walk-member-is-leaf-requires t c κs = search needs
 
-walk-member-part-walk-value-start : (t : ℕ) → walk-member-lts.Need-part-walk-value-start (walk-member-claims t) (walk-member-at t) walk-member.Post
-walk-member-part-walk-value-start t c = search needs
-
-walk-member-part-walk-value-end : (t : ℕ) → walk-member-lts.Need-part-walk-value-end (walk-member-claims t) (walk-member-at t) walk-member.Post
-walk-member-part-walk-value-end t c =
-    present-in _ _ _ _ (c .before .before .before .before .before .before .before .before .pre .1 .2) _ _ _ (c .before .before .head3 .given .1) .2
-
-walk-member-walk-value-requires : (t : ℕ) → walk-member-lts.Need-walk-value-requires (walk-member-claims t) (walk-member-at t) walk-member.Post
-walk-member-walk-value-requires t c κs =
-    let f = present-in _ _ _ _ (c .before .before .before .before .before .before .before .before .before .before .pre .1 .2) _ _ _ (c .before .before .before .before .head3 .given .1) in
-    let r = at-ref _ _ _ _ (c .before .before .before .before .before .before .before .before .before .before .pre .1 .0) (c .before .before .ref-of2 .ensures) in
-    (omega (arith, c .before .before .before .before .before .before .before .before .before .before .pre .0, r .1), (r .0, f .3, simp (length-take, length-drop) (omega (arith, f .2, c .before .before .before .before .before .before .before .before .before .before .pre .1 .1)), omega (arith, f .1, c .before .before .before .before .before .before .before .before .before .before .pre .1 .3), c .before .before .before .before .before .before .before .before .before .before .pre .1 .4))
-
-walk-member-enum-known-step : (t : ℕ) → walk-member-lts.Need-enum-known-step (walk-member-claims t) (walk-member-at t) walk-member.Post
-walk-member-enum-known-step t c = search needs
-
-walk-member-enum-told : (t : ℕ) → walk-member-lts.Need-enum-told (walk-member-claims t) (walk-member-at t) walk-member.Post
-walk-member-enum-told t c = search needs
+walk-member-walk-leaf-requires : (t : ℕ) → walk-member-lts.Need-walk-leaf-requires (walk-member-claims t) (walk-member-at t) walk-member.Post
+walk-member-walk-leaf-requires t c κs =
+    let f = present-in _ _ _ _ (c .before .before .before .before .before .before .before .before .before .before .before .before .before .pre .1 .2) _ _ _ (c .before .before .before .before .before .before .before .head3 .given .1) in
+    let r = at-ref _ _ _ _ (c .before .before .before .before .before .before .before .before .before .before .before .before .before .pre .1 .0) (c .before .before .before .before .before .ref-of2 .ensures) in
+    (r .0, c .before .before .before .before .kind-at .ensures .is, sym (c .before .before .is-leaf .ensures) ∙ c .before .if1 .taken, f .3, simp (length-take, length-drop) (omega (arith, f .2, c .before .before .before .before .before .before .before .before .before .before .before .before .before .pre .1 .1)), omega (arith, f .1, c .before .before .before .before .before .before .before .before .before .before .before .before .before .pre .1 .3))
 
 walk-member-same-length : (t : ℕ) → walk-member-lts.Need-same-length (walk-member-claims t) (walk-member-at t) walk-member.Post
-walk-member-same-length t c = c .before .before .before .before .walk-value .kept .1 .1 .1 .1 .1 .1 .0
+walk-member-same-length t c = c .before .before .walk-leaf .kept .1 .1 .1 .1 .1 .1 .0
 
 walk-member-returns : (t : ℕ) → walk-member-lts.Need-returns (walk-member-claims t) (walk-member-at t) walk-member.Post
 walk-member-returns t c =
-    (c .before .before .before .before .walk-value .ensures .0 ∙ member-present _ _ _ _ _ _ _ _ _ _ (c .before .before .before .before .before .before .before .ref-of2 .ensures) _ (c .before .before .before .before .before .before .before .before .before .head3 .given .1), fault-within _ _ _ _ _ (c .enum-told .given .1))
+    (c .before .before .walk-leaf .ensures .0 ∙ member-present _ _ _ _ _ _ _ _ _ _ (c .before .before .before .before .before .before .before .before .ref-of2 .ensures) _ (c .before .before .before .before .before .before .before .before .before .before .head3 .given .1), within-present _ _ _ _ _ _ _ (c .before .before .before .before .before .before .before .before .before .before .head3 .given .1) (part-size _ _ _ (present-in _ _ _ _ (c .before .before .before .before .before .before .before .before .before .before .before .before .before .before .before .before .pre .1 .2) _ _ _ (c .before .before .before .before .before .before .before .before .before .before .head3 .given .1) .2)) (c .before .before .walk-leaf .ensures .1))
+
+walk-member-walk-value-requires : (t : ℕ) → walk-member-lts.Need-walk-value-requires (walk-member-claims t) (walk-member-at t) walk-member.Post
+walk-member-walk-value-requires t c κs =
+    let f = present-in _ _ _ _ (c .before .before .before .before .before .before .before .before .before .before .before .before .before .pre .1 .2) _ _ _ (c .before .before .before .before .before .before .before .head3 .given .1) in
+    let r = at-ref _ _ _ _ (c .before .before .before .before .before .before .before .before .before .before .before .before .before .pre .1 .0) (c .before .before .before .before .before .ref-of2 .ensures) in
+    (omega (arith, c .before .before .before .before .before .before .before .before .before .before .before .before .before .pre .0, r .1), (r .0, f .3, simp (length-take, length-drop) (omega (arith, f .2, c .before .before .before .before .before .before .before .before .before .before .before .before .before .pre .1 .1)), omega (arith, f .1, c .before .before .before .before .before .before .before .before .before .before .before .before .before .pre .1 .3), c .before .before .before .before .before .before .before .before .before .before .before .before .before .pre .1 .4))
 
 walk-member-returns-2 : (t : ℕ) → walk-member-lts.Need-returns-2 (walk-member-claims t) (walk-member-at t) walk-member.Post
 walk-member-returns-2 t c =
@@ -285,11 +292,11 @@ walk-member-returns-3 t c =
     (c .before .before .walk-absent .ensures .0 ∙ member-absent _ _ _ _ _ _ _ _ _ _ (c .before .before .before .before .ref-of .ensures) (c .before .before .before .before .before .before .head2 .given .1), within-absent _ _ _ _ _ _ _ (c .before .before .walk-absent .ensures .1) (c .before .before .before .before .before .before .head2 .given .1) (absent-in _ _ _ _ (c .before .before .before .before .before .before .before .before .before .before .before .before .pre .1 .2) _ _ (c .before .before .before .before .before .before .head2 .given .1) .1) (c .before .before .before .before .before .before .before .before .before .before .before .before .pre .1 .3))
 
 walk-member-same-length-3 : (t : ℕ) → walk-member-lts.Need-same-length-3 (walk-member-claims t) (walk-member-at t) walk-member.Post
-walk-member-same-length-3 t c = c .before .before .before .before .before .walk-value .kept .1 .1 .1 .1 .1 .1 .0
+walk-member-same-length-3 t c = c .before .before .walk-value .kept .1 .1 .1 .1 .1 .1 .0
 
 walk-member-returns-4 : (t : ℕ) → walk-member-lts.Need-returns-4 (walk-member-claims t) (walk-member-at t) walk-member.Post
 walk-member-returns-4 t c =
-    (anew _ _ (c .before .step .given .1) _ _ (c .before .before .before .before .before .walk-value .ensures .0 ∙ member-present _ _ _ _ _ _ _ _ _ _ (c .before .before .before .before .before .before .before .before .ref-of2 .ensures) _ (c .before .before .before .before .before .before .before .before .before .before .head3 .given .1)), anew-within _ _ (c .before .step .given .1) _ _ (within-present _ _ _ _ _ _ _ (c .before .before .before .before .before .before .before .before .before .before .head3 .given .1) (part-size _ _ _ (present-in _ _ _ _ (c .before .before .before .before .before .before .before .before .before .before .before .before .before .before .before .before .pre .1 .2) _ _ _ (c .before .before .before .before .before .before .before .before .before .before .head3 .given .1) .2)) (c .before .before .before .before .before .walk-value .ensures .1)))
+    (c .before .before .walk-value .ensures .0 ∙ member-present _ _ _ _ _ _ _ _ _ _ (c .before .before .before .before .before .before .before .before .ref-of2 .ensures) _ (c .before .before .before .before .before .before .before .before .before .before .head3 .given .1), within-present _ _ _ _ _ _ _ (c .before .before .before .before .before .before .before .before .before .before .head3 .given .1) (part-size _ _ _ (present-in _ _ _ _ (c .before .before .before .before .before .before .before .before .before .before .before .before .before .before .before .before .pre .1 .2) _ _ _ (c .before .before .before .before .before .before .before .before .before .before .head3 .given .1) .2)) (c .before .before .walk-value .ensures .1))
 
 abbrev walk-row-Inv-loop : walk-row-lts.InvT-loop
 walk-row-Inv-loop plan needs node count first base from part list₀ at kind end left₀ pos₀ to₀ list left pos to = Left plan node base part end left₀ pos₀ to₀ list₀ left pos to list
@@ -305,7 +312,7 @@ walk-row-add-end t c = omega (arith, c .before .before .before .before .before .
 
 walk-row-walk-leaves-requires : (t : ℕ) → walk-row-lts.Need-walk-leaves-requires (walk-row-claims t) (walk-row-at t) walk-row.Post walk-row-Inv-loop walk-row-μ-loop
 walk-row-walk-leaves-requires t c κs =
-    (c .before .before .before .before .before .before .pre .1 .0, same-kind _ _ _ _ (c .before .before .before .before .before .before .pre .1 .1) (c .before .kind-at .ensures .is), c .before .before .before .before .before .before .pre .1 .3, c .before .before .before .before .before .before .pre .1 .4, c .before .before .before .before .before .before .pre .1 .5, c .before .before .before .before .before .before .pre .1 .6, c .before .before .before .before .before .before .pre .1 .7)
+    (c .before .before .before .before .before .before .pre .1 .0, c .before .before .before .before .before .before .pre .1 .1, c .before .before .before .before .before .before .pre .1 .3, c .before .before .before .before .before .before .pre .1 .4, c .before .before .before .before .before .before .pre .1 .5, c .before .before .before .before .before .before .pre .1 .6, c .before .before .before .before .before .before .pre .1 .7)
 
 walk-row-loop-holds : (t : ℕ) → walk-row-lts.Need-loop-holds (walk-row-claims t) (walk-row-at t) walk-row.Post walk-row-Inv-loop walk-row-μ-loop
 walk-row-loop-holds t c =
@@ -330,7 +337,7 @@ walk-row-enum-told t c = search needs
 
 walk-row-same-length : (t : ℕ) → walk-row-lts.Need-same-length (walk-row-claims t) (walk-row-at t) walk-row.Post walk-row-Inv-loop walk-row-μ-loop
 walk-row-same-length t c =
-    c .before .before .before .before .walk-member .kept .1 .1 .1 .1 .1 .1 .1 .0 ∙ c .before .before .before .before .before .before .before .before .loop .inv .3 ∙ c .before .before .before .before .before .before .before .before .before .before .before .walk-leaves .kept .1 .1 .1 .1 .1 .1 .1 .1 .0
+    c .before .before .before .before .walk-member .kept .1 .1 .1 .1 .1 .1 .1 .0 ∙ c .before .before .before .before .before .before .before .before .loop .inv .3 ∙ c .before .before .before .before .before .before .before .before .before .before .before .walk-leaves .kept .1 .1 .1 .1 .1 .1 .1 .0
 
 walk-row-returns : (t : ℕ) → walk-row-lts.Need-returns (walk-row-claims t) (walk-row-at t) walk-row.Post walk-row-Inv-loop walk-row-μ-loop
 walk-row-returns t c =
@@ -355,7 +362,7 @@ walk-row-walk-leaves-requires-2 : (t : ℕ) → walk-row-lts.Need-walk-leaves-re
 walk-row-walk-leaves-requires-2 t c κs =
     let w = reached-in _ _ _ _ (c .before .before .before .step .given .1) (c .before .before .before .before .before .before .before .walk-member .ensures .1) in
     let h = row-at _ _ (c .before .before .before .before .before .before .before .before .before .before .before .before .before .before .before .before .before .before .before .before .before .pre .1 .0) _ (c .before .before .before .before .before .before .before .before .before .before .before .before .before .before .before .before .before .before .before .before .before .pre .1 .1) (c .before .before .before .before .before .before .before .before .before .before .before .before .before .before .before .before .before .before .before .before .before .pre .1 .2) _ (c .before .before .before .before .before .before .before .before .before .before .before .before .before .before .before .before .before .before .before .before .before .pre .1 .3) (c .before .before .before .before .before .before .before .before .before .before .before .before .before .before .before .before .before .before .before .before .before .pre .1 .4) _ _ _ _ _ (from-end _ _ (c .before .before .before .before .before .before .before .before .before .before .before .loop .inv .0)) (c .before .before .before .before .before .before .before .before .before .before .loop-test .taken) (c .before .before .before .before .before .before .before .before .before .before .before .loop .inv .1) (c .before .before .before .before .before .before .before .before .before .row-head .ensures) in
-    (c .before .before .before .before .before .before .before .before .before .before .before .before .before .before .before .before .before .before .before .before .before .pre .1 .0, same-kind _ _ _ _ (c .before .before .before .before .before .before .before .before .before .before .before .before .before .before .before .before .before .before .before .before .before .pre .1 .1) (c .before .before .before .before .before .before .before .before .before .before .before .before .before .before .before .before .kind-at .ensures .is), (λ i q. c .before .before .before .before .before .before .before .before .before .before .before .before .before .before .before .before .before .before .before .before .before .pre .1 .3 i (omega (arith, q, c .before .before .before .before .before .before .before .before .before .before .before .loop .inv .0, c .before .before .before .before .before .before .before .before .before .before .loop-test .taken))), omega (arith, c .before .before .before .before .before .before .before .before .before .before .before .loop .inv .0, c .before .before .before .before .before .before .before .before .before .before .loop-test .taken, c .before .before .before .before .before .before .before .before .before .before .before .before .before .before .before .before .before .before .before .before .before .pre .1 .4), c .before .before .before .before .before .before .before .before .before .before .before .before .before .before .before .before .before .before .before .before .before .pre .1 .5, rw (c .before .end-of .ensures) (end-in _ _ _ _ h), rw (c .before .end-of .ensures) (w .1))
+    (c .before .before .before .before .before .before .before .before .before .before .before .before .before .before .before .before .before .before .before .before .before .pre .1 .0, c .before .before .before .before .before .before .before .before .before .before .before .before .before .before .before .before .before .before .before .before .before .pre .1 .1, (λ i q. c .before .before .before .before .before .before .before .before .before .before .before .before .before .before .before .before .before .before .before .before .before .pre .1 .3 i (omega (arith, q, c .before .before .before .before .before .before .before .before .before .before .before .loop .inv .0, c .before .before .before .before .before .before .before .before .before .before .loop-test .taken))), omega (arith, c .before .before .before .before .before .before .before .before .before .before .before .loop .inv .0, c .before .before .before .before .before .before .before .before .before .before .loop-test .taken, c .before .before .before .before .before .before .before .before .before .before .before .before .before .before .before .before .before .before .before .before .before .pre .1 .4), c .before .before .before .before .before .before .before .before .before .before .before .before .before .before .before .before .before .before .before .before .before .pre .1 .5, rw (c .before .end-of .ensures) (end-in _ _ _ _ h), rw (c .before .end-of .ensures) (w .1))
 
 walk-row-loop-less : (t : ℕ) → walk-row-lts.Need-loop-less (walk-row-claims t) (walk-row-at t) walk-row.Post walk-row-Inv-loop walk-row-μ-loop
 walk-row-loop-less t c =
@@ -363,7 +370,7 @@ walk-row-loop-less t c =
 
 walk-row-loop-again : (t : ℕ) → walk-row-lts.Need-loop-again (walk-row-claims t) (walk-row-at t) walk-row.Post walk-row-Inv-loop walk-row-μ-loop
 walk-row-loop-again t c =
-    left-next _ _ _ _ _ _ _ _ _ _ _ _ _ (c .before .before .before .before .before .before .before .before .before .before .before .before .before .before .loop .inv) (c .before .before .before .before .before .before .before .before .before .before .before .before .before .loop-test .taken) _ _ _ (turn-go _ (single (look (c .before .before .before .before .before .before .before .before .before .before .before .before .before .before .before .before .before .before .before .before .before .before .before .before .args .plan .now))) _ _ _ (rowForm (look (c .before .before .before .before .before .before .before .before .before .before .before .before .before .before .before .before .before .before .before .before .before .before .before .before .args .plan .now) (c .before .before .before .before .before .before .before .before .before .before .before .before .before .before .before .before .before .before .before .before .before .before .before .before .args .node)) (c .before .before .before .before .before .before .before .before .before .before .before .before .before .before .before .before .before .before .before .before .before .before .before .before .args .part .now)) _ (c .before .before .before .before .before .before .before .before .before .before .before .before .before .before .loop .pos) _ _ _ (c .before .before .before .before .before .before .before .before .before .before .before .before .before .loop-test .taken) _ (c .before .before .before .before .before .before .before .before .before .before .before .before .row-head .ensures) _ _ (c .before .before .before .before .before .before .before .before .before .before .walk-member .ensures .0) _ (c .before .before .before .before .before .before .step .given .1) _ refl _ (c .before .before .before .before .end-of .ensures)) (c .before .before .before .before .before .before .before .before .before .before .walk-member .kept .1 .1 .1 .1 .1 .1 .1 .0) _ _ _ _ (c .before .before .walk-leaves2 .ensures) (c .before .before .walk-leaves2 .kept .1 .1 .1 .1 .1 .1 .1 .1 .0)
+    left-next _ _ _ _ _ _ _ _ _ _ _ _ _ (c .before .before .before .before .before .before .before .before .before .before .before .before .before .before .loop .inv) (c .before .before .before .before .before .before .before .before .before .before .before .before .before .loop-test .taken) _ _ _ (turn-go _ (single (look (c .before .before .before .before .before .before .before .before .before .before .before .before .before .before .before .before .before .before .before .before .before .before .before .before .args .plan .now))) _ _ _ (rowForm (look (c .before .before .before .before .before .before .before .before .before .before .before .before .before .before .before .before .before .before .before .before .before .before .before .before .args .plan .now) (c .before .before .before .before .before .before .before .before .before .before .before .before .before .before .before .before .before .before .before .before .before .before .before .before .args .node)) (c .before .before .before .before .before .before .before .before .before .before .before .before .before .before .before .before .before .before .before .before .before .before .before .before .args .part .now)) _ (c .before .before .before .before .before .before .before .before .before .before .before .before .before .before .loop .pos) _ _ _ (c .before .before .before .before .before .before .before .before .before .before .before .before .before .loop-test .taken) _ (c .before .before .before .before .before .before .before .before .before .before .before .before .row-head .ensures) _ _ (c .before .before .before .before .before .before .before .before .before .before .walk-member .ensures .0) _ (c .before .before .before .before .before .before .step .given .1) _ refl _ (c .before .before .before .before .end-of .ensures)) (c .before .before .before .before .before .before .before .before .before .before .walk-member .kept .1 .1 .1 .1 .1 .1 .1 .0) _ _ _ _ (c .before .before .walk-leaves2 .ensures) (c .before .before .walk-leaves2 .kept .1 .1 .1 .1 .1 .1 .1 .0)
 
 walk-row-end-elements-requires : (t : ℕ) → walk-row-lts.Need-end-elements-requires (walk-row-claims t) (walk-row-at t) walk-row.Post walk-row-Inv-loop walk-row-μ-loop
 walk-row-end-elements-requires t c κs =
@@ -371,7 +378,7 @@ walk-row-end-elements-requires t c κs =
 
 walk-row-same-length-2 : (t : ℕ) → walk-row-lts.Need-same-length-2 (walk-row-claims t) (walk-row-at t) walk-row.Post walk-row-Inv-loop walk-row-μ-loop
 walk-row-same-length-2 t c =
-    c .before .before .loop .inv .3 ∙ c .before .before .before .before .before .walk-leaves .kept .1 .1 .1 .1 .1 .1 .1 .1 .0
+    c .before .before .loop .inv .3 ∙ c .before .before .before .before .before .walk-leaves .kept .1 .1 .1 .1 .1 .1 .1 .0
 
 walk-row-returns-2 : (t : ℕ) → walk-row-lts.Need-returns-2 (walk-row-claims t) (walk-row-at t) walk-row.Post walk-row-Inv-loop walk-row-μ-loop
 walk-row-returns-2 t c =
@@ -562,16 +569,17 @@ pub +walk-container+walk-member+walk-row+walk-sparse+walk-value-spec : {M : Type
     (walk-member-walk-absent-requires t)
     (walk-member-enum-known-head-3 t)
     (walk-member-ref-of-requires-2 t)
+    (walk-member-kind-at-requires t)
     (walk-member-add-end t)
+    (walk-member-sub-bytes t)
+    (walk-member-part-bytes-start t)
+    (walk-member-part-bytes-end t)
     (walk-member-add-place t)
-    (walk-member-sub-walk-value t)
-    (walk-member-part-walk-value-start t)
-    (walk-member-part-walk-value-end t)
-    (walk-member-walk-value-requires t)
-    (walk-member-enum-known-step t)
-    (walk-member-enum-told t)
+    (walk-member-is-leaf-requires t)
+    (walk-member-walk-leaf-requires t)
     (walk-member-same-length t)
     (walk-member-returns t)
+    (walk-member-walk-value-requires t)
     (walk-member-returns-2 t)
     (walk-member-same-length-2 t)
     (walk-member-returns-3 t)
