@@ -13,7 +13,7 @@ use lib.ListN.{length, take, drop, getD, length-take, length-drop}
 use lib.Seq.{sets}
 use borrow.Author.Tests.{eqb-true, eqb-false, ltb-false, le-ltb, lt-leb, eq-eqb, ne-eqb}
 use Rattle.wire.specs.Choice.{pick}
-use Rattle.wire.proofs.Picks.{clash, same-or-not}
+use Rattle.wire.proofs.Picks.{clash, same-or-not, pick-case}
 use Rattle.scalars.specs.Scalars.{sized as of-size}
 use Rattle.scalars.specs.Sizes.{Fixed}
 use Rattle.heads.specs.Heads.{word, negative, gone, sized, optional, plainHead, objectHead, requires, endOf}
@@ -27,12 +27,12 @@ use Rattle.plan.specs.Plan.{look, cardsAt, At}
 use Rattle.plan.specs.Readers.{Refers}
 use Rattle.plan.proofs.Looks.{look-row}
 use Rattle.plan.proofs.Nodes.{at-ref}
-use Rattle.value.specs.Walk.{walkOf, led, leafKind, leafGood, Container}
-use Rattle.value.specs.Leaves.{FixedAt, stands, GoodLeaf, Stretched}
+use Rattle.value.specs.Walk.{walkOf, led, leafKind, leafGood}
+use Rattle.value.specs.Leaves.{FixedAt, Ordered, gapOf, stands, GoodLeaf, Stretched}
 use Rattle.value.specs.declared.Leaf.{Leaf}
 use Rattle.value.specs.declared.Leaf.the-variants.{Good, Other}
 use Rattle.value.specs.declared.Step.the-variants.{Reached}
-use Rattle.value.proofs.Nodes.{good-scalar, head-tuple, head-object}
+use Rattle.value.proofs.Nodes.{good-scalar, head-tuple, head-object, head-plain}
 use Rattle.value.proofs.Members.{leaf-good, member-present}
 use Rattle.value.proofs.Walks.{single, turn-go}
 
@@ -90,16 +90,26 @@ module _ (s : List ℕ) (i at : ℕ) where
       let q : Present i (at + 8) (word s (at + 4)) ≡ Present j start size = rw z at e in
       rw (le-ltb (length s - at) 8 whole, ne-eqb (word s (at + 4)) gone n, lt-leb (2 ^ 31) (word s (at + 4)) few, le-ltb (length s - (at + 8)) (word s (at + 4)) g) q)
 
-  module _ (p : List ℕ) (k kind : ℕ) (c : Container p k kind) where
-    -- the head of an element of a tuple or an object that is there
-    pub field-head : 3 < kind → kind < 6 → (start size : ℕ) → plainHead s 4 i at ≡ Present i start size → rowHead (look p k) s i at ≡ Present i start size
-    field-head low high start size e =
+  -- the head of an element that is there, in a container that is no set of arrays
+  module _ (p : List ℕ) (k : ℕ) (o : Ordered p k) (n : getD p k 0 ≡ 3 → ⊥) where
+    field-head : (gap start size : ℕ) → gap ≡ gapOf (getD p k 0) → plainHead s gap i at ≡ Present i start size → rowHead (look p k) s i at ≡ Present i start size
+    unfolding gapOf pick
+    field-head gap start size eg e =
         ⊎-elim
-        (λ (x : kind ≡ 4). sym (head-tuple p k kind c s i at x) ∙ e)
-        (λ (n : kind ≡ 4 → ⊥).
-        let x : kind ≡ 5 = omega (arith, n) in
-        sym (head-object p k kind c s i at (requires (getD (cardsAt p k) i 0)) refl x) ∙ object-plain (requires (getD (cardsAt p k) i 0)) i start size e)
-        (same-or-not kind 4)
+        (λ (x : getD p k 0 ≡ 4).
+        let g : gap ≡ 4 = eg ∙ rw x in
+        sym (head-tuple p k (getD p k 0) (o .kind) s i at x) ∙ (rw g at e))
+        (λ (y : getD p k 0 ≡ 4 → ⊥).
+        ⊎-elim
+        (λ (x : getD p k 0 ≡ 5).
+        let g : gap ≡ 4 = eg ∙ rw x in
+        sym (head-object p k (getD p k 0) (o .kind) s i at (requires (getD (cardsAt p k) i 0)) refl x)
+        ∙ object-plain (requires (getD (cardsAt p k) i 0)) i start size (rw g at e))
+        (λ (z : getD p k 0 ≡ 5 → ⊥).
+        let g : gap ≡ 0 = eg ∙ rw (ne-eqb (getD p k 0) 4 y, ne-eqb (getD p k 0) 5 z) in
+        sym (head-plain p k (getD p k 0) (o .kind) s i at (o .dense) y n z) ∙ (rw g at e))
+        (same-or-not (getD p k 0) 5))
+        (same-or-not (getD p k 0) 4)
 
 -- a head of an element that is there, whatever index was read with it
 pub plain-there : (s : List ℕ) (gap i at j start size : ℕ) → at ≤ length s → plainHead s gap i at ≡ Present j start size
@@ -112,20 +122,20 @@ plain-there s gap i at j start size inside =
     let b : word s (at + gap) ≡ size = cc in
     (rw (a, b), omega arith, omega arith))
 
-pub leaf-there : (p : List ℕ) (k : ℕ) (s : List ℕ) (i at : ℕ) (h : Head) (j start size : ℕ) → at ≤ length s → h ≡ plainHead s 4 i at → h ≡ Present j start size
-    → leafKind (getD p k 0) ≡ true → leafGood (look p k) (take (start + size - start) (drop start s)) ≡ true → GoodLeaf p k s i at (Good start size)
+pub leaf-there : (p : List ℕ) (k : ℕ) (s : List ℕ) (gap i at : ℕ) (h : Head) (j start size : ℕ) → at ≤ length s → h ≡ plainHead s gap i at → h ≡ Present j start size
+    → leafKind (getD p k 0) ≡ true → leafGood (look p k) (take (start + size - start) (drop start s)) ≡ true → GoodLeaf p k s gap i at (Good start size)
 unfolding GoodLeaf
-leaf-there p k s i at h j start size inside eh e x good =
-    let t = plain-there s 4 i at j start size inside (sym eh ∙ e) in
+leaf-there p k s gap i at h j start size inside eh e x good =
+    let t = plain-there s gap i at j start size inside (sym eh ∙ e) in
     (t .0, x, rw add-sub-cancel-left at good)
 
 -- what a leaf in hand says
-pub leaf-in : (p : List ℕ) (k : ℕ) (s : List ℕ) (i at : ℕ) (r : Leaf) (start size : ℕ) → at ≤ length s → GoodLeaf p k s i at r → r ≡ Good start size
-    → (plainHead s 4 i at ≡ Present i start size) × (at + 4 ≤ start) × (start + size ≤ length s) × (leafKind (getD p k 0) ≡ true) × (leafGood (look p k) (take size (drop start s)) ≡ true)
+pub leaf-in : (p : List ℕ) (k : ℕ) (s : List ℕ) (gap i at : ℕ) (r : Leaf) (start size : ℕ) → at ≤ length s → GoodLeaf p k s gap i at r → r ≡ Good start size
+    → (plainHead s gap i at ≡ Present i start size) × (at + 4 ≤ start) × (start + size ≤ length s) × (leafKind (getD p k 0) ≡ true) × (leafGood (look p k) (take size (drop start s)) ≡ true)
 unfolding GoodLeaf
-leaf-in p k s i at r start size inside g e =
+leaf-in p k s gap i at r start size inside g e =
     let q = rw e at g in
-    let t = plain-there s 4 i at i start size inside (q .0) in
+    let t = plain-there s gap i at i start size inside (q .0) in
     (q .0, t .1, t .2, q .1, q .2)
 
 -- the elements of a set or an array share one node
@@ -206,14 +216,18 @@ module _ (p : List ℕ) (k base : ℕ) (s : List ℕ) (n first from at : ℕ) (l
         going-next z (pos + 4) size child (same-head p k e s i pos size (f .small) x) after fits (same-ref p k e j i child r) (at-ref p k j child a r .0)
         (f .leaf (x .some)) (fixed-good p child size s (pos + 4) f (x .some) fits) l″ el same
 
-    -- the next element of a tuple or an object
-    pub going-field : 0 < left → (kind : ℕ) → Container p k kind → 3 < kind → kind < 6 → At p k → (child : ℕ) → refAt (look p k) i ≡ some child
-        → (r : Leaf) (start size : ℕ) → GoodLeaf p child s i pos r → r ≡ Good start size
+    -- the next element of any container but a set of arrays
+    pub going-other : 0 < left → Ordered p k → (getD p k 0 ≡ 3 → ⊥) → (gap : ℕ) → gap ≡ gapOf (getD p k 0) → (child : ℕ) → refAt (look p k) i ≡ some child
+        → (r : Leaf) (start size : ℕ) → GoodLeaf p child s gap i pos r → r ≡ Good start size
         → (l″ : List ℕ) → l″ ≡ sets l′ to (entryWords (entryOf child i (base + start) size) 0) → length l″ ≡ length l′
         → Going p k base s n first from at l (left - 1) (i + 1) (start + size) (to + 5) l″
-    going-field z kind c low high a child r leaf start size x e l″ el same =
-        let t = leaf-in p child s i pos leaf start size (g .2) x e in
-        going-next z start size child (field-head s i pos p k kind c low high start size (t .0)) (t .1) (t .2) r (at-ref p k i child a r .0) (t .3) (t .4) l″ el same
+    going-other z o u gap eg child r leaf start size x e l″ el same =
+        let t = leaf-in p child s gap i pos leaf start size (g .2) x e in
+        going-next z start size child (field-head s i pos p k o u gap start size eg (t .0)) (t .1) (t .2) r (at-ref p k i child (o .node) r .0) (t .3) (t .4) l″ el same
+
+pub gap-few : (kind : ℕ) → gapOf kind ≤ 16
+unfolding gapOf
+gap-few kind = pick-case (λ m. m ≤ 16) _ _ _ (λ _. omega arith) (λ _. pick-case (λ m. m ≤ 16) _ _ _ (λ _. omega arith) (λ _. omega arith))
 
 -- ---- a container's elements by turns: one that is no leaf, and the stretch after it
 

@@ -10,8 +10,8 @@ use Rattle.heads.specs.Heads.{word, plainHead}
 use Rattle.heads.specs.declared.Head.the-variants.{Present}
 use Rattle.rules.specs.Node.{refAt}
 use Rattle.rules.specs.Values.{elements, rowForm, valueOf}
-use Rattle.plan.specs.Plan.{look}
-use Rattle.value.specs.Walk.{led, leafKind, leafGood}
+use Rattle.plan.specs.Plan.{look, At}
+use Rattle.value.specs.Walk.{led, leafKind, leafGood, Container}
 use Rattle.value.specs.declared.Leaf.{Leaf}
 use Rattle.value.specs.declared.Leaf.the-variants.{Good, Other}
 
@@ -25,11 +25,21 @@ pub record FixedAt (p : List ℕ) (k size : ℕ) : Type 0 where
 unfoldable pub stands : List ℕ → ℕ → ℕ → Bool
 stands s at size = pick (eqb size 0) false (pick (ltb (length s - at) (size + 4)) false (eqb (word s at) size))
 
--- an element of a tuple or an object that is there, is a leaf and is permitted
-unfoldable pub GoodLeaf : List ℕ → ℕ → List ℕ → ℕ → ℕ → Leaf → Type 0
-GoodLeaf p k s i at Other = Unit {0}
-GoodLeaf p k s i at (Good start size) =
-    (plainHead s 4 i at ≡ Present i start size) × (leafKind (getD p k 0) ≡ true) × (leafGood (look p k) (take size (drop start s)) ≡ true)
+-- the reserved bytes before an element's length, by the kind of its container
+unfoldable pub gapOf : ℕ → ℕ
+gapOf kind = pick (eqb kind 4) 4 (pick (eqb kind 5) 4 0)
+
+-- a container whose elements come in the order of their indexes
+pub record Ordered (p : List ℕ) (k : ℕ) : Type 0 where
+  pub node : At p k
+  pub kind : Container p k (getD p k 0)
+  pub dense : getD p k 0 ≡ 6 → ⊥
+
+-- an element that is there, is a leaf and is permitted
+unfoldable pub GoodLeaf : List ℕ → ℕ → List ℕ → ℕ → ℕ → ℕ → Leaf → Type 0
+GoodLeaf p k s gap i at Other = Unit {0}
+GoodLeaf p k s gap i at (Good start size) =
+    (plainHead s gap i at ≡ Present i start size) × (leafKind (getD p k 0) ≡ true) × (leafGood (look p k) (take size (drop start s)) ≡ true)
 
 -- Of n elements from the index `first` on, which stand at `from`, `left` are left, which stand at `pos`: from there on they lead to the same
 -- place. How many of them are left is free.

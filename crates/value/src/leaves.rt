@@ -10,8 +10,8 @@ ghost use mathlib.Core.Path.{_≡_};
 ghost use Prim.Native.Nat.{_+_, _*_, _^_, _<_, _≤_};
 ghost use lib.ListN.{length, getD};
 ghost use Rattle.plan.specs.Plan.{look, At};
-ghost use Rattle.value.specs.Walk.{Container, Holds, leafGood, leafKind};
-ghost use Rattle.value.specs.Leaves.{FixedAt, Stretched, GoodLeaf, stands};
+ghost use Rattle.value.specs.Walk.{Holds, leafGood, leafKind};
+ghost use Rattle.value.specs.Leaves.{FixedAt, Ordered, Stretched, GoodLeaf, gapOf, stands};
 ghost use mathlib.Core.Bool.{true};
 
 // The size of a leaf whose values are any bytes of that size, and 0 for every other node.
@@ -87,16 +87,29 @@ fn is_good(plan: &[u32], node: usize, kind: u32, part: &[u8]) -> bool
     node::leaf_ok(plan, node, kind, part)
 }
 
-// The element of a tuple or an object at `pos`, where it is there, is a leaf and is permitted.
-fn leaf_at(plan: &[u32], child: usize, part: &[u8], i: usize, pos: usize) -> Leaf
-    requires { ⌜ (At (now plan) child) × (pos ≤ length (now part)) ⌝ }
-    ensures { λ r. ⌜ GoodLeaf (now (plan .entry)) child (now (part .entry)) i pos r ⌝ }
+// How many reserved bytes stand before an element's length: four in a tuple or an object.
+fn gap_of(kind: u32) -> usize
+    ensures { λ r. ⌜ r ≡ gapOf kind ⌝ }
+{
+    if kind == 4 {
+        return 4;
+    }
+    if kind == 5 {
+        return 4;
+    }
+    0
+}
+
+// The element at `pos`, its length after `gap` reserved bytes, where it is there, is a leaf and is permitted.
+fn leaf_at(plan: &[u32], child: usize, part: &[u8], gap: usize, i: usize, pos: usize) -> Leaf
+    requires { ⌜ (At (now plan) child) × (pos ≤ length (now part)) × (gap ≤ 16) ⌝ }
+    ensures { λ r. ⌜ GoodLeaf (now (plan .entry)) child (now (part .entry)) gap i pos r ⌝ }
 {
     let kind = plan::node::kind_at(plan, child);
     if !node::is_leaf(kind) {
         return Leaf::Other;
     }
-    let head = heads::element::plain_head(part, 4, i, pos);
+    let head = heads::element::plain_head(part, gap, i, pos);
     let Head::Present {
         index: _,
         start,
@@ -112,8 +125,8 @@ fn leaf_at(plan: &[u32], child: usize, part: &[u8], i: usize, pos: usize) -> Lea
     Leaf::Other
 }
 
-// Elements of a tuple or an object, each with a node of its own.
-fn field_leaves(
+// Elements of any container but a set of arrays, each with the node that its index has.
+fn other_leaves(
     plan: &[u32],
     node: usize,
     count: usize,
@@ -124,16 +137,17 @@ fn field_leaves(
     list: &mut [u32],
     at: usize,
 ) -> Stretch
-    requires { ⌜ (At (now plan) node) × (Container (now plan) node (getD (now plan) node 0)) × (3 < getD (now plan) node 0) × (getD (now plan) node 0 < 6) × (Holds (look (now plan) node) (first + count)) × (first + count < 2 ^ 32) × (base + length (now part) ≤ 65535) × (from ≤ length (now part)) × (4 * at ≤ 5 * (base + from) + 20) ⌝ }
+    requires { ⌜ (Ordered (now plan) node) × (getD (now plan) node 0 ≡ 3 → ⊥) × (Holds (look (now plan) node) (first + count)) × (first + count < 2 ^ 32) × (base + length (now part) ≤ 65535) × (from ≤ length (now part)) × (4 * at ≤ 5 * (base + from) + 20) ⌝ }
     ensures { λ r. ⌜ Stretched (now (plan .entry)) node base (now (part .entry)) (first + count) count first from at (now (list .entry)) (r .left) (r .pos) (r .at) (now (list .exit)) ⌝ }
 {
+    let gap = gap_of(plan::node::kind_at(plan, node));
     let mut left = count;
     let mut i = first;
     let mut pos = from;
     let mut to = at;
     while 0 < left {
         let child = plan::node::ref_of(plan, node, i);
-        let leaf = leaf_at(plan, child, part, i, pos);
+        let leaf = leaf_at(plan, child, part, gap, i, pos);
         let Leaf::Good { start, size } = leaf else {
             return Stretch { left, pos, at: to };
         };
@@ -158,21 +172,22 @@ pub fn walk_leaves(
     list: &mut [u32],
     at: usize,
 ) -> Stretch
-    requires { ⌜ (At (now plan) node) × (Container (now plan) node (getD (now plan) node 0)) × (Holds (look (now plan) node) (first + count)) × (first + count < 2 ^ 32) × (base + length (now part) ≤ 65535) × (from ≤ length (now part)) × (4 * at ≤ 5 * (base + from) + 20) ⌝ }
+    requires { ⌜ (Ordered (now plan) node) × (Holds (look (now plan) node) (first + count)) × (first + count < 2 ^ 32) × (base + length (now part) ≤ 65535) × (from ≤ length (now part)) × (4 * at ≤ 5 * (base + from) + 20) ⌝ }
     ensures { λ r. ⌜ Stretched (now (plan .entry)) node base (now (part .entry)) (first + count) count first from at (now (list .entry)) (r .left) (r .pos) (r .at) (now (list .exit)) ⌝ }
 {
     let kind = plan::node::kind_at(plan, node);
-    if kind == 2 {
-        return same_leaves(plan, node, count, first, base, from, part, list, at);
+    if kind == 3 {
+        return Stretch {
+            left: count,
+            pos: from,
+            at,
+        };
     }
-    if 3 < kind {
-        if kind < 6 {
-            return field_leaves(plan, node, count, first, base, from, part, list, at);
+    if kind == 2 {
+        let child = plan::node::ref_of(plan, node, first);
+        if 0 < fixed_at(plan, child) {
+            return same_leaves(plan, node, count, first, base, from, part, list, at);
         }
     }
-    Stretch {
-        left: count,
-        pos: from,
-        at,
-    }
+    other_leaves(plan, node, count, first, base, from, part, list, at)
 }

@@ -4,6 +4,7 @@ use borrow.Author.Tests.{not-false}
 use Rattle.value.specs.Leaves.{GoodLeaf}
 use Rattle.value.proofs.Stretches.{plain-there, leaf-there}
 use borrow.Author.Needs.{needs}
+use borrow.Author.Needs.{needs}
 use Rattle.value.proofs.leaves.leaf_at.Statement.{statement}
 use Rattle.value.proofs.leaves.leaf_at.Tie as tie
 use Rattle.value.proofs.leaves.leaf_at.Reads as reads
@@ -13,61 +14,48 @@ use Rattle.plan.proofs.node.kind_at.Reads as kind-at-reads
 use Rattle.value.proofs.leaves.is_good.Reads as is-good-reads
 use Rattle.value.proofs.node.is_leaf.Reads as is-leaf-reads
 
--- src/leaves.rt:95:9
 kind-at-requires : tie.Need-kind-at-requires
 kind-at-requires c κs = search needs
 
--- src/leaves.rt:96:9
 is-leaf-requires : tie.Need-is-leaf-requires
 is-leaf-requires c κs = search needs
 
--- src/leaves.rt:97:9
 returns : tie.Need-returns
 unfolding GoodLeaf
 returns c = tt
 
--- src/leaves.rt:99:9
 plain-head-requires : tie.Need-plain-head-requires
 plain-head-requires c κs = search needs
 
--- src/leaves.rt:102:9
 enum-known-head : tie.Need-enum-known-head
 enum-known-head c = search needs
 
--- src/leaves.rt:106:9
 returns-2 : tie.Need-returns-2
 unfolding GoodLeaf
 returns-2 c = tt
 
--- src/leaves.rt:108:15
 add-end : tie.Need-add-end
 add-end c =
     omega (arith, plain-there _ _ _ _ _ _ _ (c .before .before .before .before .before .before .before .before .before .pre .1) (sym (c .before .before .before .plain-head .ensures) ∙ c .before .head .given .1) .2)
 
--- src/leaves.rt:109:35
 sub-is-good : tie.Need-sub-is-good
 sub-is-good c = search needs
 
--- src/leaves.rt:109:35
 part-is-good-start : tie.Need-part-is-good-start
 part-is-good-start c = search needs
 
--- src/leaves.rt:109:35
 part-is-good-end : tie.Need-part-is-good-end
 part-is-good-end c =
     omega (arith, plain-there _ _ _ _ _ _ _ (c .before .before .before .before .before .before .before .before .before .pre .1) (sym (c .before .before .before .plain-head .ensures) ∙ c .before .head .given .1) .2)
 
--- src/leaves.rt:109:8
 is-good-requires : tie.Need-is-good-requires
 is-good-requires c κs =
     (c .before .before .before .before .before .before .before .before .before .before .pre .0, c .before .before .before .before .before .before .before .kind-at .ensures .is, sym (c .before .before .before .before .before .before .is-leaf .ensures) ∙ not-false _ (c .before .before .before .before .before .if1 .left))
 
--- src/leaves.rt:110:9
 returns-3 : tie.Need-returns-3
 returns-3 c =
-    leaf-there _ _ _ _ _ _ _ _ _ (c .before .before .before .before .before .before .before .before .before .before .before .before .pre .1) (c .before .before .before .before .before .before .plain-head .ensures) (c .before .before .before .before .head .given .1) (rw (c .before .before .before .before .before .before .before .before .before .kind-at .ensures .is) at (sym (c .before .before .before .before .before .before .before .before .is-leaf .ensures) ∙ not-false _ (c .before .before .before .before .before .before .before .if1 .left))) (sym (c .before .is-good .ensures) ∙ c .if2 .taken)
+    leaf-there _ _ _ _ _ _ _ _ _ _ (c .before .before .before .before .before .before .before .before .before .before .before .before .pre .1) (c .before .before .before .before .before .before .plain-head .ensures) (c .before .before .before .before .head .given .1) (rw (c .before .before .before .before .before .before .before .before .before .kind-at .ensures .is) at (sym (c .before .before .before .before .before .before .before .before .is-leaf .ensures) ∙ not-false _ (c .before .before .before .before .before .before .before .if1 .left))) (sym (c .before .is-good .ensures) ∙ c .if2 .taken)
 
--- src/leaves.rt:91:1
 returns-4 : tie.Need-returns-4
 unfolding GoodLeaf
 returns-4 c = tt

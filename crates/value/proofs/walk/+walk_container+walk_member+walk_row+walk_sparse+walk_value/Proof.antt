@@ -312,7 +312,7 @@ walk-row-add-end t c = omega (arith, c .before .before .before .before .before .
 
 walk-row-walk-leaves-requires : (t : ℕ) → walk-row-lts.Need-walk-leaves-requires (walk-row-claims t) (walk-row-at t) walk-row.Post walk-row-Inv-loop walk-row-μ-loop
 walk-row-walk-leaves-requires t c κs =
-    (c .before .before .before .before .before .before .pre .1 .0, c .before .before .before .before .before .before .pre .1 .1, c .before .before .before .before .before .before .pre .1 .3, c .before .before .before .before .before .before .pre .1 .4, c .before .before .before .before .before .before .pre .1 .5, c .before .before .before .before .before .before .pre .1 .6, c .before .before .before .before .before .before .pre .1 .7)
+    (record { node = c .before .before .before .before .before .before .pre .1 .0; kind = c .before .before .before .before .before .before .pre .1 .1; dense = c .before .before .before .before .before .before .pre .1 .2 }, c .before .before .before .before .before .before .pre .1 .3, c .before .before .before .before .before .before .pre .1 .4, c .before .before .before .before .before .before .pre .1 .5, c .before .before .before .before .before .before .pre .1 .6, c .before .before .before .before .before .before .pre .1 .7)
 
 walk-row-loop-holds : (t : ℕ) → walk-row-lts.Need-loop-holds (walk-row-claims t) (walk-row-at t) walk-row.Post walk-row-Inv-loop walk-row-μ-loop
 walk-row-loop-holds t c =
@@ -362,7 +362,7 @@ walk-row-walk-leaves-requires-2 : (t : ℕ) → walk-row-lts.Need-walk-leaves-re
 walk-row-walk-leaves-requires-2 t c κs =
     let w = reached-in _ _ _ _ (c .before .before .before .step .given .1) (c .before .before .before .before .before .before .before .walk-member .ensures .1) in
     let h = row-at _ _ (c .before .before .before .before .before .before .before .before .before .before .before .before .before .before .before .before .before .before .before .before .before .pre .1 .0) _ (c .before .before .before .before .before .before .before .before .before .before .before .before .before .before .before .before .before .before .before .before .before .pre .1 .1) (c .before .before .before .before .before .before .before .before .before .before .before .before .before .before .before .before .before .before .before .before .before .pre .1 .2) _ (c .before .before .before .before .before .before .before .before .before .before .before .before .before .before .before .before .before .before .before .before .before .pre .1 .3) (c .before .before .before .before .before .before .before .before .before .before .before .before .before .before .before .before .before .before .before .before .before .pre .1 .4) _ _ _ _ _ (from-end _ _ (c .before .before .before .before .before .before .before .before .before .before .before .loop .inv .0)) (c .before .before .before .before .before .before .before .before .before .before .loop-test .taken) (c .before .before .before .before .before .before .before .before .before .before .before .loop .inv .1) (c .before .before .before .before .before .before .before .before .before .row-head .ensures) in
-    (c .before .before .before .before .before .before .before .before .before .before .before .before .before .before .before .before .before .before .before .before .before .pre .1 .0, c .before .before .before .before .before .before .before .before .before .before .before .before .before .before .before .before .before .before .before .before .before .pre .1 .1, (λ i q. c .before .before .before .before .before .before .before .before .before .before .before .before .before .before .before .before .before .before .before .before .before .pre .1 .3 i (omega (arith, q, c .before .before .before .before .before .before .before .before .before .before .before .loop .inv .0, c .before .before .before .before .before .before .before .before .before .before .loop-test .taken))), omega (arith, c .before .before .before .before .before .before .before .before .before .before .before .loop .inv .0, c .before .before .before .before .before .before .before .before .before .before .loop-test .taken, c .before .before .before .before .before .before .before .before .before .before .before .before .before .before .before .before .before .before .before .before .before .pre .1 .4), c .before .before .before .before .before .before .before .before .before .before .before .before .before .before .before .before .before .before .before .before .before .pre .1 .5, rw (c .before .end-of .ensures) (end-in _ _ _ _ h), rw (c .before .end-of .ensures) (w .1))
+    (record { node = c .before .before .before .before .before .before .before .before .before .before .before .before .before .before .before .before .before .before .before .before .before .pre .1 .0; kind = c .before .before .before .before .before .before .before .before .before .before .before .before .before .before .before .before .before .before .before .before .before .pre .1 .1; dense = c .before .before .before .before .before .before .before .before .before .before .before .before .before .before .before .before .before .before .before .before .before .pre .1 .2 }, (λ i q. c .before .before .before .before .before .before .before .before .before .before .before .before .before .before .before .before .before .before .before .before .before .pre .1 .3 i (omega (arith, q, c .before .before .before .before .before .before .before .before .before .before .before .loop .inv .0, c .before .before .before .before .before .before .before .before .before .before .loop-test .taken))), omega (arith, c .before .before .before .before .before .before .before .before .before .before .before .loop .inv .0, c .before .before .before .before .before .before .before .before .before .before .loop-test .taken, c .before .before .before .before .before .before .before .before .before .before .before .before .before .before .before .before .before .before .before .before .before .pre .1 .4), c .before .before .before .before .before .before .before .before .before .before .before .before .before .before .before .before .before .before .before .before .before .pre .1 .5, rw (c .before .end-of .ensures) (end-in _ _ _ _ h), rw (c .before .end-of .ensures) (w .1))
 
 walk-row-loop-less : (t : ℕ) → walk-row-lts.Need-loop-less (walk-row-claims t) (walk-row-at t) walk-row.Post walk-row-Inv-loop walk-row-μ-loop
 walk-row-loop-less t c =
