@@ -19,12 +19,11 @@ use Rattle.compile.specs.OffDescriptor.{rulesOf}
 use Rattle.compile.proofs.Demand3.{demand-three, compiled-is}
 use Rattle.compile.proofs.Compiles.{planned-room}
 use Rattle.compile.proofs.PlanSize.{Small, plan-words}
-use Rattle.panel.specs.Crossing.{wordsIn, bytesOut, crosses, wordRoom}
-use Rattle.panel.specs.Runs.{runFrom}
-use Rattle.panel.specs.Compiles.{compilePlan, CompilesPlan}
-use Rattle.panel.specs.declared.Answer.{Answer}
-use Rattle.panel.proofs.Words.{words-next, length-out}
-use Rattle.panel.proofs.Messages.{room-most}
+use Rattle.crossing.specs.Crossing.{wordsIn, bytesOut, crosses, wordRoom}
+use Rattle.panel_run.specs.Runs.{runFrom}
+use Rattle.panel_compile.specs.Compiles.{compilePlan, CompilesPlan}
+use Rattle.crossing.specs.declared.Answer.{Answer}
+use Rattle.crossing.proofs.Words.{words-next, length-out, room-most}
 
 -- words cross and come back
 pub words-back : (ws : List ℕ) → ((j : ℕ) → getD ws j 0 < 2 ^ 32) → wordsIn (bytesOut ws) ≡ ws

@@ -1,0 +1,101 @@
+// How numbers, byte runs and words cross to the panel's C host: what a call answers, and words as bytes, four to a word, the highest first.
+ghost use mathlib.Core.Path.{_≡_};
+ghost use mathlib.Core.Bool.{Bool};
+ghost use mathlib.Core.List.{_++_};
+ghost use Prim.Native.Nat.{ℕ, _+_, _*_, _≤_};
+ghost use lib.Dec.{leb};
+ghost use lib.ListN.{length};
+ghost use lib.Seq.{sets};
+ghost use Rattle.crossing.specs.Answers.{refusal};
+ghost use Rattle.crossing.specs.Crossing.{wordsIn, bytesOut, crosses, wordRoom};
+
+// What a call answers: a refusal's number and place, or two results.
+#[repr(C)]
+pub struct Answer {
+    pub number: u32,
+    pub place: u32,
+    pub first: u32,
+    pub second: u32,
+}
+
+pub fn refused(number: u32, place: u32) -> Answer
+    ensures { λ r. ⌜ r ≡ refusal number place ⌝ }
+{
+    Answer {
+        number,
+        place,
+        first: 0,
+        second: 0,
+    }
+}
+
+// The most words that cross.
+pub const MOST: usize = 8192;
+
+// Calls with few words do with an array of this many, which is quicker to clear than one of MOST.
+pub const FEW: usize = 1024;
+
+// Whether n bytes are whole words, and not too many.
+pub fn whole_words(n: usize) -> bool
+    ensures { λ r. ⌜ r ≡ crosses n ⌝ }
+{
+    if n % 4 == 0 {
+        return n <= 32768;
+    }
+    false
+}
+
+// The room for words in n bytes.
+pub fn word_room(n: usize) -> usize
+    ensures { λ r. ⌜ r ≡ wordRoom n ⌝ }
+{
+    if n <= 32768 {
+        return n / 4;
+    }
+    MOST
+}
+
+// The words of the bytes, put at the start of `words`.
+pub fn take_words(bytes: &[u8], words: &mut [u32])
+    requires { ⌜ length (now bytes) ≤ 4 * length (now words) ⌝ }
+    ensures { λ _. ⌜ now (words .exit) ≡ sets (now (words .entry)) 0 (wordsIn (now (bytes .entry))) ⌝ }
+{
+    let n = bytes.len() / 4;
+    let mut i = 0;
+    while i < n {
+        words[i] = wire::be::u32_at(bytes, 4 * i);
+        i += 1;
+    }
+}
+
+// Whether runs of n and of m bytes are few words together.
+pub fn few_words(n: usize, m: usize) -> bool
+    ensures { λ r. ⌜ r ≡ leb (n + m) 4096 ⌝ }
+{
+    if n <= 4 * FEW {
+        return m <= 4 * FEW - n;
+    }
+    false
+}
+
+// The words of two runs of bytes, the first run's and then the second's, put at the start of `words`.
+pub fn take_both(first: &[u8], second: &[u8], words: &mut [u32])
+    requires { ⌜ length (now first) + length (now second) ≤ 4 * length (now words) ⌝ }
+    ensures { λ _. ⌜ now (words .exit) ≡ sets (now (words .entry)) 0 (wordsIn (now (first .entry)) ++ wordsIn (now (second .entry))) ⌝ }
+{
+    take_words(first, words);
+    let n = first.len() / 4;
+    take_words(second, &mut words[n..]);
+}
+
+// The bytes of the words, put at the start of `out`.
+pub fn put_words(words: &[u32], out: &mut [u8])
+    requires { ⌜ 4 * length (now words) ≤ length (now out) ⌝ }
+    ensures { λ _. ⌜ now (out .exit) ≡ sets (now (out .entry)) 0 (bytesOut (now (words .entry))) ⌝ }
+{
+    let mut i = 0;
+    while i < words.len() {
+        wire::be::put_u32(out, 4 * i, words[i]);
+        i += 1;
+    }
+}

@@ -1,0 +1,38 @@
+// Compiling a descriptor's plan.
+use crossing::Answer;
+use crossing::refused;
+ghost use mathlib.Core.Path.{_≡_};
+ghost use Prim.Native.Nat.{_≤_};
+ghost use lib.ListN.{length};
+ghost use Rattle.panel_compile.specs.Compiles.{CompilesPlan};
+
+// Compiles with scratch room for the plan; the plan goes out as bytes only when the whole descriptor is accepted.
+fn compile_by(descriptor: &[u8], root: &[u8], scratch: &mut [u32], plan: &mut [u8]) -> Answer
+    requires { ⌜ 8192 ≤ length (now scratch) ⌝ }
+    ensures { λ r. ⌜ CompilesPlan (now (descriptor .entry)) (now (root .entry)) r (now (plan .entry)) (now (plan .exit)) ⌝ }
+{
+    match compile::check(descriptor, root, scratch) {
+        compile::Answer::Refused { no, place } => refused(no, place),
+        compile::Answer::Words { words } => {
+            let n = words as usize;
+            if crossing::word_room(plan.len()) < n {
+                return refused(30, 0);
+            }
+            crossing::put_words(&scratch[..n], plan);
+            Answer {
+                number: 0,
+                place: 0,
+                first: words,
+                second: 0,
+            }
+        }
+    }
+}
+
+// Compiles a descriptor's plan for the block with the id of `root`.
+pub fn compile_plan(descriptor: &[u8], root: &[u8], plan: &mut [u8]) -> Answer
+    ensures { λ r. ⌜ CompilesPlan (now (descriptor .entry)) (now (root .entry)) r (now (plan .entry)) (now (plan .exit)) ⌝ }
+{
+    let mut words = [0u32; crossing::MOST];
+    compile_by(descriptor, root, &mut words, plan)
+}
