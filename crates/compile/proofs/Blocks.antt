@@ -11,8 +11,8 @@ use lib.Seq.{getD-take, split-at}
 use Rattle.rules.specs.Node.{Node, refAt}
 use Rattle.rules.specs.Renaming.{rename}
 use Rattle.plan.specs.Plan.{mayRefer}
-use Rattle.descriptor.specs.Layouts.{valued}
-use Rattle.descriptor.specs.Fields.{Known, Element}
+use Rattle.fields.specs.Layouts.{valued}
+use Rattle.fields.specs.Fields.{Known, Element}
 use Rattle.descriptor.specs.Descriptor.{refs, nodeWords, nodeAt, Block, summary, summaries, allWords, blockOf, planWords}
 use Rattle.descriptor.proofs.Elements.{noElement, target, element-valued, raisedBy, Refers}
 use Rattle.descriptor.proofs.Accepted.{missing, Made, Accepted, Valued}

@@ -14,8 +14,8 @@ use Rattle.run.specs.Run.{nothingIn, valueBy, checked, roomed, runOf}
 use Rattle.wire.specs.Utf8.{wellFormed, goesOn, after, table, within}
 use Rattle.run.specs.Cases.{resultOf, planA, planSparse, four, twoIntegers}
 use Rattle.rules.specs.Renaming.{rename}
-use Rattle.descriptor.specs.Layouts.{layout, knownTag, indexed, valued, objectType}
-use Rattle.descriptor.specs.Fields.{any, idAt, formatOf, textAt, widthOf, numberAt, extent, taken, idFault, sameBytes, named, textFault, permits, numberFault, formatless, countFault, decides, formatBy, fits, kindFault, refFault, fault, formatAfter, heightAfter, kept, grown}
+use Rattle.fields.specs.Layouts.{layout, knownTag, indexed, valued, objectType}
+use Rattle.fields.specs.Fields.{any, idAt, formatOf, textAt, widthOf, numberAt, extent, taken, idFault, sameBytes, named, textFault, permits, numberFault, formatless, countFault, decides, formatBy, fits, kindFault, refFault, fault, formatAfter, heightAfter, kept, grown}
 use Rattle.descriptor.specs.Blocks.{noted, andThen, field, items, section, blockFrom}
 use Rattle.descriptor.specs.Blocks as blocks
 use Rattle.descriptor.specs.Descriptor as descriptor

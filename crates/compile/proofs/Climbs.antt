@@ -10,7 +10,7 @@ use borrow.Author.Tests.{le-leb}
 use Rattle.wire.specs.Choice.{pick}
 use Rattle.plan.specs.Plan as plan
 use Rattle.plan.specs.Plan.{here, find, mayRefer, atLeast, raised, refer, referAll}
-use Rattle.descriptor.specs.Fields.{Known, Element}
+use Rattle.fields.specs.Fields.{Known, Element}
 use Rattle.descriptor.proofs.Elements.{noElement, target, raisedBy, raised-snoc}
 use Rattle.descriptor.proofs.Sound.{raised-least}
 

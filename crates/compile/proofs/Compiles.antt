@@ -18,19 +18,19 @@ use Rattle.rules.specs.Values.{Outcome, refused}
 use Rattle.run.specs.Run as run
 use Rattle.run.specs.declared.Answer as ran
 use Rattle.run.specs.declared.Answer.the-variants as ran-variants
-use Rattle.descriptor.specs.Layouts.{valued}
-use Rattle.descriptor.specs.Fields.{Known, noBlock, idAt}
+use Rattle.fields.specs.Layouts.{valued}
+use Rattle.fields.specs.Fields.{Known, noBlock, idAt}
 use Rattle.descriptor.specs.Descriptor.{nodeAt, Block, summary, summaries, allWords, Blocks, faulty, whole, blocksOf, indexOf, tagAt, Description, refusedBy, noType, described, rooted, descriptionOf, planWords, Compiled, refusedPlan, plan, planOf, roomed, compileOf}
-use Rattle.descriptor.specs.Arrays.{knownOf}
+use Rattle.fields.specs.Arrays.{knownOf}
 use Rattle.compile.specs.OffDescriptor.{rulesOf}
-use Rattle.compile.specs.Nodes.{indexIn}
-use Rattle.compile.specs.Scan.{Kept, Scans}
+use Rattle.nodes.specs.Nodes.{indexIn}
+use Rattle.scan.specs.Scan.{Kept, Scans}
 use Rattle.compile.specs.Compile.{answerOf, planAfter, Gives, Stored, Checks, refusalOf, hasNode, after, Follows}
 use Rattle.compile.specs.declared.Answer.{Answer}
 use Rattle.compile.specs.declared.Answer.the-variants.{Refused, Words}
-use Rattle.compile.specs.declared.scan.Scan.{Scan}
-use Rattle.compile.specs.declared.scan.Scan.the-variants.{Refused as Stopped, Done}
-use Rattle.compile.proofs.Roots.{index-same, tag-same, tag-out}
+use Rattle.scan.specs.declared.Scan.{Scan}
+use Rattle.scan.specs.declared.Scan.the-variants.{Refused as Stopped, Done}
+use Rattle.nodes.proofs.Roots.{index-same, tag-same, tag-out}
 use Rattle.compile.proofs.Demand3.{demand-three, compiled-is}
 
 -- ---- two words put in front last

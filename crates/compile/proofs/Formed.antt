@@ -14,8 +14,8 @@ use Rattle.rules.specs.Node.{Node}
 use Rattle.rules.specs.Renaming.{rename}
 use Rattle.plan.specs.Plan as plan
 use Rattle.plan.specs.Plan.{find, look, referAll, sizeOf, heightOf, Read, nodes, readNode, andRead, readNodes, nodesOf, isHere, startsIn, noType, planFormed}
-use Rattle.descriptor.specs.Layouts.{valued}
-use Rattle.descriptor.specs.Fields.{Known, Element}
+use Rattle.fields.specs.Layouts.{valued}
+use Rattle.fields.specs.Fields.{Known, Element}
 use Rattle.descriptor.specs.Descriptor.{nodeWords, nodeAt, Block, summary, summaries, allWords, planWords}
 use Rattle.descriptor.proofs.Elements.{noElement}
 use Rattle.descriptor.proofs.Sound.{raised-least}

@@ -9,8 +9,5 @@ pub mod Blocks
 pub mod Formed
 pub mod PlanSize
 pub mod Demand3
-pub mod NodeWords
-pub mod Roots
-pub mod Scans
 pub mod Compiles
 pub mod EntryBound

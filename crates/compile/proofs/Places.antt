@@ -17,8 +17,8 @@ use Rattle.rules.specs.Renaming.{rename}
 use Rattle.plan.specs.Plan as plan
 use Rattle.plan.specs.Plan.{nothing, here, find, isHere}
 use Rattle.plan.proofs.Reading.{find-append}
-use Rattle.descriptor.specs.Layouts.{valued}
-use Rattle.descriptor.specs.Fields.{Known, noBlock}
+use Rattle.fields.specs.Layouts.{valued}
+use Rattle.fields.specs.Fields.{Known, noBlock}
 use Rattle.descriptor.specs.Descriptor.{nodeWords, nodeAt, wordsOf, Block, summary, summaries, allWords, blockOf}
 use Rattle.descriptor.proofs.Accepted.{missing, Made, Accepted}
 use Rattle.compile.proofs.Words.{kindOf}

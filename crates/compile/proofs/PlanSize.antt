@@ -13,10 +13,11 @@ use Rattle.wire.proofs.Picks.{pick-case}
 use Rattle.rules.specs.Node.{Node, leaf, enum, row, arrays, tuple, object, sparse, range}
 use Rattle.rules.specs.Renaming.{rename}
 use Rattle.plan.specs.Plan.{cardinality}
-use Rattle.descriptor.specs.Layouts.{valued}
+use Rattle.fields.specs.Layouts.{valued}
 use Rattle.descriptor.specs.Descriptor.{pairs, nodeWords, nodeAt, Block, summaries, allWords, planWords}
 use Rattle.descriptor.proofs.Accepted.{missing, Accepted, Valued}
-use Rattle.compile.proofs.Words.{Proper, pairs-length}
+use Rattle.compile.proofs.Words.{Proper}
+use Rattle.nodes.proofs.NodeWords.{pairs-length}
 use Rattle.compile.proofs.Places.{node-at, place, node-is, words-none, words-are, all-next, place-next}
 use Rattle.compile.proofs.Renames.{rename-proper}
 use Rattle.compile.proofs.Blocks.{facts, renames-same}

@@ -13,10 +13,10 @@ use Rattle.wire.specs.Choice.{pick}
 use Rattle.wire.proofs.Picks.{pick-case, same-or-not}
 use Rattle.rules.specs.Node.{row, arrays}
 use Rattle.plan.specs.Plan.{mayRefer, cardinality}
-use Rattle.descriptor.specs.Layouts.{knownTag, indexed, valued}
-use Rattle.descriptor.specs.Fields.{Known, Element, noBlock}
+use Rattle.fields.specs.Layouts.{knownTag, indexed, valued}
+use Rattle.fields.specs.Fields.{Known, Element, noBlock}
 use Rattle.descriptor.specs.Descriptor.{refs, cards, onlyRef, nodeOf}
-use Rattle.descriptor.specs.declared.Draft.{Draft}
+use Rattle.fields.specs.declared.Draft.{Draft}
 use Rattle.descriptor.proofs.Tags.{valued-cases, carded, single, bare}
 use Rattle.descriptor.proofs.Elements.{noElement, target, set-element, array-element, range-element}
 use Rattle.descriptor.proofs.Sound.{Sound}

@@ -16,6 +16,7 @@ use Rattle.rules.specs.Node.{Node, leaf, enum, row, arrays, tuple, object, spar
 use Rattle.plan.specs.Plan.{Known, pairRef, pairCard, upTo, refsAt, cardsAt, look, referAll, cardinality, cardinalities, sizeOf, heightOf}
 use Rattle.plan.proofs.Looks.{up-length, up-at, look-leaf, look-row, look-arrays, look-tuple, look-object, look-sparse, look-range, look-enum}
 use Rattle.descriptor.specs.Descriptor.{pairs, nodeWords}
+use Rattle.nodes.proofs.NodeWords.{pairs-length}
 
 -- ---- nodes
 
@@ -59,13 +60,6 @@ Proper (sparse rs cs) = Paired rs cs
 Proper (range r) = Unit {0}
 
 -- ---- lists
-
--- pairs, one by one
-pub pairs-length : (rs cs : List ℕ) → length cs ≡ length rs → length (pairs rs cs) ≡ 2 * length rs
-unfolding pairs
-pairs-length [] cs e = refl
-pairs-length (r ∷ rs) [] e = absurd (omega arith)
-pairs-length (r ∷ rs) (c ∷ cs) e = omega (arith, pairs-length rs cs (omega arith))
 
 pairs-at : (rs cs rest : List ℕ) (k : ℕ) → length cs ≡ length rs → k < length rs → (getD (pairs rs cs ++ rest) (2 * k) 0 ≡ getD rs k 0) × (getD (pairs rs cs ++ rest) (suc (2 * k)) 0 ≡ getD cs k 0)
 unfolding pairs

@@ -10,14 +10,14 @@ use Rattle.wire.specs.Choice.{pick}
 use Rattle.rules.specs.Values.{Outcome, refused}
 use Rattle.run.specs.Run as run
 use Rattle.run.specs.declared.Answer as ran
-use Rattle.descriptor.specs.Layouts.{valued}
-use Rattle.descriptor.specs.Fields.{Known, noBlock}
+use Rattle.fields.specs.Layouts.{valued}
+use Rattle.fields.specs.Fields.{Known, noBlock}
 use Rattle.descriptor.specs.Descriptor.{Compiled, refusedPlan, plan, compileOf}
 use Rattle.compile.specs.OffDescriptor.{rulesOf}
 use Rattle.compile.specs.declared.Answer as answer
 use Rattle.compile.specs.declared.Answer.the-variants.{Refused, Words}
-use Rattle.compile.specs.declared.scan.Scan as scan
-use Rattle.compile.specs.declared.scan.Scan.the-variants.{Refused as Stopped, Done}
+use Rattle.scan.specs.declared.Scan as scan
+use Rattle.scan.specs.declared.Scan.the-variants.{Refused as Stopped, Done}
 
 -- number and place of a refusal; number of words
 unfoldable pub answerOf : Compiled → answer.Answer

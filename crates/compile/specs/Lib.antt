@@ -1,5 +1,3 @@
 pub mod OffDescriptor
 pub mod Cases
-pub mod Nodes
-pub mod Scan
 pub mod Compile

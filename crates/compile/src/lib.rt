@@ -1,17 +1,13 @@
 // Compiling a descriptor's plan (document 01, 'Plan, list, finding').
-pub mod node;
-pub mod scan;
-
-use descriptor::id;
-use descriptor::kinds;
-use descriptor::reference;
+use fields::kinds;
+use names::id;
 use scan::Scan;
 ghost use mathlib.Core.Path.{_≡_};
 ghost use Prim.Native.Nat.{_≤_};
 ghost use lib.ListN.{length};
-ghost use Rattle.descriptor.specs.Fields.{idAt};
+ghost use Rattle.fields.specs.Fields.{idAt};
 ghost use Rattle.descriptor.specs.Descriptor.{blocksOf, rooted, descriptionOf, planOf, compileOf};
-ghost use Rattle.descriptor.specs.Arrays.{Told, knownOf};
+ghost use Rattle.fields.specs.Arrays.{Told, knownOf};
 ghost use Rattle.compile.specs.Compile.{Gives, Checks, Follows, refusalOf, hasNode};
 
 // What compiling answers: refused, with number and place; or the words of the plan.
@@ -36,7 +32,7 @@ fn has_node(d: &[u8], known: &[u32], n: usize, i: usize) -> bool
     ensures { λ r. ⌜ r ≡ hasNode (knownOf (now (d .entry)) (now (known .entry)) n) i ⌝ }
 {
     if i < n {
-        return kinds::has_values(reference::tag_of(d, known, n, i));
+        return kinds::has_values(references::tag_of(d, known, n, i));
     }
     false
 }
@@ -56,10 +52,10 @@ fn check_blocks(
     let Scan::Done { n, to } = scan else {
         return refusal_of(scan);
     };
-    let i = node::find(d, known, n, root);
+    let i = nodes::find(d, known, n, root);
     if has_node(d, known, n, i) {
-        let first = node::node_at(d, known, n, i as u32);
-        node::put_two(plan, 0, to as u32, first);
+        let first = nodes::node_at(d, known, n, i as u32);
+        nodes::put_two(plan, 0, to as u32, first);
         return Answer::Words { words: to as u32 };
     }
     Answer::Refused {
@@ -82,7 +78,7 @@ pub fn check(d: &[u8], root: &[u8], scratch: &mut [u32]) -> Answer
     }
     if id::is_zero(root, 0) {
         if d.len() == 0 {
-            node::put_two(scratch, 0, 2, 0);
+            nodes::put_two(scratch, 0, 2, 0);
             return Answer::Words { words: 2 };
         }
         return Answer::Refused { no: 18, place: end };

@@ -13,11 +13,11 @@ use borrow.Author.Tests.{leb-false}
 use Rattle.wire.specs.Choice.{pick}
 use Rattle.wire.proofs.Picks.{clash, pick-yes, pick-split, pick-case}
 use Rattle.rules.specs.Node.{enum}
-use Rattle.descriptor.specs.Layouts.{knownTag, indexed, valued}
-use Rattle.descriptor.specs.Fields.{Element, idAt}
+use Rattle.fields.specs.Layouts.{knownTag, indexed, valued}
+use Rattle.fields.specs.Fields.{Element, idAt}
 use Rattle.descriptor.specs.Blocks.{Item, Reading, stop, next, blockFrom}
 use Rattle.descriptor.specs.Descriptor.{Block, summaries, blockOf, Blocks, faulty, whole, extended, full, onward, blocksFrom, blocksOf, refusedBy, described, indexOf, tagAt, rooted, descriptionOf}
-use Rattle.descriptor.specs.declared.Draft.{Draft}
+use Rattle.fields.specs.declared.Draft.{Draft}
 use Rattle.descriptor.proofs.Sound.{Sound, block-sound}
 
 -- in the place of a block that is not there

@@ -8,11 +8,11 @@ use lib.Dec.{leb}
 use lib.ListN.{length, getD}
 use borrow.Author.Tests.{leb-false}
 use Rattle.wire.specs.Choice.{pick}
-use Rattle.descriptor.specs.Layouts.{knownTag}
-use Rattle.descriptor.specs.Fields.{Element}
+use Rattle.fields.specs.Layouts.{knownTag}
+use Rattle.fields.specs.Fields.{Element}
 use Rattle.descriptor.specs.Blocks.{Item, Reading, stop, next, blockFrom}
 use Rattle.descriptor.specs.Descriptor.{Block, summaries, Blocks, faulty, whole, extended, full, onward, blocksFrom}
-use Rattle.descriptor.specs.declared.Draft.{Draft}
+use Rattle.fields.specs.declared.Draft.{Draft}
 use Rattle.descriptor.proofs.Progress.{block-past}
 
 -- two choices that agree where their test passes, or does not

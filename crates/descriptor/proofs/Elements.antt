@@ -14,10 +14,10 @@ use borrow.Author.Tests.{eqb-true, ltb-true, ltb-false, leb-true, leb-false, le-
 use Rattle.wire.specs.Choice.{pick}
 use Rattle.wire.proofs.Picks.{clash, both, pick-yes, pick-no, pick-case}
 use Rattle.plan.specs.Plan.{cardinality, atLeast}
-use Rattle.descriptor.specs.Layouts.{ID, NAME, CARDINALITY, DIMENSIONS, ANCESTORS, COUNT, ANCESTOR, ANY, OBJECT, ELEMENT, layout, knownTag, valued}
-use Rattle.descriptor.specs.Fields.{Known, Element, noBlock, numberAt, permits, numberFault, countFault, fits, kindFault, refFault, fault, heightAfter, kept, grown}
+use Rattle.fields.specs.Layouts.{ID, NAME, CARDINALITY, DIMENSIONS, ANCESTORS, COUNT, ANCESTOR, ANY, OBJECT, ELEMENT, layout, knownTag, valued}
+use Rattle.fields.specs.Fields.{Known, Element, noBlock, numberAt, permits, numberFault, countFault, fits, kindFault, refFault, fault, heightAfter, kept, grown}
 use Rattle.descriptor.specs.Blocks.{Item, next, counting, fields, items, section, blockFrom}
-use Rattle.descriptor.specs.declared.Draft.{Draft}
+use Rattle.fields.specs.declared.Draft.{Draft}
 use Rattle.descriptor.proofs.Tags.{elementKind, suited, suited-valued, carded, orderly, elementsIn, total, all-orderly}
 use Rattle.descriptor.proofs.Readings.{no-fault, fault-no, between, Step, fields-keep, items-keep}
 

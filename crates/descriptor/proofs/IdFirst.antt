@@ -5,12 +5,12 @@ use mathlib.Core.List.{List, [], _∷_}
 use Prim.Native.Nat.{ℕ, _+_, _≤_}
 use native.Mathlib.Omega.{arith}
 use lib.ListN.{length}
-use Rattle.descriptor.specs.Layouts.{Layout, layout}
-use Rattle.descriptor.specs.Fields.{Known, Element, extent}
+use Rattle.fields.specs.Layouts.{Layout, layout}
+use Rattle.fields.specs.Fields.{Known, Element, extent}
 use Rattle.descriptor.specs.Blocks.{Item, next, counting, field, fields, section, blockFrom}
-use Rattle.descriptor.specs.declared.Draft.{Draft}
-use Rattle.descriptor.proofs.Rows.{among, either}
-use Rattle.descriptor.proofs.Rules.{extent-id}
+use Rattle.fields.specs.declared.Draft.{Draft}
+use Rattle.fields.proofs.Rows.{among, either}
+use Rattle.fields.proofs.Extents.{extent-id}
 use Rattle.descriptor.proofs.Loops.{fresh}
 use Rattle.descriptor.proofs.Readings.{between, stepped}
 

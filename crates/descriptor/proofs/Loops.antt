@@ -9,11 +9,12 @@ use lib.Dec.{eqb, lit≤}
 use lib.ListN.{length, drop, getD}
 use Rattle.wire.specs.Choice.{pick}
 use Rattle.wire.proofs.Picks.{pick-case}
-use Rattle.descriptor.specs.Layouts.{Layout, layout, upToEnd}
-use Rattle.descriptor.specs.Fields.{Known, Element}
+use Rattle.fields.specs.Layouts.{Layout, layout, upToEnd}
+use Rattle.fields.specs.Fields.{Known, Element}
 use Rattle.descriptor.specs.Blocks.{counting, field, fields, items, section, blockFrom}
-use Rattle.descriptor.specs.Arrays.{Walk, stopped, moved, led, walkOf, push, pushes, Inside, Roomy, tab, elementsOf}
-use Rattle.descriptor.specs.declared.Draft.{Draft}
+use Rattle.descriptor.specs.Walks.{Walk, stopped, moved, led, walkOf, push, pushes, Inside}
+use Rattle.fields.specs.Arrays.{Roomy, tab, elementsOf}
+use Rattle.fields.specs.declared.Draft.{Draft}
 use Rattle.descriptor.specs.declared.Part.{Part}
 use Rattle.descriptor.specs.declared.Part.the-variants.{Fault, Next}
 use Rattle.descriptor.proofs.Steps.{halts, goes, codes-over, codes-end, codes-next, pushes-next, fields-none, fields-halt, fields-go, items-none, items-halt, items-go}

@@ -7,10 +7,10 @@ use native.Mathlib.Omega.{arith}
 use lib.ListN.{length}
 use Rattle.wire.specs.Choice.{pick}
 use Rattle.wire.proofs.Picks.{pick-case}
-use Rattle.descriptor.specs.Layouts.{layout, knownTag}
-use Rattle.descriptor.specs.Fields.{Known, Element, widthOf, extent, kept}
+use Rattle.fields.specs.Layouts.{layout, knownTag}
+use Rattle.fields.specs.Fields.{Known, Element, widthOf, extent, kept}
 use Rattle.descriptor.specs.Blocks.{Item, next, counting, fields, items, section, blockFrom}
-use Rattle.descriptor.specs.declared.Draft.{Draft}
+use Rattle.fields.specs.declared.Draft.{Draft}
 use Rattle.descriptor.proofs.Tags.{known-cases}
 use Rattle.descriptor.proofs.Readings.{between, Step, fields-keep, items-keep}
 

@@ -9,9 +9,9 @@ use lib.ListN.{length}
 use borrow.Author.Tests.{leb-true, eqb-true}
 use Rattle.wire.specs.Choice.{pick}
 use Rattle.wire.proofs.Picks.{pick-split}
-use Rattle.descriptor.specs.Fields.{Known, Element, extent, fault, kept, grown}
+use Rattle.fields.specs.Fields.{Known, Element, extent, fault, kept, grown}
 use Rattle.descriptor.specs.Blocks.{Item, Reading, stop, next, noted, andThen, counting, field, fields, items}
-use Rattle.descriptor.specs.declared.Draft.{Draft}
+use Rattle.fields.specs.declared.Draft.{Draft}
 
 -- a choice without a fault is 0
 pub no-fault : (t : Bool) (a b : ℕ) → pick t a (suc b) ≡ 0 → (t ≡ true) × (a ≡ 0)

@@ -10,10 +10,10 @@ use lib.ListN.{length, getD}
 use borrow.Author.Tests.{eqb-false, ltb-true, ltb-false, eq-eqb}
 use Rattle.wire.specs.Choice.{pick}
 use Rattle.wire.proofs.Picks.{pick-yes, pick-case, same-or-not}
-use Rattle.descriptor.specs.Layouts.{ID, TEXT, BOOL, ANCESTORS, ANCESTOR, layout}
-use Rattle.descriptor.specs.Fields.{Known, Element, noBlock, idAt, formatOf, numberAt, formatless, countFault, decides, formatBy, fits, kindFault, refFault, fault, formatAfter, kept}
+use Rattle.fields.specs.Layouts.{ID, TEXT, BOOL, ANCESTORS, ANCESTOR, layout}
+use Rattle.fields.specs.Fields.{Known, Element, noBlock, idAt, formatOf, numberAt, formatless, countFault, decides, formatBy, fits, kindFault, refFault, fault, formatAfter, kept}
 use Rattle.descriptor.specs.Blocks.{Item, next, noted, andThen, counting, fields, items, section, blockFrom}
-use Rattle.descriptor.specs.declared.Draft.{Draft}
+use Rattle.fields.specs.declared.Draft.{Draft}
 use Rattle.descriptor.proofs.Readings.{no-fault, fault-no, between, next-same, stepped, items-keep}
 
 -- a format, or 20 for none

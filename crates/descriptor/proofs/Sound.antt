@@ -9,10 +9,10 @@ use lib.ListN.{length, getD}
 use borrow.Author.Tests.{leb-true}
 use Rattle.wire.proofs.Picks.{pick-case}
 use Rattle.plan.specs.Plan.{atLeast}
-use Rattle.descriptor.specs.Layouts.{knownTag}
-use Rattle.descriptor.specs.Fields.{Known, Element}
+use Rattle.fields.specs.Layouts.{knownTag}
+use Rattle.fields.specs.Fields.{Known, Element}
 use Rattle.descriptor.specs.Blocks.{Item, next, blockFrom}
-use Rattle.descriptor.specs.declared.Draft.{Draft}
+use Rattle.fields.specs.declared.Draft.{Draft}
 use Rattle.descriptor.proofs.Tags.{single, bare, all-numbered}
 use Rattle.descriptor.proofs.Elements.{noElement, target, raisedBy, Refers, block-held}
 use Rattle.descriptor.proofs.ScalarFormats.{scalar-format}

@@ -12,13 +12,14 @@ use lib.Seq.{drop-cons}
 use borrow.Author.Tests.{eq-eqb, ne-eqb, le-leb, lt-leb, lt-ltb, le-ltb}
 use Rattle.wire.specs.Choice.{pick}
 use Rattle.wire.proofs.Picks.{pick-yes, pick-no}
-use Rattle.descriptor.specs.Layouts.{upToEnd}
-use Rattle.descriptor.specs.Fields.{Known, Element, extent, fault, kept, grown}
+use Rattle.fields.specs.Layouts.{upToEnd}
+use Rattle.fields.specs.Fields.{Known, Element, extent, fault, kept, grown}
 use Rattle.descriptor.specs.Blocks.{Reading, stop, next, noted, andThen, counting, field, fields, items, section}
-use Rattle.descriptor.specs.Arrays.{Walk, stopped, moved, led, push, pushes, Inside, Roomy, elementsOf}
+use Rattle.descriptor.specs.Walks.{Walk, stopped, moved, led, push, pushes, Inside}
+use Rattle.fields.specs.Arrays.{Roomy, elementsOf}
 use Rattle.descriptor.specs.declared.Part.the-variants.{Next}
 use Rattle.descriptor.proofs.Rules.{kept-at, kept-left, kept-many, grown-not}
-use Rattle.descriptor.specs.declared.Draft.{Draft}
+use Rattle.fields.specs.declared.Draft.{Draft}
 
 -- ---- one reading after another
 

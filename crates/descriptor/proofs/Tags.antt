@@ -10,7 +10,7 @@ use lib.Dec.{leb, ltb, eqb}
 use borrow.Author.Tests.{le-ltb, lt-leb, ne-eqb, eqb-true}
 use Rattle.wire.specs.Choice.{pick}
 use Rattle.wire.proofs.Picks.{clash, both, pick-yes, pick-no, pick-case, same-or-not}
-use Rattle.descriptor.specs.Layouts.{CARDINALITY, ELEMENT, SET-ELEMENT, ARRAY-ELEMENT, RANGE-ELEMENT, layout, knownTag, indexed, valued}
+use Rattle.fields.specs.Layouts.{CARDINALITY, ELEMENT, SET-ELEMENT, ARRAY-ELEMENT, RANGE-ELEMENT, layout, knownTag, indexed, valued}
 
 -- ---- the tags
 

@@ -4,9 +4,9 @@ use mathlib.Core.List.{List, [], _∷_, _++_}
 use lib.Dec.{leb, eqb}
 use lib.ListN.{length}
 use Rattle.wire.specs.Choice.{pick}
-use Rattle.descriptor.specs.Layouts.{layout}
-use Rattle.descriptor.specs.Fields.{Known, Element, extent, fault, kept, grown}
-use Rattle.descriptor.specs.declared.Draft.{Draft}
+use Rattle.fields.specs.Layouts.{layout}
+use Rattle.fields.specs.Fields.{Known, Element, extent, fault, kept, grown}
+use Rattle.fields.specs.declared.Draft.{Draft}
 
 -- a field that was read: its kind, and where it starts
 pub record Item : Type 0 where

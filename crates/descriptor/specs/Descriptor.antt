@@ -8,10 +8,10 @@ use lib.ListN.{length, getD}
 use Rattle.wire.specs.Choice.{pick}
 use Rattle.rules.specs.Node.{Node, leaf, enum, row, arrays, tuple, object, sparse, range}
 use Rattle.rules.specs.Renaming.{rename}
-use Rattle.descriptor.specs.Layouts.{knownTag, indexed, valued}
-use Rattle.descriptor.specs.Fields.{Known, noBlock, Element, idAt}
+use Rattle.fields.specs.Layouts.{knownTag, indexed, valued}
+use Rattle.fields.specs.Fields.{Known, noBlock, Element, idAt}
 use Rattle.descriptor.specs.Blocks.{Item, Reading, stop, next, blockFrom}
-use Rattle.descriptor.specs.declared.Draft.{Draft}
+use Rattle.fields.specs.declared.Draft.{Draft}
 
 -- ---- the node of a block
 

@@ -1,5 +1,3 @@
-pub mod Layouts
-pub mod Fields
 pub mod Blocks
 pub mod Descriptor
-pub mod Arrays
+pub mod Walks

@@ -1,17 +1,17 @@
 // A block: fields, a run of items that they count, and once more.
-use crate::Draft;
 use crate::Part;
 use crate::field;
-use crate::id;
-use crate::kinds;
+use fields::Draft;
+use fields::kinds;
 ghost use mathlib.Core.Path.{_≡_};
 ghost use mathlib.Core.List.{[]};
 ghost use Prim.Native.Nat.{_+_, _*_, _≤_};
 ghost use lib.ListN.{length};
-ghost use Rattle.descriptor.specs.Layouts.{upToEnd};
+ghost use Rattle.fields.specs.Layouts.{upToEnd};
 ghost use Rattle.descriptor.specs.Blocks as reading;
 ghost use Rattle.descriptor.specs.Blocks.{blockFrom};
-ghost use Rattle.descriptor.specs.Arrays.{Told, Roomy, pushes, knownOf, elementsOf, led, walkOf, Inside};
+ghost use Rattle.fields.specs.Arrays.{Told, Roomy, knownOf, elementsOf};
+ghost use Rattle.descriptor.specs.Walks.{pushes, led, walkOf, Inside};
 
 // Fields of the given kinds, up to the first END.
 fn fields(
@@ -105,7 +105,7 @@ pub fn read(d: &[u8], known: &[u32], n: usize, tag: u32, at: usize, elements: &m
         at,
         left: 0,
         free: 0,
-        format: id::NONE,
+        format: fields::NO_FORMAT,
         height: 1,
         card: 0,
         name: 0,

@@ -1,19 +1,19 @@
 // A field of a block: first whole, then its rule, then what is kept of it.
-use crate::Draft;
 use crate::Part;
-use crate::id;
-use crate::kinds;
-use crate::number;
-use crate::reference;
-use crate::text;
+use fields::Draft;
+use fields::kinds;
+use fields::number;
+use names::id;
+use names::text;
 ghost use mathlib.Core.Path.{_≡_};
 ghost use Prim.Native.Nat.{_+_, _≤_, _<_};
 ghost use lib.ListN.{length};
 ghost use Rattle.plan.specs.Plan.{atLeast};
-ghost use Rattle.descriptor.specs.Fields as rule;
-ghost use Rattle.descriptor.specs.Fields.{extent, kept, grown};
+ghost use Rattle.fields.specs.Fields as rule;
+ghost use Rattle.fields.specs.Fields.{extent, kept, grown};
 ghost use Rattle.descriptor.specs.Blocks as reading;
-ghost use Rattle.descriptor.specs.Arrays.{Told, Roomy, push, knownOf, elementsOf, led, walkOf, Inside};
+ghost use Rattle.fields.specs.Arrays.{Told, Roomy, knownOf, elementsOf};
+ghost use Rattle.descriptor.specs.Walks.{push, led, walkOf, Inside};
 
 // The rule of a field that is whole: 0, or the number of a refusal.
 fn fault(d: &[u8], known: &[u32], n: usize, tag: u32, code: u8, x: Draft, elements: &[u32]) -> u32
@@ -33,7 +33,7 @@ fn fault(d: &[u8], known: &[u32], n: usize, tag: u32, code: u8, x: Draft, elemen
     if code <= kinds::COUNT {
         return number::count_fault(tag, code, x, v);
     }
-    reference::fault(d, known, n, tag, code, x, v)
+    references::fault(d, known, n, tag, code, x, v)
 }
 
 // The higher of a height so far and one more than an element's.
@@ -66,7 +66,7 @@ fn keep_element(
     elements[k] = x.name;
     elements[k + 1] = v;
     elements[k + 2] = x.card;
-    x.height = raised(x.height, reference::height_at(d, known, n, v));
+    x.height = raised(x.height, references::height_at(d, known, n, v));
     x.count += 1;
     x.at += 2;
     x
@@ -87,8 +87,8 @@ fn keep(d: &[u8], known: &[u32], n: usize, tag: u32, code: u8, mut x: Draft) -> 
         kinds::ANCESTORS => x.left = number::number_at(d, code, at),
         kinds::COUNT => x.left = number::number_at(d, code, at),
         kinds::ANCESTOR => {
-            if reference::is_deciding(tag, x) {
-                x.format = reference::format_at(d, known, n, number::number_at(d, code, at));
+            if references::is_deciding(tag, x) {
+                x.format = references::format_at(d, known, n, number::number_at(d, code, at));
             }
         }
         _ => {}

@@ -3,14 +3,8 @@ use mathlib.Core.Path.{sym, _∙_}
 use native.Mathlib.Omega.{arith}
 use Rattle.compile.proofs.Compiles.{check-large, check-short, check-rest, check-zero, check-none}
 use borrow.Author.Needs.{needs}
-use borrow.Author.Needs.{needs}
 use Rattle.compile.proofs.check.Statement.{statement}
 use Rattle.compile.proofs.check.Tie as tie
-use Rattle.compile.proofs.check.Reads as reads
-use Rattle.compile.proofs.check.Lts as lts
-use Rattle.compile.proofs.check_blocks.Reads as check-blocks-reads
-use Rattle.compile.proofs.node.put_two.Reads as put-two-reads
-use Rattle.descriptor.proofs.id.is_zero.Reads as is-zero-reads
 
 returns : tie.Need-returns
 returns c = check-large _ _ _ _ (c .if1 .taken)

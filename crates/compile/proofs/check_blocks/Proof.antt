@@ -1,20 +1,11 @@
 -- `compile::check_blocks` meets its contract. Assumes nothing.
 use mathlib.Core.Path.{sym, _∙_}
 use native.Mathlib.Omega.{arith}
-use Rattle.descriptor.specs.Fields.{idAt}
+use Rattle.fields.specs.Fields.{idAt}
 use Rattle.compile.proofs.Compiles.{blocks-refused, ended, blocks-rootless, blocks-planned}
-use borrow.Author.Needs.{needs}
 use borrow.Author.Needs.{needs}
 use Rattle.compile.proofs.check_blocks.Statement.{statement}
 use Rattle.compile.proofs.check_blocks.Tie as tie
-use Rattle.compile.proofs.check_blocks.Reads as reads
-use Rattle.compile.proofs.check_blocks.Lts as lts
-use Rattle.compile.proofs.has_node.Reads as has-node-reads
-use Rattle.compile.proofs.node.find.Reads as find-reads
-use Rattle.compile.proofs.node.node_at.Reads as node-at-reads
-use Rattle.compile.proofs.node.put_two.Reads as put-two-reads
-use Rattle.compile.proofs.refusal_of.Reads as refusal-of-reads
-use Rattle.compile.proofs.scan.read.Reads as read-reads
 
 read-requires : tie.Need-read-requires
 read-requires c κs =

@@ -3,9 +3,6 @@ use Rattle.compile.proofs.Compiles.{gives-refused, gives-full, gives-pl
 use borrow.Author.Needs.{needs}
 use Rattle.compile.proofs.compile.Statement.{statement}
 use Rattle.compile.proofs.compile.Tie as tie
-use Rattle.compile.proofs.compile.Reads as reads
-use Rattle.compile.proofs.compile.Lts as lts
-use Rattle.compile.proofs.check.Reads as check-reads
 
 slice-aggregate-check : tie.Need-slice-aggregate-check
 slice-aggregate-check c = search needs

@@ -3,13 +3,8 @@ use native.Mathlib.Omega.{arith}
 use lib.ListN.{length-take}
 use Rattle.compile.proofs.Compiles.{written, follows-refused, follows-run}
 use borrow.Author.Needs.{needs}
-use borrow.Author.Needs.{needs}
 use Rattle.compile.proofs.compile_and_run.Statement.{statement}
 use Rattle.compile.proofs.compile_and_run.Tie as tie
-use Rattle.compile.proofs.compile_and_run.Reads as reads
-use Rattle.compile.proofs.compile_and_run.Lts as lts
-use Rattle.compile.proofs.compile.Reads as compile-reads
-use Rattle.run.proofs.run.Reads as run-reads
 
 compile-requires : tie.Need-compile-requires
 compile-requires c κs = search needs

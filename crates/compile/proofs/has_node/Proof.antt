@@ -1,18 +1,13 @@
 -- `compile::has_node` meets its contract. Assumes nothing.
 use mathlib.Core.Path.{sym, ap, _∙_}
 use Rattle.wire.proofs.Picks.{pick-yes, pick-no}
-use Rattle.descriptor.specs.Layouts.{valued}
-use Rattle.descriptor.specs.Fields.{Known}
-use Rattle.descriptor.proofs.Known.{known-in, known-out, known-get}
+use Rattle.fields.specs.Layouts.{valued}
+use Rattle.fields.specs.Fields.{Known}
+use Rattle.fields.proofs.Known.{known-in, known-out, known-get}
 use Rattle.compile.specs.Compile.{hasNode}
-use borrow.Author.Needs.{needs}
 use borrow.Author.Needs.{needs}
 use Rattle.compile.proofs.has_node.Statement.{statement}
 use Rattle.compile.proofs.has_node.Tie as tie
-use Rattle.compile.proofs.has_node.Reads as reads
-use Rattle.compile.proofs.has_node.Lts as lts
-use Rattle.descriptor.proofs.kinds.has_values.Reads as has-values-reads
-use Rattle.descriptor.proofs.reference.tag_of.Reads as tag-of-reads
 
 tag-of-requires : tie.Need-tag-of-requires
 tag-of-requires c κs = (c .before .before .before .pre, c .if1 .taken)

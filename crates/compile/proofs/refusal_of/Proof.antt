@@ -2,11 +2,8 @@
 use mathlib.Core.Path.{sym, ap}
 use Rattle.compile.specs.Compile.{refusalOf}
 use borrow.Author.Needs.{needs}
-use borrow.Author.Needs.{needs}
 use Rattle.compile.proofs.refusal_of.Statement.{statement}
 use Rattle.compile.proofs.refusal_of.Tie as tie
-use Rattle.compile.proofs.refusal_of.Reads as reads
-use Rattle.compile.proofs.refusal_of.Lts as lts
 
 enum-known-scan : tie.Need-enum-known-scan
 enum-known-scan c = search needs

@@ -3,14 +3,12 @@ use mathlib.Core.Path.{refl, sym, _∙_}
 use Prim.Native.Nat.{_-_}
 use native.Mathlib.Omega.{arith}
 use lib.ListN.{length}
-use Rattle.descriptor.specs.Arrays.{walkOf, knownOf}
+use Rattle.descriptor.specs.Walks.{walkOf}
+use Rattle.fields.specs.Arrays.{knownOf}
 use Rattle.descriptor.proofs.Loops.{Going, going-start, going-inside, going-end, going-stop, going-room, going-halt, going-next, fault-inside}
 use borrow.Author.Needs.{needs}
 use Rattle.descriptor.proofs.block.fields.Statement.{statement}
 use Rattle.descriptor.proofs.block.fields.Tie as tie
-use Rattle.descriptor.proofs.block.fields.Reads as reads
-use Rattle.descriptor.proofs.block.fields.Lts as lts
-use Rattle.descriptor.proofs.field.read.Reads as read-reads
 
 abbrev Inv-loop : tie.InvT-loop
 Inv-loop d known n tag codes elements₀ y₀ k₀ elements y k = Going d (knownOf d known n) tag codes y₀ elements₀ k y elements

@@ -2,15 +2,13 @@
 use mathlib.Core.Path.{refl, sym, _∙_}
 use Prim.Native.Nat.{_-_}
 use native.Mathlib.Omega.{arith}
-use Rattle.descriptor.specs.Layouts.{upToEnd}
-use Rattle.descriptor.specs.Arrays.{walkOf, knownOf}
+use Rattle.fields.specs.Layouts.{upToEnd}
+use Rattle.descriptor.specs.Walks.{walkOf}
+use Rattle.fields.specs.Arrays.{knownOf}
 use Rattle.descriptor.proofs.Loops.{Counting, counting-start, counting-end, counting-room, counting-halt, counting-next, fault-inside}
 use borrow.Author.Needs.{needs}
 use Rattle.descriptor.proofs.block.items.Statement.{statement}
 use Rattle.descriptor.proofs.block.items.Tie as tie
-use Rattle.descriptor.proofs.block.items.Reads as reads
-use Rattle.descriptor.proofs.block.items.Lts as lts
-use Rattle.descriptor.proofs.block.fields.Reads as fields-reads
 
 abbrev Inv-loop : tie.InvT-loop
 Inv-loop d known n tag codes elements₀ y₀ left₀ elements y left = Counting d (knownOf d known n) tag (upToEnd codes) y₀ elements₀ left y elements

@@ -1,17 +1,9 @@
 -- `descriptor::block::read` meets its contract. Assumes nothing.
-use Rattle.descriptor.specs.Arrays.{knownOf}
+use Rattle.fields.specs.Arrays.{knownOf}
 use Rattle.descriptor.proofs.Loops.{block-room, block-halt, block-room-2, block-at, block-go, block-inside, fault-inside}
-use borrow.Author.Needs.{needs}
 use borrow.Author.Needs.{needs}
 use Rattle.descriptor.proofs.block.read.Statement.{statement}
 use Rattle.descriptor.proofs.block.read.Tie as tie
-use Rattle.descriptor.proofs.block.read.Reads as reads
-use Rattle.descriptor.proofs.block.read.Lts as lts
-use Rattle.descriptor.proofs.block.section.Reads as section-reads
-use Rattle.descriptor.proofs.kinds.first_of.Reads as first-of-reads
-use Rattle.descriptor.proofs.kinds.head_of.Reads as head-of-reads
-use Rattle.descriptor.proofs.kinds.last_of.Reads as last-of-reads
-use Rattle.descriptor.proofs.kinds.more_of.Reads as more-of-reads
 
 head-of-requires : tie.Need-head-of-requires
 head-of-requires c κs = search needs

@@ -1,16 +1,11 @@
 -- `descriptor::block::section` meets its contract. Assumes nothing.
 use native.Mathlib.Omega.{arith}
-use Rattle.descriptor.specs.Layouts.{upToEnd}
+use Rattle.fields.specs.Layouts.{upToEnd}
 use Rattle.descriptor.proofs.Steps.{roomy-less, roomy-as}
 use Rattle.descriptor.proofs.Loops.{section-halt, section-room, section-at, section-go, section-inside, fault-inside}
 use borrow.Author.Needs.{needs}
-use borrow.Author.Needs.{needs}
 use Rattle.descriptor.proofs.block.section.Statement.{statement}
 use Rattle.descriptor.proofs.block.section.Tie as tie
-use Rattle.descriptor.proofs.block.section.Reads as reads
-use Rattle.descriptor.proofs.block.section.Lts as lts
-use Rattle.descriptor.proofs.block.fields.Reads as fields-reads
-use Rattle.descriptor.proofs.block.items.Reads as items-reads
 
 fields-requires : tie.Need-fields-requires
 fields-requires c κs =

@@ -1,20 +1,12 @@
 -- `descriptor::field::fault` meets its contract. Assumes nothing.
 use mathlib.Core.Path.{sym, ap, _∙_}
 use native.Mathlib.Omega.{arith}
-use Rattle.descriptor.specs.Fields.{numberFault, countFault, refFault}
-use Rattle.descriptor.proofs.Rules.{extent-id, extent-number, fault-id, fault-text, fault-number, fault-count, fault-reference}
-use borrow.Author.Needs.{needs}
+use Rattle.fields.specs.Fields.{numberFault, countFault, refFault}
+use Rattle.fields.proofs.Extents.{extent-id, extent-number}
+use Rattle.descriptor.proofs.Rules.{fault-id, fault-text, fault-number, fault-count, fault-reference}
 use borrow.Author.Needs.{needs}
 use Rattle.descriptor.proofs.field.fault.Statement.{statement}
 use Rattle.descriptor.proofs.field.fault.Tie as tie
-use Rattle.descriptor.proofs.field.fault.Reads as reads
-use Rattle.descriptor.proofs.field.fault.Lts as lts
-use Rattle.descriptor.proofs.id.fault.Reads as id-fault-reads
-use Rattle.descriptor.proofs.number.count_fault.Reads as count-fault-reads
-use Rattle.descriptor.proofs.number.fault.Reads as number-fault-reads
-use Rattle.descriptor.proofs.number.number_at.Reads as number-at-reads
-use Rattle.descriptor.proofs.reference.fault.Reads as reference-fault-reads
-use Rattle.descriptor.proofs.text.fault.Reads as text-fault-reads
 
 fault-requires : tie.Need-fault-requires
 fault-requires c κs =

@@ -1,19 +1,12 @@
 -- `descriptor::field::keep` meets its contract. Assumes nothing.
 use mathlib.Core.Path.{sym, _∙_}
 use native.Mathlib.Omega.{arith}
-use Rattle.descriptor.specs.Fields.{decides, formatless}
-use Rattle.descriptor.proofs.Rules.{extent-id, extent-number, kept-id, kept-name, kept-free, kept-card, kept-ancestors, kept-count, kept-deciding, kept-ancestor, kept-plain}
-use borrow.Author.Needs.{needs}
+use Rattle.fields.specs.Fields.{decides, formatless}
+use Rattle.fields.proofs.Extents.{extent-id, extent-number}
+use Rattle.descriptor.proofs.Rules.{kept-id, kept-name, kept-free, kept-card, kept-ancestors, kept-count, kept-deciding, kept-ancestor, kept-plain}
 use borrow.Author.Needs.{needs}
 use Rattle.descriptor.proofs.field.keep.Statement.{statement}
 use Rattle.descriptor.proofs.field.keep.Tie as tie
-use Rattle.descriptor.proofs.field.keep.Reads as reads
-use Rattle.descriptor.proofs.field.keep.Lts as lts
-use Rattle.descriptor.proofs.id.format_of.Reads as format-of-reads
-use Rattle.descriptor.proofs.number.extent_of.Reads as extent-of-reads
-use Rattle.descriptor.proofs.number.number_at.Reads as number-at-reads
-use Rattle.descriptor.proofs.reference.format_at.Reads as format-at-reads
-use Rattle.descriptor.proofs.reference.is_deciding.Reads as is-deciding-reads
 
 extent-of-requires : tie.Need-extent-of-requires
 extent-of-requires c κs = search needs

@@ -4,16 +4,11 @@ use native.Mathlib.Omega.{arith}
 use Prim.Native.Nat.{ℕ, _+_}
 use lib.ListN.{length-set}
 use Rattle.plan.specs.Plan.{atLeast}
-use Rattle.descriptor.proofs.Rules.{width-reference, kept-element, grown-element, element-more}
-use borrow.Author.Needs.{needs}
+use Rattle.fields.proofs.Extents.{width-reference}
+use Rattle.descriptor.proofs.Rules.{kept-element, grown-element, element-more}
 use borrow.Author.Needs.{needs}
 use Rattle.descriptor.proofs.field.keep_element.Statement.{statement}
 use Rattle.descriptor.proofs.field.keep_element.Tie as tie
-use Rattle.descriptor.proofs.field.keep_element.Reads as reads
-use Rattle.descriptor.proofs.field.keep_element.Lts as lts
-use Rattle.descriptor.proofs.field.raised.Reads as raised-reads
-use Rattle.descriptor.proofs.number.number_at.Reads as number-at-reads
-use Rattle.descriptor.proofs.reference.height_at.Reads as height-at-reads
 
 number-at-requires : tie.Need-number-at-requires
 number-at-requires c κs =

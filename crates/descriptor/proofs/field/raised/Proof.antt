@@ -4,11 +4,8 @@ use borrow.Author.Tests.{le-leb, lt-leb}
 use Rattle.wire.proofs.Picks.{pick-yes, pick-no}
 use Rattle.plan.specs.Plan.{atLeast}
 use borrow.Author.Needs.{needs}
-use borrow.Author.Needs.{needs}
 use Rattle.descriptor.proofs.field.raised.Statement.{statement}
 use Rattle.descriptor.proofs.field.raised.Tie as tie
-use Rattle.descriptor.proofs.field.raised.Reads as reads
-use Rattle.descriptor.proofs.field.raised.Lts as lts
 
 add-if1 : tie.Need-add-if1
 add-if1 c = search needs

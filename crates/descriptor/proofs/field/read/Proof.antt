@@ -2,19 +2,13 @@
 use mathlib.Core.Path.{sym, ap, _∙_}
 use Prim.Native.Nat.{ℕ}
 use native.Mathlib.Omega.{arith}
-use Rattle.descriptor.specs.Arrays.{walkOf, Inside}
-use Rattle.descriptor.proofs.Rules.{two, extent-most}
+use Rattle.descriptor.specs.Walks.{walkOf, Inside}
+use Rattle.descriptor.proofs.Rules.{two}
+use Rattle.fields.proofs.Extents.{extent-most}
 use Rattle.descriptor.proofs.Steps.{field-short, field-bad, field-good, field-inside, roomy-less, roomy-one, grown-same}
-use borrow.Author.Needs.{needs}
 use borrow.Author.Needs.{needs}
 use Rattle.descriptor.proofs.field.read.Statement.{statement}
 use Rattle.descriptor.proofs.field.read.Tie as tie
-use Rattle.descriptor.proofs.field.read.Reads as reads
-use Rattle.descriptor.proofs.field.read.Lts as lts
-use Rattle.descriptor.proofs.field.fault.Reads as fault-reads
-use Rattle.descriptor.proofs.field.keep.Reads as keep-reads
-use Rattle.descriptor.proofs.field.keep_element.Reads as keep-element-reads
-use Rattle.descriptor.proofs.number.extent_of.Reads as extent-of-reads
 
 extent-of-requires : tie.Need-extent-of-requires
 extent-of-requires c κs = search needs

@@ -1,0 +1,2 @@
+pub mod NodeWords
+pub mod Roots
