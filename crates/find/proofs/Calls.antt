@@ -9,23 +9,16 @@ use lib.ListN.{length, getD}
 use borrow.Author.Tests.{ltb-false}
 use Rattle.wire.specs.Choice.{pick}
 use Rattle.rules.specs.Forest.{Forest, empty}
-use Rattle.scalars.specs.Scalars.{scalar}
-use Rattle.rules.specs.Values.{Outcome, refused, listed, leafRule, valueOf}
+use Rattle.rules.specs.Values.{Outcome, refused, listed, valueOf}
 use Rattle.rules.proofs.Parts.{stands-self}
 use Rattle.plan.specs.Plan.{look, noType, planFormed, At}
-use Rattle.plan.proofs.Looks.{look-leaf}
-use Rattle.plan.proofs.Nodes.{at-root, at-low}
-use Rattle.value.specs.Walk.{leafKind, leafGood}
-use Rattle.value.proofs.Members.{value-leaf}
+use Rattle.plan.proofs.Nodes.{at-root}
 use Rattle.run.specs.Run.{nothingIn, valueBy, checked, Checks}
 use Rattle.run.specs.declared.Answer.{Answer}
 use Rattle.run.specs.declared.Answer.the-variants.{Refused, Listed}
 use Rattle.run.proofs.Runs.{found, turned-down}
 use Rattle.find.specs.Find.{topOf, follow, Found, unfound, found as foundPart, foundAt, foundIn, findOf, partIn, numberIn, placeIn, nodeIn, startIn, Finds}
 use Rattle.find.specs.Descent.{descend}
-use Rattle.find.specs.Number.{ofNode, ofFound, shown, Real, Gives}
-use Rattle.find.specs.declared.Number.{Number}
-use Rattle.find.specs.declared.Number.the-variants as number
 use Rattle.find.proofs.Paths.{follow-nowhere, Accepts, Led, leads}
 
 -- what it takes for a value to be accepted
@@ -112,35 +105,3 @@ module _ (p s path : List ℕ) (small : (j : ℕ) → getD p j 0 < 2 ^ 32) where
   pub find-accepts : Accepts p (findOf p s path)
   unfolding findOf
   find-accepts = outcome-accepts (checked p s) refl
-
--- ---- the number of what was found
-
--- a scalar that is accepted is permitted
-leaf-permitted : (good : Bool) (k i base : ℕ) (s : List ℕ) (f : Forest) → leafRule good k i base s ≡ listed f → good ≡ true
-unfolding leafRule pick
-leaf-permitted true k i base s f e = refl
-leaf-permitted false k i base s f e = let z : _≡_ {A = ℕ} 0 1 = cc in absurd (omega arith)
-
-scalar-permitted : (p : List ℕ) (k : ℕ) → At p k → getD p k 0 ≡ 1 → (i base : ℕ) (b : List ℕ) (f : Forest) → valueOf (look p) k i base b ≡ listed f → scalar (getD p (k + 1) 0) b ≡ true
-unfolding leafKind leafGood pick
-scalar-permitted p k a e i base b f h =
-    let g = leaf-permitted (leafGood (look p k) b) k i base b f (sym (value-leaf p k a (rw e refl) i base b) ∙ h) in
-    rw (look-leaf p k e) at g
-
-module _ (p : List ℕ) (part : List ℕ) (m place node start : ℕ) where
-  pub number-refused : (x : Found) → Accepts p x → Finds x part m place node start → node ≡ 0 → Gives (ofFound p x) (number.Refused m place)
-  unfolding Accepts numberIn placeIn nodeIn ofFound shown Real
-  number-refused (unfound n q) a g z = record { is = rw (g .no-is, g .place-is); real = tt }
-  number-refused (foundPart k at b) a g z = absurd (omega (arith, at-low p k (a .0), g .node-is, z))
-
-  module _ (some : node ≡ 0 → ⊥) where
-    pub number-node : (x : Found) → Accepts p x → Finds x part m place node start → (At p node) × (getD p node 0 ≡ 1 → scalar (getD p (node + 1) 0) part ≡ true)
-    unfolding Accepts nodeIn partIn
-    number-node (unfound n q) a g = absurd (some (g .node-is))
-    number-node (foundPart k at b) a g =
-        rw (g .node-is, g .part-is) (a .0, λ e. scalar-permitted p k (a .0) e (a .1 .0) at b (a .1 .1) (a .1 .2))
-
-    pub number-found : (x : Found) → Finds x part m place node start → (r : Number) → Gives (ofNode (look p node) part) r → Gives (ofFound p x) r
-    unfolding nodeIn partIn ofFound
-    number-found (unfound n q) g r h = absurd (some (g .node-is))
-    number-found (foundPart k at b) g r h = rw (← g .node-is, ← g .part-is) h

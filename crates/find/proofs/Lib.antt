@@ -4,4 +4,3 @@ pub mod Descents
 pub mod Paths
 pub mod Calls
 pub mod Entries
-pub mod Bits

@@ -1,6 +1,5 @@
 // Finds the element that a path leads to: "the answer is a part of the value's own bytes, not a copy".
 pub mod child;
-pub mod numbers;
 
 use heads::Head;
 ghost use mathlib.Core.Path.{_≡_};
@@ -9,18 +8,6 @@ ghost use lib.ListN.{length};
 ghost use Rattle.plan.specs.Plan.{look, At};
 ghost use Rattle.find.specs.Find.{findOf, Finds};
 ghost use Rattle.find.specs.Descent.{descend, lostAt};
-
-// The number of an element: refused, with number and place; an integer's format and its bits, with its sign in all 64; a truth value; a float;
-// or the bits of a float that is a NaN.
-pub enum Number {
-    Refused { no: u32, place: u32 },
-    Integer { format: u32, bits: u64 },
-    Truth(bool),
-    Single(f32),
-    Double(f64),
-    SingleNan(u32),
-    DoubleNan(u64),
-}
 
 // The number of a path that leads to no present element: it ends at an absent one, or it names none.
 fn lost_number(head: Head, length: usize) -> u32
@@ -113,7 +100,7 @@ pub fn find<'v>(
         }
         run::Answer::Listed { words: _ } => {
             *place = 0;
-            if plan::formed::no_type(plan) {
+            if formed::no_type(plan) {
                 *no = 35;
                 *node = 0;
                 *start = 0;

@@ -15,7 +15,7 @@ use Rattle.run.specs.declared.Answer as Run
 use Rattle.run.specs.declared.Answer.the-variants.{Refused, Listed}
 use Rattle.run.proofs.Runs.{found, turned-down}
 use Rattle.find.specs.Find.{Spot, nowhere, spot, topOf, follow, Found, unfound, found as foundPart, foundAt, foundIn, findOf, partIn, numberIn, placeIn, startIn, Finds}
-use Rattle.find.specs.Number.{unnumbered, ofFound, numberOf}
+use Rattle.find_number.specs.Number.{unnumbered, ofFound, numberOf}
 use Rattle.find.proofs.Calls.{passed}
 use Rattle.crossing.specs.Crossing.{wordsIn, crosses}
 use Rattle.crossing.specs.Answers.{refusal, success}

@@ -6,7 +6,7 @@ use Rattle.wire.specs.Choice.{pick}
 use Rattle.rules.specs.Values.{Outcome, refused, listed}
 use Rattle.run.specs.Run.{checked}
 use Rattle.find.specs.Find.{Found, unfound, found, findOf}
-use Rattle.find.specs.Number.{Numbered, unnumbered, numbered, ofFound}
+use Rattle.find_number.specs.Number.{Numbered, unnumbered, numbered, ofFound}
 use Rattle.crossing.specs.Crossing.{wordsIn, crosses}
 use Rattle.crossing.specs.Answers.{refusal, success}
 use Rattle.crossing.specs.declared.Answer.{Answer}

@@ -9,7 +9,7 @@ ghost use lib.Ieee.{binary32, toBits, isNan};
 ghost use lib.ListN.{length, take, drop};
 ghost use Rattle.run.specs.Run.{checked};
 ghost use Rattle.find.specs.Find.{findOf};
-ghost use Rattle.find.specs.Number.{unnumbered, numbered, numberOf, Real, shown};
+ghost use Rattle.find_number.specs.Number.{unnumbered, numbered, numberOf, Real, shown};
 ghost use Rattle.crossing.specs.Crossing.{wordsIn, crosses};
 ghost use Rattle.panel_find.specs.Finds.{noPath, findFrom, findAnswer, numberFrom, numberAnswer};
 
@@ -94,23 +94,23 @@ fn single_bits(x: f32) -> u32
 }
 
 // The format and the bits of a number, or a refusal.
-fn number_answer(number: find::Number) -> Number
+fn number_answer(number: find_number::Number) -> Number
     requires { ⌜ Real number ⌝ }
     ensures { λ r. ⌜ r ≡ numberAnswer (shown number) ⌝ }
 {
     match number {
-        find::Number::Refused { no, place } => number_refused(no, place),
-        find::Number::Integer { format, bits } => known(format, bits),
-        find::Number::Truth(b) => {
+        find_number::Number::Refused { no, place } => number_refused(no, place),
+        find_number::Number::Integer { format, bits } => known(format, bits),
+        find_number::Number::Truth(b) => {
             if b {
                 return known(9, 1);
             }
             known(9, 0)
         }
-        find::Number::Single(x) => known(6, single_bits(x) as u64),
-        find::Number::Double(x) => known(7, f64::to_bits(x)),
-        find::Number::SingleNan(bits) => known(6, bits as u64),
-        find::Number::DoubleNan(bits) => known(7, bits),
+        find_number::Number::Single(x) => known(6, single_bits(x) as u64),
+        find_number::Number::Double(x) => known(7, f64::to_bits(x)),
+        find_number::Number::SingleNan(bits) => known(6, bits as u64),
+        find_number::Number::DoubleNan(bits) => known(7, bits),
     }
 }
 
@@ -167,7 +167,7 @@ fn number_both(words: &[u32], n: usize, end: usize, value: &[u8]) -> Number
     requires { ⌜ (n ≤ end) × (end ≤ length (now words)) ⌝ }
     ensures { λ r. ⌜ r ≡ numberAnswer (numberOf (take n (now (words .entry))) (now (value .entry)) (take (end - n) (drop n (now (words .entry))))) ⌝ }
 {
-    number_answer(find::numbers::find_number(&words[..n], value, &words[n..end]))
+    number_answer(find_number::find_number(&words[..n], value, &words[n..end]))
 }
 
 fn number_in(plan: &[u8], value: &[u8], path: &[u8], scratch: &mut [u32]) -> Number

@@ -57,7 +57,7 @@ fn uncrossed_list(plan: &[u8]) -> Answer
     let n = plan.len() / 4;
     let mut words = [0u32; crossing::MOST];
     crossing::take_words(plan, &mut words);
-    if plan::formed::plan_ok(&words[..n]) {
+    if formed::plan_ok(&words[..n]) {
         return refused(34, 0);
     }
     refused(33, 0)

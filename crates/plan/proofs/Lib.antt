@@ -3,9 +3,5 @@ pub mod Looks
 pub mod Reading
 pub mod Nodes
 pub mod Refs
-pub mod Starts
 pub mod Sizes
-pub mod Heights
-pub mod Cases
-pub mod Scans
 pub mod Memos

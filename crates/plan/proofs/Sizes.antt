@@ -35,3 +35,17 @@ module _ (K n : ℕ) where
       (λ _. pick-case (λ m. m ≤ 2 + 2 * n) (eqb K 5) _ _ (λ _. omega arith)
       (λ _. pick-case (λ m. m ≤ 2 + 2 * n) (eqb K 6) _ _ (λ _. omega arith)
       (λ _. pick-case (λ m. m ≤ 2 + 2 * n) (eqb K 8) _ _ (λ _. omega arith) (λ _. omega arith))))
+
+-- the words of a tuple and of an object, where the whole node is there
+module _ (at K n m : ℕ) (w : at + sizeOf K n ≤ m) where
+  pub tuple-fits : K ≡ 4 → at + 2 + n ≤ m
+  unfolding sizeOf pick
+  tuple-fits e = let h : at + (2 + n) ≤ m = rw e at w in omega arith
+
+  pub object-fits : K ≡ 5 → at + 2 + 2 * n ≤ m
+  unfolding sizeOf pick
+  object-fits e = let h : at + (2 + 2 * n) ≤ m = rw e at w in omega arith
+
+  pub sparse-fits : K ≡ 6 → at + 2 + 2 * n ≤ m
+  unfolding sizeOf pick
+  sparse-fits e = let h : at + (2 + 2 * n) ≤ m = rw e at w in omega arith

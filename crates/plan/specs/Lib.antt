@@ -1,4 +1,3 @@
 pub mod Plan
 pub mod Readers
-pub mod Scan
 pub mod Memo

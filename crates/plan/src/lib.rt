@@ -1,6 +1,5 @@
-// Plans (document 01, 'Plan, list, finding'): reading the nodes of a well-formed plan, whether one is well formed, and how many elements
-// of its sparse objects are required.
-pub mod formed;
+// Plans (document 01, 'Plan, list, finding'): its words, reading the nodes of a well-formed one, and how many elements of its
+// sparse objects are required. Whether a plan is well formed is the crate formed.
 pub mod needs;
 pub mod node;
 pub mod words;

@@ -22,7 +22,7 @@ const SHORT: usize = 64;
 fn early_fault(plan: &[u32], value: &[u8]) -> u32
     ensures { λ r. ⌜ r ≡ earlyFault (now (plan .entry)) (now (value .entry)) ⌝ }
 {
-    if plan::formed::plan_ok(plan) {
+    if formed::plan_ok(plan) {
         if 65535 < value.len() {
             return 28;
         }

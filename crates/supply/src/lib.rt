@@ -81,7 +81,7 @@ fn build_whole(plan: &[u32], src: &[u8], list: &[u32], out: &mut [u8]) -> Built
 pub fn write(plan: &[u32], list: &[u32], src: &[u8], out: &mut [u8]) -> Answer
     ensures { λ r. ⌜ Puts (writeOf (now (plan .entry)) (now (list .entry)) (now (src .entry)) (length (now (out .entry)))) r (now (out .entry)) (now (out .exit)) ⌝ }
 {
-    if plan::formed::plan_ok(plan) {
+    if formed::plan_ok(plan) {
         let mut none = [0u8; 0];
         let built = build_whole(plan, src, list, &mut none);
         let Built::Done { word, at } = built else {

@@ -3,15 +3,8 @@ use mathlib.Core.Path.{_≡_, refl, sym, _∙_, ap}
 use native.Mathlib.Omega.{arith}
 use Rattle.find.proofs.Calls.{finds-refused, sound, finds-nothing, finds-down}
 use borrow.Author.Needs.{needs}
-use borrow.Author.Needs.{needs}
 use Rattle.find.proofs.find.Statement.{statement}
 use Rattle.find.proofs.find.Tie as tie
-use Rattle.find.proofs.find.Reads as reads
-use Rattle.find.proofs.find.Lts as lts
-use Rattle.find.proofs.down.Reads as down-reads
-use Rattle.plan.proofs.formed.no_type.Reads as no-type-reads
-use Rattle.plan.proofs.node.root_of.Reads as root-of-reads
-use Rattle.run.proofs.check.Reads as check-reads
 
 slice-aggregate-check : tie.Need-slice-aggregate-check
 slice-aggregate-check c = search needs

@@ -4,11 +4,8 @@ use borrow.Author.Tests.{eq-eqb, ne-eqb}
 use Rattle.wire.specs.Choice.{pick}
 use Rattle.find.specs.Descent.{lostAt}
 use borrow.Author.Needs.{needs}
-use borrow.Author.Needs.{needs}
 use Rattle.find.proofs.lost_number.Statement.{statement}
 use Rattle.find.proofs.lost_number.Tie as tie
-use Rattle.find.proofs.lost_number.Reads as reads
-use Rattle.find.proofs.lost_number.Lts as lts
 
 enum-told : tie.Need-enum-told
 enum-told c = search needs

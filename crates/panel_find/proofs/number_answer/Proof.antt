@@ -2,7 +2,7 @@
 use mathlib.Core.Path.{_≡_, refl, sym, _∙_, ap}
 use mathlib.Core.Bool.{cond}
 use native.Mathlib.Omega.{arith}
-use Rattle.find.specs.Number.{Real, shown}
+use Rattle.find_number.specs.Number.{Real, shown}
 use Rattle.panel_find.specs.Finds.{numberAnswer}
 use borrow.Author.Needs.{needs}
 use Rattle.panel_find.proofs.number_answer.Statement.{statement}

@@ -1,7 +1,7 @@
 -- `panel_find::number_both` meets its contract. Assumes nothing.
 use lib.ListN.{length-take}
 use native.Mathlib.Omega.{arith}
-use Rattle.find.specs.Number.{Gives}
+use Rattle.find_number.specs.Number.{Gives}
 use mathlib.Core.Path.{_≡_, refl, sym, _∙_, ap}
 use Rattle.panel_find.specs.Finds.{numberAnswer}
 use borrow.Author.Needs.{needs}

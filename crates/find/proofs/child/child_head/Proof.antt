@@ -3,15 +3,8 @@ use mathlib.Core.Path.{_≡_, refl, sym, _∙_, ap}
 use Rattle.value.proofs.Members.{inner-kind}
 use Rattle.find.proofs.Seeks.{child-leaf, child-wrong, child-seek, child-opened, object-few}
 use borrow.Author.Needs.{needs}
-use borrow.Author.Needs.{needs}
 use Rattle.find.proofs.child.child_head.Statement.{statement}
 use Rattle.find.proofs.child.child_head.Tie as tie
-use Rattle.find.proofs.child.child_head.Reads as reads
-use Rattle.find.proofs.child.child_head.Lts as lts
-use Rattle.find.proofs.child.seek_head.Reads as seek-head-reads
-use Rattle.plan.proofs.node.kind_at.Reads as kind-at-reads
-use Rattle.value.proofs.node.is_leaf.Reads as is-leaf-reads
-use Rattle.value.proofs.node.open_node.Reads as open-node-reads
 
 kind-at-requires : tie.Need-kind-at-requires
 kind-at-requires c κs = c .before .before .pre .0

@@ -2,11 +2,8 @@
 use mathlib.Core.Path.{_≡_, refl, sym, _∙_, ap}
 use Rattle.find.specs.Descent.{ends}
 use borrow.Author.Needs.{needs}
-use borrow.Author.Needs.{needs}
 use Rattle.find.proofs.child.ends_search.Statement.{statement}
 use Rattle.find.proofs.child.ends_search.Tie as tie
-use Rattle.find.proofs.child.ends_search.Reads as reads
-use Rattle.find.proofs.child.ends_search.Lts as lts
 
 enum-told : tie.Need-enum-told
 enum-told c = search needs

@@ -6,16 +6,8 @@ use Rattle.plan.proofs.Nodes.{at-few}
 use Rattle.value.proofs.Members.{known-in}
 use Rattle.find.proofs.Seeks.{head-row, head-sparse-bad, head-sparse}
 use borrow.Author.Needs.{needs}
-use borrow.Author.Needs.{needs}
 use Rattle.find.proofs.child.head_at.Statement.{statement}
 use Rattle.find.proofs.child.head_at.Tie as tie
-use Rattle.find.proofs.child.head_at.Reads as reads
-use Rattle.find.proofs.child.head_at.Lts as lts
-use Rattle.heads.proofs.parts.index_fault.Reads as index-fault-reads
-use Rattle.heads.proofs.sparse.sparse_index.Reads as sparse-index-reads
-use Rattle.plan.proofs.node.second_at.Reads as second-at-reads
-use Rattle.value.proofs.node.row_head.Reads as row-head-reads
-use Rattle.value.proofs.node.sparse_head.Reads as sparse-head-reads
 
 second-at-requires : tie.Need-second-at-requires
 second-at-requires c κs =

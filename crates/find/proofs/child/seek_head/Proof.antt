@@ -9,11 +9,6 @@ use Rattle.find.proofs.Seeks.{seek-here, seek-next, next-end, seek-none
 use borrow.Author.Needs.{needs}
 use Rattle.find.proofs.child.seek_head.Statement.{statement}
 use Rattle.find.proofs.child.seek_head.Tie as tie
-use Rattle.find.proofs.child.seek_head.Reads as reads
-use Rattle.find.proofs.child.seek_head.Lts as lts
-use Rattle.find.proofs.child.ends_search.Reads as ends-search-reads
-use Rattle.find.proofs.child.head_at.Reads as head-at-reads
-use Rattle.heads.proofs.parts.end_of.Reads as end-of-reads
 
 abbrev Inv-loop : tie.InvT-loop
 Inv-loop plan node kind part wanted count first from left₀ i₀ at₀ left i at =

@@ -7,7 +7,7 @@ use native.Mathlib.Omega.{arith}
 use lib.ListN.{length, getD}
 use Rattle.plan.specs.Memo.{Pairs}
 use Rattle.plan.proofs.Reading.{size-positive}
-use Rattle.plan.proofs.Cases.{sparse-fits}
+use Rattle.plan.proofs.Sizes.{sparse-fits}
 use Rattle.plan.proofs.Memos.{pairs-none}
 use borrow.Author.Needs.{needs}
 use Rattle.plan.proofs.needs.fill.Statement.{statement}

@@ -4,7 +4,6 @@ use native.Mathlib.Omega.{arith}
 use lib.ListN.{length-set}
 use Rattle.plan.proofs.Memos.{needed-few, pairs-next}
 use borrow.Author.Needs.{needs}
-use borrow.Author.Needs.{needs}
 use Rattle.plan.proofs.needs.put_pair.Statement.{statement}
 use Rattle.plan.proofs.needs.put_pair.Tie as tie
 

@@ -4,9 +4,6 @@ use borrow.Author.Needs.{needs}
 use Rattle.plan.proofs.Nodes.{at-root, root-inside}
 use Rattle.plan.proofs.node.root_of.Statement.{statement}
 use Rattle.plan.proofs.node.root_of.Tie as tie
-use Rattle.plan.proofs.node.root_of.Reads as reads
-use Rattle.plan.proofs.node.root_of.Lts as lts
-use Rattle.plan.proofs.words.wide.Reads as wide-reads
 
 shared-slice-read-wide : tie.Need-shared-slice-read-wide
 shared-slice-read-wide c =
