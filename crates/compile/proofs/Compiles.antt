@@ -1,5 +1,4 @@
--- The laws of compiling: the root, the tests in their order, what an answer says of the outcome, and demand 3 of the function that compiles and
--- then runs. Assumes nothing.
+-- The laws of compiling: the root, the tests in their order, what an answer says of the outcome, and the plan's room. Assumes nothing.
 use mathlib.Core.Path.{_≡_, refl, ap, ap₂, sym, _∙_}
 use mathlib.Core.Logic.{⊎-elim}
 use mathlib.Core.Bool.{Bool, true, false}
@@ -9,29 +8,23 @@ use native.Mathlib.Decide.{decLt}
 use native.Mathlib.Omega.{arith}
 use native.Mathlib.Nat.{zero-add}
 use lib.Dec.{eqb, ltb}
-use lib.ListN.{length, getD, take, drop, set, length-map}
-use lib.Seq.{sets, sets-eq, set-comm, take-at}
+use lib.ListN.{length, getD, drop, set, length-map}
+use lib.Seq.{sets, sets-eq, set-comm}
 use borrow.Author.Tests.{lt-ltb, le-ltb, ltb-false, eq-eqb, ne-eqb}
 use Rattle.wire.specs.Choice.{pick}
 use Rattle.wire.proofs.Picks.{pick-yes, pick-no, pick-split}
-use Rattle.rules.specs.Values.{Outcome, refused}
-use Rattle.run.specs.Run as run
-use Rattle.run.specs.declared.Answer as ran
-use Rattle.run.specs.declared.Answer.the-variants as ran-variants
 use Rattle.fields.specs.Layouts.{valued}
 use Rattle.fields.specs.Fields.{Known, noBlock, idAt}
 use Rattle.descriptor.specs.Descriptor.{nodeAt, Block, summary, summaries, allWords, Blocks, faulty, whole, blocksOf, indexOf, tagAt, Description, refusedBy, noType, described, rooted, descriptionOf, planWords, Compiled, refusedPlan, plan, planOf, roomed, compileOf}
 use Rattle.fields.specs.Arrays.{knownOf}
-use Rattle.compile.specs.OffDescriptor.{rulesOf}
 use Rattle.nodes.specs.Nodes.{indexIn}
 use Rattle.scan.specs.Scan.{Kept, Scans}
-use Rattle.compile.specs.Compile.{answerOf, planAfter, Gives, Stored, Checks, refusalOf, hasNode, after, Follows}
+use Rattle.compile.specs.Compile.{answerOf, planAfter, Gives, Stored, Checks, refusalOf, hasNode}
 use Rattle.compile.specs.declared.Answer.{Answer}
 use Rattle.compile.specs.declared.Answer.the-variants.{Refused, Words}
 use Rattle.scan.specs.declared.Scan.{Scan}
 use Rattle.scan.specs.declared.Scan.the-variants.{Refused as Stopped, Done}
 use Rattle.nodes.proofs.Roots.{index-same, tag-same, tag-out}
-use Rattle.compile.proofs.Demand3.{demand-three, compiled-is}
 
 -- ---- two words put in front last
 
@@ -169,7 +162,7 @@ unfolding answerOf Stored
 found-in (refusedPlan n p) w l l′ e s = let z : _≡_ {A = ℕ} 0 1 = cc in absurd (omega arith)
 found-in (plan ws) w l l′ e s = record { words = ws; is = refl; count = cc; stored = s }
 
-refused-in : (o : Compiled) (n p : ℕ) → Refused n p ≡ answerOf o → o ≡ refusedPlan n p
+pub refused-in : (o : Compiled) (n p : ℕ) → Refused n p ≡ answerOf o → o ≡ refusedPlan n p
 unfolding answerOf
 refused-in (refusedPlan m q) n p e = cc
 refused-in (plan ws) n p e = let z : _≡_ {A = ℕ} 0 1 = cc in absurd (omega arith)
@@ -209,7 +202,7 @@ module _ (d root : List ℕ) (a : Answer) (k k′ : List ℕ) (c : Checks (planO
           plan = g ∙ sets-eq (f .words) l 0 (omega arith) ∙ ap (λ (n : ℕ). f .words ++ drop n l) (zero-add (length (f .words)));
         })
 
--- ---- compiling, and then running
+-- ---- its room
 
 -- a plan that is given fits its room
 pub planned-room : (d root : List ℕ) (room : ℕ) (ws : List ℕ) → compileOf d root room ≡ plan ws → length ws ≤ room
@@ -223,43 +216,3 @@ planned-room d root room ws = go (planOf (descriptionOf d root))
         (λ (q : (ltb room (length vs) ≡ true) × (refusedPlan 30 0 ≡ plan ws)). let f = q .1 in let z : _≡_ {A = ℕ} 0 1 = cc in absurd (omega arith))
         (λ (q : (ltb room (length vs) ≡ false) × (plan vs ≡ plan ws)). let f = q .1 in let v : vs ≡ ws = cc in let h = ltb-false room (length vs) (q .0) in rw v at h)
         (pick-split (ltb room (length vs)) (refusedPlan 30 0) (plan vs) (plan ws) e)
-
--- a plan that was written: its words are at the start of the room
-pub record Written (d root : List ℕ) (w : ℕ) (p p′ : List ℕ) : Type 0 where
-  pub words : List ℕ
-  pub is : compileOf d root (length p) ≡ plan words
-  pub count : w ≡ length words
-  pub room : w ≤ length p
-  pub first : take w p′ ≡ words
-
-module _ (d root : List ℕ) (a : Answer) (p p′ : List ℕ) (g : Gives (compileOf d root (length p)) a p p′) where
-  pub follows-refused : (s l : List ℕ) (n q : ℕ) → a ≡ Refused n q → Follows d root s (ran-variants.Refused n q) p p′ l l
-  unfolding after run.answerOf run.listAfter
-  follows-refused s l n q e =
-      let o = refused-in _ n q (sym e ∙ g .answer) in
-      record { plan = g .plan; gives = rw o (record { answer = refl; list = refl }) }
-
-  module _ (w : ℕ) (e : a ≡ Words w) where
-    written-in : (o : Compiled) → compileOf d root (length p) ≡ o → Words w ≡ answerOf o → p′ ≡ planAfter o p → Written d root w p p′
-    unfolding answerOf planAfter
-    written-in (refusedPlan n q) i x y = let z : _≡_ {A = ℕ} 0 1 = cc in absurd (omega arith)
-    written-in (plan ws) i x y =
-        let c : w ≡ length ws = cc in
-        record {
-          words = ws;
-          is = i;
-          count = c;
-          room = omega (arith, planned-room d root (length p) ws i);
-          first = ap₂ take c y ∙ take-at ws (drop (length ws) p) (length ws) refl;
-        }
-
-    pub written : Written d root w p p′
-    written = written-in (compileOf d root (length p)) refl (sym e ∙ g .answer) (g .plan)
-
-    pub follows-run : (s l l′ : List ℕ) (r : ran.Answer) → run.Gives (run.runOf (take w p′) s (length l)) r l l′ → Follows d root s r p p′ l l′
-    unfolding after
-    follows-run s l l′ r h =
-        let o : run.runOf (take w p′) s (length l) ≡ rulesOf d root s (length l) =
-        ap (λ (ws : List ℕ). run.runOf ws s (length l)) (written .first)
-        ∙ demand-three d root (written .words) (compiled-is d root (length p) (written .words) (written .is)) s (length l) in
-        record { plan = g .plan; gives = rw (written .is) (rw o at h) }

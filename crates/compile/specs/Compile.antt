@@ -1,4 +1,4 @@
--- What compiling answers and leaves in the plan's room, and what compiling and then running does. Assumes nothing: these are definitions.
+-- What compiling answers and leaves in the plan's room. Assumes nothing: these are definitions.
 use mathlib.Core.Path.{_≡_}
 use Prim.Native.Nat.{ℕ}
 use mathlib.Core.Bool.{Bool, false}
@@ -7,13 +7,9 @@ use lib.Dec.{ltb}
 use lib.ListN.{length, drop, getD}
 use lib.Seq.{sets}
 use Rattle.wire.specs.Choice.{pick}
-use Rattle.rules.specs.Values.{Outcome, refused}
-use Rattle.run.specs.Run as run
-use Rattle.run.specs.declared.Answer as ran
 use Rattle.fields.specs.Layouts.{valued}
 use Rattle.fields.specs.Fields.{Known, noBlock}
-use Rattle.descriptor.specs.Descriptor.{Compiled, refusedPlan, plan, compileOf}
-use Rattle.compile.specs.OffDescriptor.{rulesOf}
+use Rattle.descriptor.specs.Descriptor.{Compiled, refusedPlan, plan}
 use Rattle.compile.specs.declared.Answer as answer
 use Rattle.compile.specs.declared.Answer.the-variants.{Refused, Words}
 use Rattle.scan.specs.declared.Scan as scan
@@ -52,15 +48,3 @@ refusalOf (Done n to) = Refused 0 0
 -- the block with an index is there, and has values
 unfoldable pub hasNode : List Known → ℕ → Bool
 hasNode known i = pick (ltb i (length known)) (valued (getD known i noBlock .tag)) false
-
--- ---- compiling, and then running with no descriptor
-
--- the refusal of the descriptor or of the plan's room, or the outcome of the rules
-unfoldable pub after : Compiled → Outcome → Outcome
-after (refusedPlan n p) o = refused n p
-after (plan ws) o = o
-
--- Demand 3: the answer and the list are those of the rules read off the descriptor, wherever its plan fits the room.
-pub record Follows (d root s : List ℕ) (r : ran.Answer) (p p′ l l′ : List ℕ) : Type 0 where
-  pub plan : p′ ≡ planAfter (compileOf d root (length p)) p
-  pub gives : run.Gives (after (compileOf d root (length p)) (rulesOf d root s (length l))) r l l′

@@ -1,3 +1,1 @@
-pub mod OffDescriptor
-pub mod Cases
 pub mod Compile

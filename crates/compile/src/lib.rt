@@ -8,7 +8,7 @@ ghost use lib.ListN.{length};
 ghost use Rattle.fields.specs.Fields.{idAt};
 ghost use Rattle.descriptor.specs.Descriptor.{blocksOf, rooted, descriptionOf, planOf, compileOf};
 ghost use Rattle.fields.specs.Arrays.{Told, knownOf};
-ghost use Rattle.compile.specs.Compile.{Gives, Checks, Follows, refusalOf, hasNode};
+ghost use Rattle.compile.specs.Compile.{Gives, Checks, refusalOf, hasNode};
 
 // What compiling answers: refused, with number and place; or the words of the plan.
 pub enum Answer {
@@ -102,23 +102,4 @@ pub fn compile(d: &[u8], root: &[u8], plan: &mut [u32]) -> Answer
     }
     check(d, root, plan);
     answer
-}
-
-// Demand 3 as one function: it compiles a descriptor, and then runs the plan alone.
-pub fn compile_and_run(
-    d: &[u8],
-    root: &[u8],
-    plan: &mut [u32],
-    value: &[u8],
-    list: &mut [u32],
-) -> run::Answer
-    ensures { λ r. ⌜ Follows (now (d .entry)) (now (root .entry)) (now (value .entry)) r (now (plan .entry)) (now (plan .exit)) (now (list .entry)) (now (list .exit)) ⌝ }
-{
-    match compile(d, root, plan) {
-        Answer::Refused { no, place } => run::Answer::Refused { no, place },
-        Answer::Words { words } => {
-            let n = words as usize;
-            run::run(&plan[..n], value, list)
-        }
-    }
 }

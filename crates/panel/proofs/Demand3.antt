@@ -15,10 +15,10 @@ use Rattle.run.specs.Run.{runOf}
 use Rattle.descriptor.specs.Descriptor as descriptor
 use Rattle.descriptor.specs.Descriptor.{Description, refusedBy, noType, described, descriptionOf, planOf, planWords, compileOf}
 use Rattle.descriptor.proofs.Accepted.{described-is}
-use Rattle.compile.specs.OffDescriptor.{rulesOf}
-use Rattle.compile.proofs.Demand3.{demand-three, compiled-is}
+use Rattle.demand_three.specs.OffDescriptor.{rulesOf}
+use Rattle.demand_three.proofs.Demand3.{demand-three, compiled-is}
 use Rattle.compile.proofs.Compiles.{planned-room}
-use Rattle.compile.proofs.PlanSize.{Small, plan-words}
+use Rattle.demand_three.proofs.PlanSize.{Small, plan-words}
 use Rattle.crossing.specs.Crossing.{wordsIn, bytesOut, crosses, wordRoom}
 use Rattle.panel_run.specs.Runs.{runFrom}
 use Rattle.panel_compile.specs.Compiles.{compilePlan, CompilesPlan}

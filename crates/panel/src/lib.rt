@@ -1,11 +1,12 @@
 // The calls of the panel's C host, under their C names. Each is one call of the crate of its subject, whose contract it has.
 use crossing::Answer;
-use panel_find::Number;
+use panel_number::Number;
 ghost use mathlib.Core.Path.{_≡_};
 ghost use Rattle.panel_message.specs.Messages.{ReadsMessage, WritesMessage};
 ghost use Rattle.panel_run.specs.Runs.{RunsValue};
 ghost use Rattle.panel_compile.specs.Compiles.{CompilesPlan};
-ghost use Rattle.panel_find.specs.Finds.{findFrom, findAnswer, numberFrom, numberAnswer};
+ghost use Rattle.panel_find.specs.Finds.{findFrom, findAnswer};
+ghost use Rattle.panel_number.specs.Numbers.{numberFrom, numberAnswer};
 ghost use Rattle.panel_supply.specs.Supplies.{WritesValue};
 
 // Reads the message at the start of src; the list's words go out as bytes.
@@ -59,7 +60,7 @@ pub extern "C" fn rembulfose_find(plan: &[u8], value: &[u8], path: &[u8]) -> Ans
 pub extern "C" fn rembulfose_find_number(plan: &[u8], value: &[u8], path: &[u8]) -> Number
     ensures { λ r. ⌜ r ≡ numberAnswer (numberFrom (now (plan .entry)) (now (value .entry)) (now (path .entry))) ⌝ }
 {
-    panel_find::find_number(plan, value, path)
+    panel_number::find_number(plan, value, path)
 }
 
 // Writes the value of a plan that has the supply of a list and source bytes.

@@ -15,13 +15,11 @@ use Rattle.run.specs.declared.Answer as Run
 use Rattle.run.specs.declared.Answer.the-variants.{Refused, Listed}
 use Rattle.run.proofs.Runs.{found, turned-down}
 use Rattle.find.specs.Find.{Spot, nowhere, spot, topOf, follow, Found, unfound, found as foundPart, foundAt, foundIn, findOf, partIn, numberIn, placeIn, startIn, Finds}
-use Rattle.find_number.specs.Number.{unnumbered, ofFound, numberOf}
 use Rattle.find.proofs.Calls.{passed}
 use Rattle.crossing.specs.Crossing.{wordsIn, crosses}
 use Rattle.crossing.specs.Answers.{refusal, success}
-use Rattle.panel_find.specs.Finds.{noPath, findFrom, findAnswer, numberFrom, numberAnswer}
+use Rattle.panel_find.specs.Finds.{noPath, findFrom, findAnswer}
 use Rattle.crossing.specs.declared.Answer.{Answer}
-use Rattle.panel_find.specs.declared.Number.{Number}
 
 -- ---- a path that does not cross
 
@@ -74,39 +72,21 @@ answers-found p s path b m place node start g = answer-of (findOf p s path) b m 
 
 -- ---- the crossing
 
-lost-number : (p : List ℕ) (o : Outcome) (r : Answer) → r ≡ findAnswer (noPath o) → unnumbered (r .number) (r .place) ≡ ofFound p (noPath o)
-unfolding noPath findAnswer ofFound
-lost-number p (refused n q) r x = rw x
-lost-number p (listed f) r x = rw x
-
 module _ (plan value path : List ℕ) where
   pub find-uncrossed : crosses (length plan) ≡ false → refusal 33 0 ≡ findAnswer (findFrom plan value path)
   unfolding findFrom findAnswer pick
   find-uncrossed e = rw e
 
-  pub number-uncrossed : crosses (length plan) ≡ false → numberAnswer (unnumbered 33 0) ≡ numberAnswer (numberFrom plan value path)
-  unfolding numberFrom findFrom ofFound pick
-  number-uncrossed e = rw e
-
   module _ (e : crosses (length plan) ≡ true) where
     module _ (d : crosses (length path) ≡ false) where
-      lost-is : noPath (checked (wordsIn plan) value) ≡ findFrom plan value path
+      pub lost-is : noPath (checked (wordsIn plan) value) ≡ findFrom plan value path
       unfolding findFrom pick
       lost-is = rw (e, d)
 
       pub find-lost : (r : Answer) → r ≡ findAnswer (noPath (checked (wordsIn plan) value)) → r ≡ findAnswer (findFrom plan value path)
       find-lost r x = x ∙ ap findAnswer lost-is
 
-      pub number-lost : (r : Answer) → r ≡ findAnswer (noPath (checked (wordsIn plan) value))
-          → numberAnswer (unnumbered (r .number) (r .place)) ≡ numberAnswer (numberFrom plan value path)
-      unfolding numberFrom
-      number-lost r x = ap numberAnswer (lost-number (wordsIn plan) (checked (wordsIn plan) value) r x ∙ ap (ofFound (wordsIn plan)) lost-is)
-
     module _ (d : crosses (length path) ≡ true) (p q : List ℕ) (ep : p ≡ wordsIn plan) (eq : q ≡ wordsIn path) where
       pub find-crossed : (r : Answer) → r ≡ findAnswer (findOf p value q) → r ≡ findAnswer (findFrom plan value path)
       unfolding findFrom pick
       find-crossed r x = x ∙ rw (e, d, ep, eq)
-
-      pub number-crossed : (r : Number) → r ≡ numberAnswer (numberOf p value q) → r ≡ numberAnswer (numberFrom plan value path)
-      unfolding numberFrom numberOf findFrom pick
-      number-crossed r x = x ∙ rw (e, d, ep, eq)

@@ -1,4 +1,4 @@
--- Finding an element of a value, and its number, on bytes. Assumes nothing: these are definitions.
+-- Finding an element of a value, on bytes. Assumes nothing: these are definitions.
 use Prim.Native.Nat.{ℕ}
 use mathlib.Core.List.{List}
 use lib.ListN.{length}
@@ -6,11 +6,9 @@ use Rattle.wire.specs.Choice.{pick}
 use Rattle.rules.specs.Values.{Outcome, refused, listed}
 use Rattle.run.specs.Run.{checked}
 use Rattle.find.specs.Find.{Found, unfound, found, findOf}
-use Rattle.find_number.specs.Number.{Numbered, unnumbered, numbered, ofFound}
 use Rattle.crossing.specs.Crossing.{wordsIn, crosses}
 use Rattle.crossing.specs.Answers.{refusal, success}
 use Rattle.crossing.specs.declared.Answer.{Answer}
-use Rattle.panel_find.specs.declared.Number.{Number}
 
 -- a path that does not cross is 35, after the value's own faults
 unfoldable pub noPath : Outcome → Found
@@ -28,12 +26,3 @@ findFrom plan value path =
 unfoldable pub findAnswer : Found → Answer
 findAnswer (unfound n p) = refusal n p
 findAnswer (found k a b) = success a (length b)
-
--- the number of what was found
-unfoldable pub numberFrom : List ℕ → List ℕ → List ℕ → Numbered
-numberFrom plan value path = ofFound (wordsIn plan) (findFrom plan value path)
-
--- the format, and the bits
-unfoldable pub numberAnswer : Numbered → Number
-numberAnswer (unnumbered n p) = record { number = n; place = p; format = 0; bits = 0 }
-numberAnswer (numbered f b) = record { number = 0; place = 0; format = f; bits = b }

@@ -1,0 +1,48 @@
+-- A list that the rules give, read off a descriptor or off a plan, has at most one entry and one more for every four bytes of the value.
+-- Assumes nothing.
+use mathlib.Core.Path.{_≡_, refl, ap}
+use mathlib.Core.List.{List, [], _∷_}
+use Prim.Native.Nat.{ℕ, _+_, _*_, _≤_, zero-le}
+use lib.ListN.{length}
+use Rattle.wire.proofs.Picks.{pick-case}
+use Rattle.rules.specs.Forest.{Forest, count}
+use Rattle.rules.specs.Values.{Outcome, refused, listed, valueOf}
+use Rattle.rules.proofs.Bound.{Fits, value-fits}
+use Rattle.run.specs.Run.{nothingIn, valueBy, checked, roomed, runOf}
+use Rattle.descriptor.specs.Descriptor.{Description, refusedBy, noType, described, descriptionOf, planWords, plan, planOf}
+use Rattle.demand_three.specs.OffDescriptor.{judged, rulesOf}
+use Rattle.demand_three.proofs.Demand3.{demand-three}
+
+-- ---- off a plan
+
+roomed-fits : (n room : ℕ) (o : Outcome) → Fits n o → Fits n (roomed room o)
+unfolding roomed
+roomed-fits n room (refused m p) h = h
+roomed-fits n room (listed f) h = pick-case (Fits n) _ _ _ (λ _. zero-le) (λ _. h)
+
+pub run-fits : (p s : List ℕ) (room : ℕ) → Fits (length s + 4) (runOf p s room)
+unfolding runOf checked valueBy nothingIn valueOf count
+run-fits p s room =
+    let P = Fits (length s + 4) in
+    roomed-fits (length s + 4) room (checked p s)
+    (pick-case P _ _ _
+    (λ _. pick-case P _ _ _ (λ _. zero-le)
+    (λ _. pick-case P _ _ _ (λ _. pick-case P _ _ _ (λ _. zero-le) (λ _. zero-le)) (λ _. value-fits _ _ _ _ _ s)))
+    (λ _. zero-le))
+
+-- ---- off a descriptor
+
+pub rules-fit : (d root s : List ℕ) (room : ℕ) → Fits (length s + 4) (rulesOf d root s room)
+unfolding rulesOf judged roomed planOf
+rules-fit d root s room = go (descriptionOf d root) refl
+  where
+    by : (ws : List ℕ) → planOf (descriptionOf d root) ≡ plan ws → Fits (length s + 4) (rulesOf d root s room)
+    by ws e = rw (demand-three d root ws e s room) at (run-fits ws s room)
+
+    go : (t : Description) → descriptionOf d root ≡ t → Fits (length s + 4) (rulesOf d root s room)
+    go (refusedBy n p) e = rw e zero-le
+    go noType e = by (2 ∷ 0 ∷ []) (ap planOf e)
+    go (described bs i) e = by (planWords bs i) (ap planOf e)
+
+pub rules-bound : (d root s : List ℕ) (room : ℕ) (f : Forest) → rulesOf d root s room ≡ listed f → 4 * count f ≤ length s + 4
+rules-bound d root s room f e = rw e at (rules-fit d root s room)

@@ -1,0 +1,13 @@
+-- Demand 3: a compiled plan says what its descriptor says. Assumes nothing.
+pub mod CaseTable
+pub mod Words
+pub mod Shapes
+pub mod Places
+pub mod Renames
+pub mod Climbs
+pub mod Blocks
+pub mod Formed
+pub mod PlanSize
+pub mod Demand3
+pub mod Follows
+pub mod EntryBound

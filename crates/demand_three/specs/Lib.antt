@@ -1,0 +1,3 @@
+pub mod OffDescriptor
+pub mod Follows
+pub mod Cases
