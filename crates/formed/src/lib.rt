@@ -28,8 +28,8 @@ pub enum Count {
     Nodes(usize),
 }
 
-// The index of r among the first n starts, or n where it is none of them.
-fn search(starts: &[u32], n: usize, r: u32) -> usize
+// The index of r among the first n starts, or n where it is none of them, by halving.
+fn halve(starts: &[u32], n: usize, r: u32) -> usize
     requires { ⌜ Rising (now starts) n ⌝ }
     ensures { λ i. ⌜ Among (now (starts .entry)) n r i ⌝ }
 {
@@ -48,6 +48,22 @@ fn search(starts: &[u32], n: usize, r: u32) -> usize
         }
     }
     n
+}
+
+// The same, for the most part without a search: most nodes have two words, and while all before a node have, its start tells its index.
+fn search(starts: &[u32], n: usize, r: u32) -> usize
+    requires { ⌜ Rising (now starts) n ⌝ }
+    ensures { λ i. ⌜ Among (now (starts .entry)) n r i ⌝ }
+{
+    let next = wide(r / 2);
+    if 0 < next {
+        if next <= n {
+            if starts[next - 1] == r {
+                return next - 1;
+            }
+        }
+    }
+    halve(starts, n, r)
 }
 
 // "for 2 neither a 2 nor a 3, for 3 a 2, for 7 a 1, else any"

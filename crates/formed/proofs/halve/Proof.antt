@@ -1,11 +1,11 @@
--- `formed::search` meets its contract. The loop's invariant: what is looked for is neither below `lo` nor from `hi` on. The measure is
+-- `formed::halve` meets its contract. The loop's invariant: what is looked for is neither below `lo` nor from `hi` on. The measure is
 -- what is left between them. Assumes nothing.
 use Prim.Native.Nat.{_-_, _+_, _/_}
 use native.Mathlib.Omega.{arith}
 use borrow.Author.Needs.{needs}
 use Rattle.formed.proofs.Starts.{Halved, halved-start, halved-left, halved-right, among-hit, among-none}
-use Rattle.formed.proofs.search.Statement.{statement}
-use Rattle.formed.proofs.search.Tie as tie
+use Rattle.formed.proofs.halve.Statement.{statement}
+use Rattle.formed.proofs.halve.Tie as tie
 
 abbrev Inv-loop : tie.InvT-loop
 Inv-loop starts n r lo₀ hi₀ lo hi = Halved starts n r lo hi
@@ -67,8 +67,8 @@ returns-2 c =
     let loop = c .before .loop in
     among-none (start .args .starts .now) (start .args .n) (start .args .r) (loop .lo) (loop .hi) (loop .inv) (omega arith)
 
-pub search-spec : {M : Type 1} → statement M
-search-spec =
+pub halve-spec : {M : Type 1} → statement M
+halve-spec =
     tie.close
     (tie.spec
     Inv-loop
