@@ -2,7 +2,6 @@
 // containers' reserved fields are zero." A first pass judges and measures, a second puts the bytes out.
 pub mod front;
 pub mod head;
-pub mod lacking;
 pub mod list;
 pub mod walk;
 
@@ -10,6 +9,7 @@ ghost use mathlib.Core.Path.{_≡_};
 ghost use mathlib.Core.Bool.{true};
 ghost use lib.ListN.{length};
 ghost use Rattle.plan.specs.Plan.{look, planFormed, At};
+ghost use Rattle.plan.specs.Memo.{Memo};
 ghost use Rattle.supply.specs.Build.{buildOf};
 ghost use Rattle.supply.specs.Write.{madeBy, writeOf};
 ghost use Rattle.supply.specs.Emitting.{put-at, standOf};
@@ -48,9 +48,20 @@ pub enum Answer {
     Written { bytes: u32 },
 }
 
-// The value of a node that is the top of its plan, from the list's first entry: "top 0". The top may not be absent.
-fn build_top(plan: &[u32], node: usize, src: &[u8], list: &[u32], out: &mut [u8]) -> Built
-    requires { ⌜ At (now plan) node ⌝ }
+// How many words the short table of required elements has: two for each of 32 sparse objects. Few plans have so many.
+const SHORT: usize = 64;
+
+// The value of a node that is the top of its plan, from the list's first entry: "top 0". The top may not be absent. `needs` says how many
+// elements of the plan's sparse objects are required.
+fn build_top(
+    plan: &[u32],
+    needs: &[u32],
+    node: usize,
+    src: &[u8],
+    list: &[u32],
+    out: &mut [u8],
+) -> Built
+    requires { ⌜ (At (now plan) node) × (Memo (now plan) (now needs)) ⌝ }
     ensures { λ r. ⌜ standOf r (now (list .entry)) (now (out .exit)) ≡ put-at (buildOf (now (src .entry)) (look (now (plan .entry))) node 0 (now (list .entry))) 0 (now (out .entry)) ⌝ }
 {
     let Read::Whole(entry) = list::next_entry(list, 0) else {
@@ -62,39 +73,64 @@ fn build_top(plan: &[u32], node: usize, src: &[u8], list: &[u32], out: &mut [u8]
     if entry.size == list::ABSENT {
         return Built::Failed;
     }
-    walk::build_value(plan, node, src, list, entry, 0, out, 0)
+    walk::build_value(plan, needs, node, src, list, entry, 0, out, 0)
 }
 
 // The value of a well-formed plan. "No type" has no node, and the supply of no words.
-fn build_whole(plan: &[u32], src: &[u8], list: &[u32], out: &mut [u8]) -> Built
-    requires { ⌜ planFormed (now plan) ≡ true ⌝ }
+fn build_whole(plan: &[u32], needs: &[u32], src: &[u8], list: &[u32], out: &mut [u8]) -> Built
+    requires { ⌜ (planFormed (now plan) ≡ true) × (Memo (now plan) (now needs)) ⌝ }
     ensures { λ r. ⌜ standOf r (now (list .entry)) (now (out .exit)) ≡ put-at (madeBy (now (plan .entry)) (now (list .entry)) (now (src .entry))) 0 (now (out .entry)) ⌝ }
 {
     let root = plan[1] as usize;
     if root == 0 {
         return Built::Done { word: 0, at: 0 };
     }
-    build_top(plan, root, src, list, out)
+    build_top(plan, needs, root, src, list, out)
 }
 
-// Writes the value of a plan that has the supply of a list and source bytes: "Value writer: 33, 34, 32."
+// The value of a plan that is well formed: a first pass judges and measures, a second puts the bytes out.
+fn write_value(plan: &[u32], needs: &[u32], list: &[u32], src: &[u8], out: &mut [u8]) -> Answer
+    requires { ⌜ (planFormed (now plan) ≡ true) × (Memo (now plan) (now needs)) ⌝ }
+    ensures { λ r. ⌜ Puts (writeOf (now (plan .entry)) (now (list .entry)) (now (src .entry)) (length (now (out .entry)))) r (now (out .entry)) (now (out .exit)) ⌝ }
+{
+    let mut none = [0u8; 0];
+    let built = build_whole(plan, needs, src, list, &mut none);
+    let Built::Done { word, at } = built else {
+        return Answer::Refused { no: 34 };
+    };
+    if word < list.len() {
+        return Answer::Refused { no: 34 };
+    }
+    if out.len() < at {
+        return Answer::Refused { no: 32 };
+    }
+    build_whole(plan, needs, src, list, out);
+    Answer::Written { bytes: at as u32 }
+}
+
+// The same with room in the table for all the sparse objects that a plan can have: 1,024 nodes.
+fn write_many(plan: &[u32], list: &[u32], src: &[u8], out: &mut [u8]) -> Answer
+    requires { ⌜ planFormed (now plan) ≡ true ⌝ }
+    ensures { λ r. ⌜ Puts (writeOf (now (plan .entry)) (now (list .entry)) (now (src .entry)) (length (now (out .entry)))) r (now (out .entry)) (now (out .exit)) ⌝ }
+{
+    let mut table = [0u32; 2048];
+    let words = 2 * plan::needs::fill(plan, &mut table);
+    write_value(plan, &table[..words], list, src, out)
+}
+
+// Writes the value of a plan that has the supply of a list and source bytes: "Value writer: 33, 34, 32." The plan is checked once and its
+// table is made once, for both passes. A short table is cleared in no time; one that is filled to its end may have lost a pair, and then
+// a long one is made.
 pub fn write(plan: &[u32], list: &[u32], src: &[u8], out: &mut [u8]) -> Answer
     ensures { λ r. ⌜ Puts (writeOf (now (plan .entry)) (now (list .entry)) (now (src .entry)) (length (now (out .entry)))) r (now (out .entry)) (now (out .exit)) ⌝ }
 {
     if formed::plan_ok(plan) {
-        let mut none = [0u8; 0];
-        let built = build_whole(plan, src, list, &mut none);
-        let Built::Done { word, at } = built else {
-            return Answer::Refused { no: 34 };
-        };
-        if word < list.len() {
-            return Answer::Refused { no: 34 };
+        let mut table = [0u32; SHORT];
+        let words = 2 * plan::needs::fill(plan, &mut table);
+        if words < SHORT {
+            return write_value(plan, &table[..words], list, src, out);
         }
-        if out.len() < at {
-            return Answer::Refused { no: 32 };
-        }
-        build_whole(plan, src, list, out);
-        return Answer::Written { bytes: at as u32 };
+        return write_many(plan, list, src, out);
     }
     Answer::Refused { no: 33 }
 }

@@ -6,7 +6,6 @@ use crate::Opened;
 use crate::Read;
 use crate::front;
 use crate::head;
-use crate::lacking;
 use crate::list;
 use heads::sparse::Seen;
 ghost use mathlib.Core.Path.{_≡_};
@@ -18,6 +17,7 @@ ghost use Rattle.heads.specs.Heads.{gone};
 ghost use Rattle.rules.specs.Node.{refAt};
 ghost use Rattle.rules.specs.Values.{noMarks};
 ghost use Rattle.plan.specs.Plan.{look, cardsAt, At};
+ghost use Rattle.plan.specs.Memo.{Memo};
 ghost use Rattle.plan.specs.Readers.{Refers};
 ghost use Rattle.value.specs.Walk.{leafKind, leafGood, Container, Holds};
 ghost use Rattle.supply.specs.Supply.{nextOf, next};
@@ -103,9 +103,11 @@ fn build_absent(
     Built::Failed
 }
 
-// A value of a node, whose entry is at a word of the list and not absent.
+// A value of a node, whose entry is at a word of the list and not absent. `needs` says how many elements of the plan's sparse objects are
+// required.
 pub fn build_value(
     plan: &[u32],
+    needs: &[u32],
     node: usize,
     src: &[u8],
     list: &[u32],
@@ -114,7 +116,7 @@ pub fn build_value(
     out: &mut [u8],
     at: usize,
 ) -> Built
-    requires { ⌜ (At (now plan) node) × (nextOf (drop word (now list)) ≡ next (claim entry) (drop (word + 5) (now list))) × (entry .size ≡ gone → ⊥) × (word + 5 ≤ length (now list)) × (at ≤ 65551) ⌝ }
+    requires { ⌜ (At (now plan) node) × (nextOf (drop word (now list)) ≡ next (claim entry) (drop (word + 5) (now list))) × (entry .size ≡ gone → ⊥) × (word + 5 ≤ length (now list)) × (at ≤ 65551) × (Memo (now plan) (now needs)) ⌝ }
     ensures { λ r. ⌜ standOf r (now (list .entry)) (now (out .exit)) ≡ put-at (buildOf (now (src .entry)) (look (now (plan .entry))) node (entry .index) (drop word (now (list .entry)))) at (now (out .entry)) ⌝ }
 {
     if entry.node as usize != node {
@@ -131,14 +133,15 @@ pub fn build_value(
     };
     let count = entry.count as usize;
     if kind == 6 {
-        return build_sparse(plan, node, src, list, count, below, out, from);
+        return build_sparse(plan, needs, node, src, list, count, below, out, from);
     }
-    build_row(plan, node, src, list, count, first, below, out, from)
+    build_row(plan, needs, node, src, list, count, first, below, out, from)
 }
 
 // Elements in the order of their indexes.
 fn build_row(
     plan: &[u32],
+    needs: &[u32],
     node: usize,
     src: &[u8],
     list: &[u32],
@@ -148,7 +151,7 @@ fn build_row(
     out: &mut [u8],
     mut at: usize,
 ) -> Built
-    requires { ⌜ (At (now plan) node) × (Holds (look (now plan) node) (first + count)) × (first + count < 2 ^ 33) × (at ≤ 65535) ⌝ }
+    requires { ⌜ (At (now plan) node) × (Holds (look (now plan) node) (first + count)) × (first + count < 2 ^ 33) × (at ≤ 65535) × (Memo (now plan) (now needs)) ⌝ }
     ensures { λ r. ⌜ standOf r (now (list .entry)) (now (out .exit)) ≡ put-at (elementsMade rowOrder (buildOf (now (src .entry)) (look (now (plan .entry)))) (look (now (plan .entry)) node) count first (drop word (now (list .entry)))) at (now (out .entry)) ⌝ }
 {
     let end = first + count;
@@ -159,7 +162,7 @@ fn build_row(
         if entry.index as usize != i {
             return Built::Failed;
         }
-        let built = build_member(plan, node, src, list, entry, word, out, at);
+        let built = build_member(plan, needs, node, src, list, entry, word, out, at);
         let Built::Done { word: w, at: a } = built else {
             return Built::Failed;
         };
@@ -172,6 +175,7 @@ fn build_row(
 // Elements in any order, each with its index; none is given twice, and none that is required is left out.
 fn build_sparse(
     plan: &[u32],
+    needs: &[u32],
     node: usize,
     src: &[u8],
     list: &[u32],
@@ -180,11 +184,12 @@ fn build_sparse(
     out: &mut [u8],
     mut at: usize,
 ) -> Built
-    requires { ⌜ (At (now plan) node) × (getD (now plan) node 0 ≡ 6) × (at ≤ 65535) ⌝ }
+    requires { ⌜ (At (now plan) node) × (getD (now plan) node 0 ≡ 6) × (at ≤ 65535) × (Memo (now plan) (now needs)) ⌝ }
     ensures { λ r. ⌜ standOf r (now (list .entry)) (now (out .exit)) ≡ put-at (elementsMade (sparseOrder (cardsAt (now (plan .entry)) node)) (buildOf (now (src .entry)) (look (now (plan .entry)))) (look (now (plan .entry)) node) count noMarks (drop word (now (list .entry)))) at (now (out .entry)) ⌝ }
 {
     let n = plan::node::second_at(plan, node);
     let mut seen = Seen::new();
+    let mut given: usize = 0;
     for _ in 0..count {
         let Read::Whole(entry) = list::next_entry(list, word) else {
             return Built::Failed;
@@ -197,14 +202,15 @@ fn build_sparse(
         if seen.twice {
             return Built::Failed;
         }
-        let built = build_member(plan, node, src, list, entry, word, out, at);
+        given = value::node::count_given(plan, node, i, given);
+        let built = build_member(plan, needs, node, src, list, entry, word, out, at);
         let Built::Done { word: w, at: a } = built else {
             return Built::Failed;
         };
         word = w;
         at = a;
     }
-    if lacking::any_lacking(plan, node, seen) {
+    if given < plan::needs::needed_of(plan, needs, node) {
         return Built::Failed;
     }
     Built::Done { word, at }
@@ -214,6 +220,7 @@ fn build_sparse(
 // put before the data at last.
 fn build_member(
     plan: &[u32],
+    needs: &[u32],
     node: usize,
     src: &[u8],
     list: &[u32],
@@ -222,7 +229,7 @@ fn build_member(
     out: &mut [u8],
     at: usize,
 ) -> Built
-    requires { ⌜ (At (now plan) node) × (Refers (look (now plan) node) (entry .index)) × (nextOf (drop word (now list)) ≡ next (claim entry) (drop (word + 5) (now list))) × (word + 5 ≤ length (now list)) × (at ≤ 65535) ⌝ }
+    requires { ⌜ (At (now plan) node) × (Refers (look (now plan) node) (entry .index)) × (nextOf (drop word (now list)) ≡ next (claim entry) (drop (word + 5) (now list))) × (word + 5 ≤ length (now list)) × (at ≤ 65535) × (Memo (now plan) (now needs)) ⌝ }
     ensures { λ r. ⌜ standOf r (now (list .entry)) (now (out .exit)) ≡ put-at (partMade (buildOf (now (src .entry)) (look (now (plan .entry)))) (look (now (plan .entry)) node) (refAt (look (now (plan .entry)) node) (entry .index)) (claim entry) (drop (word + 5) (now (list .entry))) (drop word (now (list .entry)))) at (now (out .entry)) ⌝ }
 {
     let kind = plan::node::kind_at(plan, node);
@@ -231,7 +238,7 @@ fn build_member(
         return build_absent(plan, node, kind, child, entry, word + list::WORDS, out, at);
     }
     let from = at + head::head_size(kind);
-    let built = build_value(plan, child, src, list, entry, word, out, from);
+    let built = build_value(plan, needs, child, src, list, entry, word, out, from);
     let Built::Done { word: w, at: end } = built else {
         return Built::Failed;
     };

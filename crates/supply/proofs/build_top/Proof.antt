@@ -23,28 +23,28 @@ enum-told c = search needs
 returns : tie.Need-returns
 unfolding standOf
 returns c =
-    value-short _ _ _ (c .before .before .before .before .before .before .before .pre) _ _ _ _ (no-entry (c .before .before .before .before .before .before .before .args .list .now) 0 _ (c .before .before .next-entry .ensures) (c .enum-told .given .1))
+    value-short _ _ _ (c .before .before .before .before .before .before .before .before .pre .0) _ _ _ _ (no-entry (c .before .before .before .before .before .before .before .before .args .list .now) 0 _ (c .before .before .next-entry .ensures) (c .enum-told .given .1))
 
 returns-2 : tie.Need-returns-2
 unfolding standOf
 returns-2 c =
-    value-index _ _ _ (c .before .before .before .before .before .before .before .before .before .before .pre) _ _ _ _ _ _ (entry-at (c .before .before .before .before .before .before .before .before .before .before .args .list .now) 0 _ (c .before .before .before .before .before .next-entry .ensures) _ (c .before .before .before .entry .given .1)) (c .if1 .taken)
+    value-index _ _ _ (c .before .before .before .before .before .before .before .before .before .before .before .pre .0) _ _ _ _ _ _ (entry-at (c .before .before .before .before .before .before .before .before .before .before .before .args .list .now) 0 _ (c .before .before .before .before .before .next-entry .ensures) _ (c .before .before .before .entry .given .1)) (c .if1 .taken)
 
 returns-3 : tie.Need-returns-3
 unfolding standOf
 returns-3 c =
-    value-absent _ _ _ (c .before .before .before .before .before .before .before .before .before .before .before .before .pre) _ _ _ _ _ _ (entry-at (c .before .before .before .before .before .before .before .before .before .before .before .before .args .list .now) 0 _ (c .before .before .before .before .before .before .before .next-entry .ensures) _ (c .before .before .before .before .before .entry .given .1)) (c .if2 .taken)
+    value-absent _ _ _ (c .before .before .before .before .before .before .before .before .before .before .before .before .before .pre .0) _ _ _ _ _ _ (entry-at (c .before .before .before .before .before .before .before .before .before .before .before .before .before .args .list .now) 0 _ (c .before .before .before .before .before .before .before .next-entry .ensures) _ (c .before .before .before .before .before .entry .given .1)) (c .if2 .taken)
 
 build-value-requires : tie.Need-build-value-requires
 build-value-requires c κs =
-    (c .before .before .before .before .before .before .before .before .before .before .before .before .before .pre, entry-at (c .before .before .before .before .before .before .before .before .before .before .before .before .before .args .list .now) 0 _ (c .before .before .before .before .before .before .before .before .next-entry .ensures) _ (c .before .before .before .before .before .before .entry .given .1), c .before .if2 .left, entry-inside (c .before .before .before .before .before .before .before .before .before .before .before .before .before .args .list .now) 0 _ (c .before .before .before .before .before .before .before .before .next-entry .ensures) _ (c .before .before .before .before .before .before .entry .given .1), omega arith)
+    (c .before .before .before .before .before .before .before .before .before .before .before .before .before .before .pre .0, entry-at (c .before .before .before .before .before .before .before .before .before .before .before .before .before .before .args .list .now) 0 _ (c .before .before .before .before .before .before .before .before .next-entry .ensures) _ (c .before .before .before .before .before .before .entry .given .1), c .before .if2 .left, entry-inside (c .before .before .before .before .before .before .before .before .before .before .before .before .before .before .args .list .now) 0 _ (c .before .before .before .before .before .before .before .before .next-entry .ensures) _ (c .before .before .before .before .before .before .entry .given .1), omega arith, c .before .before .before .before .before .before .before .before .before .before .before .before .before .before .pre .1)
 
 same-length : tie.Need-same-length
 same-length c = search needs
 
 returns-4 : tie.Need-returns-4
 returns-4 c =
-    c .before .before .build-value .ensures ∙ ap (λ (i : ℕ). put-at (buildOf (c .before .before .before .before .before .before .before .before .before .before .before .before .before .before .before .before .args .src .now) (look (c .before .before .before .before .before .before .before .before .before .before .before .before .before .before .before .before .args .plan .now)) (c .before .before .before .before .before .before .before .before .before .before .before .before .before .before .before .before .args .node) i (c .before .before .before .before .before .before .before .before .before .before .before .before .before .before .before .before .args .list .now)) 0 (c .before .before .before .before .before .before .before .before .before .before .before .before .before .before .before .before .args .out .now)) (c .before .before .before .before .before .before .if1 .left)
+    c .before .before .build-value .ensures ∙ ap (λ (i : ℕ). put-at (buildOf (c .before .before .before .before .before .before .before .before .before .before .before .before .before .before .before .before .before .args .src .now) (look (c .before .before .before .before .before .before .before .before .before .before .before .before .before .before .before .before .before .args .plan .now)) (c .before .before .before .before .before .before .before .before .before .before .before .before .before .before .before .before .before .args .node) i (c .before .before .before .before .before .before .before .before .before .before .before .before .before .before .before .before .before .args .list .now)) 0 (c .before .before .before .before .before .before .before .before .before .before .before .before .before .before .before .before .before .args .out .now)) (c .before .before .before .before .before .before .if1 .left)
 
 pub build-top-spec : {M : Type 1} → statement M
 build-top-spec =

@@ -1,9 +1,11 @@
--- `supply::write` meets its contract, by its tests in their order. Assumes nothing.
+-- `supply::write` meets its contract: the plan's own test, and then both passes, with one table or the other. Assumes nothing.
 use mathlib.Core.Path.{sym, _∙_}
 use native.Mathlib.Omega.{arith}
-use lib.ListN.{length-drop}
-use Rattle.supply.proofs.Stands.{failed-is, done-is}
-use Rattle.supply.proofs.Writes.{puts-unformed, puts-broken, puts-left, puts-full, puts-whole, whole-small}
+use Prim.Native.Nat.{ℕ}
+use lib.ListN.{length-take}
+use Rattle.plan.proofs.Memos.{pairs-memo}
+use Rattle.run.proofs.Runs.{few-words}
+use Rattle.supply.proofs.Writes.{puts-unformed}
 use borrow.Author.Needs.{needs}
 use Rattle.supply.proofs.write.Statement.{statement}
 use Rattle.supply.proofs.write.Tie as tie
@@ -11,62 +13,59 @@ use Rattle.supply.proofs.write.Tie as tie
 plan-ok-requires : tie.Need-plan-ok-requires
 plan-ok-requires c κs = search needs
 
-slice-aggregate-build-whole : tie.Need-slice-aggregate-build-whole
-slice-aggregate-build-whole c = search needs
+slice-aggregate-fill : tie.Need-slice-aggregate-fill
+slice-aggregate-fill c = search needs
 
-build-whole-requires : tie.Need-build-whole-requires
-build-whole-requires c κs = sym (c .before .before .plan-ok .ensures) ∙ c .before .if1 .taken
+fill-requires : tie.Need-fill-requires
+fill-requires c κs =
+    few-words _ (sym (c .before .before .plan-ok .ensures) ∙ c .before .if1 .taken) (λ (j : ℕ). c .before .before .before .before .before .before .shared-slice-known .given j .fits)
 
-enum-known-built : tie.Need-enum-known-built
-enum-known-built c = search needs
+mul-words : tie.Need-mul-words
+mul-words c = search needs
 
-enum-told : tie.Need-enum-told
-enum-told c = search needs
+array-share-prefix-table : tie.Need-array-share-prefix-table
+array-share-prefix-table c = search needs
 
-returns : tie.Need-returns
-returns c =
-    puts-broken _ _ _ _ (sym (c .before .before .before .before .before .before .plan-ok .ensures) ∙ c .before .before .before .before .before .if1 .taken) _ (failed-is _ _ _ _ (c .before .before .before .build-whole .ensures) (c .enum-told .given .1))
+slice-aggregate-write-value : tie.Need-slice-aggregate-write-value
+slice-aggregate-write-value c = simp length-take (omega (arith, c .before .before .before .fill .ensures .room))
 
-returns-2 : tie.Need-returns-2
-returns-2 c =
-    puts-left _ _ _ _ (sym (c .before .before .before .before .before .before .before .before .plan-ok .ensures) ∙ c .before .before .before .before .before .before .before .if1 .taken) _ _ _ _ (done-is _ _ _ _ (c .before .before .before .before .before .build-whole .ensures) _ _ (c .before .before .built .given .1)) (simp length-drop (omega (arith, c .if2 .taken)))
-
-returns-3 : tie.Need-returns-3
-returns-3 c =
-    puts-full _ _ _ _ (sym (c .before .before .before .before .before .before .before .before .before .plan-ok .ensures) ∙ c .before .before .before .before .before .before .before .before .if1 .taken) _ _ _ _ (done-is _ _ _ _ (c .before .before .before .before .before .before .build-whole .ensures) _ _ (c .before .before .before .built .given .1)) (simp length-drop (omega (arith, c .before .if2 .left))) (c .if3 .taken)
-
-build-whole-requires-2 : tie.Need-build-whole-requires-2
-build-whole-requires-2 c κs =
-    sym (c .before .before .before .before .before .before .before .before .before .before .plan-ok .ensures) ∙ c .before .before .before .before .before .before .before .before .before .if1 .taken
-
-cast-t17 : tie.Need-cast-t17
-cast-t17 c =
-    omega (arith, whole-small _ _ _ (c .before .before .before .before .before .before .before .before .before .before .before .before .before .before .before .before .before .before .args .out .now) (sym (c .before .before .before .before .before .before .before .before .before .before .before .before .before .plan-ok .ensures) ∙ c .before .before .before .before .before .before .before .before .before .before .before .before .if1 .taken) _ _ _ _ (done-is _ _ _ _ (c .before .before .before .before .before .before .before .before .before .before .build-whole .ensures) _ _ (c .before .before .before .before .before .before .before .built .given .1)))
+write-value-requires : tie.Need-write-value-requires
+write-value-requires c κs =
+    (sym (c .before .before .before .before .before .before .before .plan-ok .ensures) ∙ c .before .before .before .before .before .before .if1 .taken, pairs-memo _ _ _ (c .before .before .before .before .fill .ensures))
 
 same-length : tie.Need-same-length
 same-length c = search needs
 
-returns-4 : tie.Need-returns-4
-returns-4 c =
-    puts-whole _ _ _ _ (sym (c .before .before .before .before .before .before .before .before .before .before .before .before .before .plan-ok .ensures) ∙ c .before .before .before .before .before .before .before .before .before .before .before .before .if1 .taken) _ _ _ _ (done-is _ _ _ _ (c .before .before .before .before .before .before .before .before .before .before .build-whole .ensures) _ _ (c .before .before .before .before .before .before .before .built .given .1)) (simp length-drop (omega (arith, c .before .before .before .before .before .if2 .left))) (c .before .before .before .before .if3 .left) _ _ (c .before .before .build-whole2 .ensures)
+returns : tie.Need-returns
+returns c = search needs
 
-returns-5 : tie.Need-returns-5
-returns-5 c = puts-unformed _ _ _ _ (sym (c .before .plan-ok .ensures) ∙ c .if1 .left)
+write-many-requires : tie.Need-write-many-requires
+write-many-requires c κs =
+    sym (c .before .before .before .before .before .before .plan-ok .ensures) ∙ c .before .before .before .before .before .if1 .taken
+
+same-length-2 : tie.Need-same-length-2
+same-length-2 c = search needs
+
+returns-2 : tie.Need-returns-2
+returns-2 c = search needs
+
+returns-3 : tie.Need-returns-3
+returns-3 c = puts-unformed _ _ _ _ (sym (c .before .plan-ok .ensures) ∙ c .if1 .left)
 
 pub write-spec : {M : Type 1} → statement M
 write-spec =
     tie.close
     (tie.spec
     plan-ok-requires
-    slice-aggregate-build-whole
-    build-whole-requires
-    enum-known-built
-    enum-told
-    returns
-    returns-2
-    returns-3
-    build-whole-requires-2
-    cast-t17
+    slice-aggregate-fill
+    fill-requires
+    mul-words
+    array-share-prefix-table
+    slice-aggregate-write-value
+    write-value-requires
     same-length
-    returns-4
-    returns-5)
+    returns
+    write-many-requires
+    same-length-2
+    returns-2
+    returns-3)
