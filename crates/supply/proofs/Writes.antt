@@ -5,8 +5,8 @@ use mathlib.Core.List.{List, [], _∷_, _++_}
 use Prim.Native.Nat.{ℕ, _+_, _^_, _<_, _≤_}
 use native.Mathlib.Omega.{arith}
 use native.Mathlib.Nat.{zero-add}
-use lib.ListN.{length, drop, getD}
-use lib.Seq.{sets, sets-eq}
+use lib.ListN.{length, take, drop, getD}
+use lib.Seq.{sets, sets-eq, length-sets, take-at}
 use borrow.Author.Tests.{lt-ltb, le-ltb}
 use Rattle.wire.specs.Choice.{pick}
 use Rattle.plan.specs.Plan.{look, noType, planFormed, At}
@@ -111,15 +111,27 @@ module _ (p ws src out : List ℕ) where
             let l : length out < length (s .body) = omega (arith, size) in
             refused-with 32 (formed-is ∙ rw (supplied-is, lt-ltb (length out) (length (s .body)) l))
 
-        pub puts-whole : at ≤ length out → (r : Built) (out′ : List ℕ) → standOf r ws out′ ≡ put-at (madeBy p ws src) 0 out
-            → Puts (writeOf p ws src (length out)) (Written at) out out′
-        unfolding roomed pick answerOf outputAfter
-        puts-whole h r out′ e =
-            let l : length (s .body) ≤ length out = omega (arith, size) in
-            let o : out′ ≡ sets out 0 (s .body) =
-            output-is r ws (s .body) us out (0 + length (s .body)) out′ (e ∙ rw (s .is) (put-small (s .body) us 0 out (omega (arith, size, s .small)))) in
-            rw (formed-is, supplied-is, le-ltb (length out) (length (s .body)) l)
-            (record {
-              answer = ap Written (sym size);
-              output = o ∙ sets-eq (s .body) out 0 (omega arith) ∙ ap (λ (n : ℕ). s .body ++ drop n out) (zero-add (length (s .body)));
-            })
+        module _ (h : at ≤ length out) (out′ : List ℕ) where
+          puts-sets : out′ ≡ sets out 0 (s .body) → Puts (writeOf p ws src (length out)) (Written at) out out′
+          unfolding roomed pick answerOf outputAfter
+          puts-sets o =
+              let l : length (s .body) ≤ length out = omega (arith, size) in
+              rw (formed-is, supplied-is, le-ltb (length out) (length (s .body)) l)
+              (record {
+                answer = ap Written (sym size);
+                output = o ∙ sets-eq (s .body) out 0 (omega arith) ∙ ap (λ (n : ℕ). s .body ++ drop n out) (zero-add (length (s .body)));
+              })
+
+          -- put out by a second pass
+          pub puts-whole : (r : Built) → standOf r ws out′ ≡ put-at (madeBy p ws src) 0 out → Puts (writeOf p ws src (length out)) (Written at) out out′
+          puts-whole r e =
+              puts-sets (output-is r ws (s .body) us out (0 + length (s .body)) out′ (e ∙ rw (s .is) (put-small (s .body) us 0 out (omega (arith, size, s .small)))))
+
+          -- copied from where the first pass put it
+          copied : at ≤ length none′ → take at none′ ≡ s .body
+          copied l =
+              let n : length (s .body) ≤ length none = omega (arith, size, ap length (s .output), length-sets none 0 (s .body)) in
+              ap (take at) (s .output ∙ sets-eq (s .body) none 0 (omega arith)) ∙ take-at (s .body) (drop (0 + length (s .body)) none) at size
+
+          pub puts-copied : at ≤ length none′ → out′ ≡ sets out 0 (take at none′) → Puts (writeOf p ws src (length out)) (Written at) out out′
+          puts-copied l o = puts-sets (o ∙ ap (sets out 0) (copied l))

@@ -1,5 +1,5 @@
 // Writes a value from a supply, which is a list and source bytes: "The writer puts out the accepted value that has the supply and whose
-// containers' reserved fields are zero." A first pass judges and measures, a second puts the bytes out.
+// containers' reserved fields are zero." The bytes go into scratch room first, since a refusal may change no byte of the output.
 pub mod front;
 pub mod head;
 pub mod list;
@@ -88,13 +88,20 @@ fn build_whole(plan: &[u32], needs: &[u32], src: &[u8], list: &[u32], out: &mut 
     build_top(plan, needs, root, src, list, out)
 }
 
-// The value of a plan that is well formed: a first pass judges and measures, a second puts the bytes out.
-fn write_value(plan: &[u32], needs: &[u32], list: &[u32], src: &[u8], out: &mut [u8]) -> Answer
+// The value of a plan that is well formed. One pass judges, measures and puts the bytes into scratch room, from where they go out. A value
+// that is larger than the scratch room is put out by a second pass.
+fn write_value(
+    plan: &[u32],
+    needs: &[u32],
+    list: &[u32],
+    src: &[u8],
+    scratch: &mut [u8],
+    out: &mut [u8],
+) -> Answer
     requires { ⌜ (planFormed (now plan) ≡ true) × (Memo (now plan) (now needs)) ⌝ }
     ensures { λ r. ⌜ Puts (writeOf (now (plan .entry)) (now (list .entry)) (now (src .entry)) (length (now (out .entry)))) r (now (out .entry)) (now (out .exit)) ⌝ }
 {
-    let mut none = [0u8; 0];
-    let built = build_whole(plan, needs, src, list, &mut none);
+    let built = build_whole(plan, needs, src, list, scratch);
     let Built::Done { word, at } = built else {
         return Answer::Refused { no: 34 };
     };
@@ -104,8 +111,56 @@ fn write_value(plan: &[u32], needs: &[u32], list: &[u32], src: &[u8], out: &mut 
     if out.len() < at {
         return Answer::Refused { no: 32 };
     }
-    build_whole(plan, needs, src, list, out);
+    if scratch.len() < at {
+        build_whole(plan, needs, src, list, out);
+        return Answer::Written { bytes: at as u32 };
+    }
+    wire::copy::put_bytes(&scratch[..at], out, 0);
     Answer::Written { bytes: at as u32 }
+}
+
+// The same with scratch room of three sizes, by the sizes of the list and of the source: to clear much of it would cost a small value more
+// than the value itself.
+fn write_small(plan: &[u32], needs: &[u32], list: &[u32], src: &[u8], out: &mut [u8]) -> Answer
+    requires { ⌜ (planFormed (now plan) ≡ true) × (Memo (now plan) (now needs)) ⌝ }
+    ensures { λ r. ⌜ Puts (writeOf (now (plan .entry)) (now (list .entry)) (now (src .entry)) (length (now (out .entry)))) r (now (out .entry)) (now (out .exit)) ⌝ }
+{
+    let mut scratch = [0u8; 4096];
+    write_value(plan, needs, list, src, &mut scratch, out)
+}
+
+fn write_middle(plan: &[u32], needs: &[u32], list: &[u32], src: &[u8], out: &mut [u8]) -> Answer
+    requires { ⌜ (planFormed (now plan) ≡ true) × (Memo (now plan) (now needs)) ⌝ }
+    ensures { λ r. ⌜ Puts (writeOf (now (plan .entry)) (now (list .entry)) (now (src .entry)) (length (now (out .entry)))) r (now (out .entry)) (now (out .exit)) ⌝ }
+{
+    let mut scratch = [0u8; 16384];
+    write_value(plan, needs, list, src, &mut scratch, out)
+}
+
+fn write_large(plan: &[u32], needs: &[u32], list: &[u32], src: &[u8], out: &mut [u8]) -> Answer
+    requires { ⌜ (planFormed (now plan) ≡ true) × (Memo (now plan) (now needs)) ⌝ }
+    ensures { λ r. ⌜ Puts (writeOf (now (plan .entry)) (now (list .entry)) (now (src .entry)) (length (now (out .entry)))) r (now (out .entry)) (now (out .exit)) ⌝ }
+{
+    let mut scratch = [0u8; front::LARGEST];
+    write_value(plan, needs, list, src, &mut scratch, out)
+}
+
+// A head takes 4 bytes for each word of its entry at the most, but a container's own, and most values use no byte of the source twice.
+fn write_sized(plan: &[u32], needs: &[u32], list: &[u32], src: &[u8], out: &mut [u8]) -> Answer
+    requires { ⌜ (planFormed (now plan) ≡ true) × (Memo (now plan) (now needs)) ⌝ }
+    ensures { λ r. ⌜ Puts (writeOf (now (plan .entry)) (now (list .entry)) (now (src .entry)) (length (now (out .entry)))) r (now (out .entry)) (now (out .exit)) ⌝ }
+{
+    if list.len() <= 512 {
+        if src.len() <= 2048 {
+            return write_small(plan, needs, list, src, out);
+        }
+    }
+    if list.len() <= 2048 {
+        if src.len() <= 8192 {
+            return write_middle(plan, needs, list, src, out);
+        }
+    }
+    write_large(plan, needs, list, src, out)
 }
 
 // The same with room in the table for all the sparse objects that a plan can have: 1,024 nodes.
@@ -115,11 +170,11 @@ fn write_many(plan: &[u32], list: &[u32], src: &[u8], out: &mut [u8]) -> Answer
 {
     let mut table = [0u32; 2048];
     let words = 2 * plan::needs::fill(plan, &mut table);
-    write_value(plan, &table[..words], list, src, out)
+    write_sized(plan, &table[..words], list, src, out)
 }
 
 // Writes the value of a plan that has the supply of a list and source bytes: "Value writer: 33, 34, 32." The plan is checked once and its
-// table is made once, for both passes. A short table is cleared in no time; one that is filled to its end may have lost a pair, and then
+// table is made once. A short table is cleared in no time; one that is filled to its end may have lost a pair, and then
 // a long one is made.
 pub fn write(plan: &[u32], list: &[u32], src: &[u8], out: &mut [u8]) -> Answer
     ensures { λ r. ⌜ Puts (writeOf (now (plan .entry)) (now (list .entry)) (now (src .entry)) (length (now (out .entry)))) r (now (out .entry)) (now (out .exit)) ⌝ }
@@ -128,7 +183,7 @@ pub fn write(plan: &[u32], list: &[u32], src: &[u8], out: &mut [u8]) -> Answer
         let mut table = [0u32; SHORT];
         let words = 2 * plan::needs::fill(plan, &mut table);
         if words < SHORT {
-            return write_value(plan, &table[..words], list, src, out);
+            return write_sized(plan, &table[..words], list, src, out);
         }
         return write_many(plan, list, src, out);
     }

@@ -1,4 +1,4 @@
--- `supply::write` meets its contract: the plan's own test, and then both passes, with one table or the other. Assumes nothing.
+-- `supply::write` meets its contract: the plan's own test, and then the value, with one table or the other. Assumes nothing.
 use mathlib.Core.Path.{sym, _∙_}
 use native.Mathlib.Omega.{arith}
 use Prim.Native.Nat.{ℕ}
@@ -26,11 +26,11 @@ mul-words c = search needs
 array-share-prefix-table : tie.Need-array-share-prefix-table
 array-share-prefix-table c = search needs
 
-slice-aggregate-write-value : tie.Need-slice-aggregate-write-value
-slice-aggregate-write-value c = simp length-take (omega (arith, c .before .before .before .fill .ensures .room))
+slice-aggregate-write-sized : tie.Need-slice-aggregate-write-sized
+slice-aggregate-write-sized c = simp length-take (omega (arith, c .before .before .before .fill .ensures .room))
 
-write-value-requires : tie.Need-write-value-requires
-write-value-requires c κs =
+write-sized-requires : tie.Need-write-sized-requires
+write-sized-requires c κs =
     (sym (c .before .before .before .before .before .before .before .plan-ok .ensures) ∙ c .before .before .before .before .before .before .if1 .taken, pairs-memo _ _ _ (c .before .before .before .before .fill .ensures))
 
 same-length : tie.Need-same-length
@@ -61,8 +61,8 @@ write-spec =
     fill-requires
     mul-words
     array-share-prefix-table
-    slice-aggregate-write-value
-    write-value-requires
+    slice-aggregate-write-sized
+    write-sized-requires
     same-length
     returns
     write-many-requires

@@ -21,11 +21,11 @@ mul-words c = search needs
 array-share-prefix-table : tie.Need-array-share-prefix-table
 array-share-prefix-table c = search needs
 
-slice-aggregate-write-value : tie.Need-slice-aggregate-write-value
-slice-aggregate-write-value c = simp length-take (omega (arith, c .before .before .fill .ensures .room))
+slice-aggregate-write-sized : tie.Need-slice-aggregate-write-sized
+slice-aggregate-write-sized c = simp length-take (omega (arith, c .before .before .fill .ensures .room))
 
-write-value-requires : tie.Need-write-value-requires
-write-value-requires c κs =
+write-sized-requires : tie.Need-write-sized-requires
+write-sized-requires c κs =
     (c .before .before .before .before .before .before .before .before .before .pre, pairs-memo _ _ _ (c .before .before .before .fill .ensures))
 
 same-length : tie.Need-same-length
@@ -42,7 +42,7 @@ write-many-spec =
     fill-requires
     mul-words
     array-share-prefix-table
-    slice-aggregate-write-value
-    write-value-requires
+    slice-aggregate-write-sized
+    write-sized-requires
     same-length
     returns)
