@@ -77,15 +77,21 @@ module _ (p : List ℕ) (k kind : ℕ) (c : Container p k kind) (i n : ℕ) wher
   head-length =
       by-kind p k kind c (λ m v. length (headBytes v i n) ≡ headSize m) (length-bytes 4 n) envelope reserved reserved (pair i n) (length-bytes 4 n)
 
-pub size-few : (kind : ℕ) → headSize kind ≤ 16
+size-between : (kind : ℕ) → (4 ≤ headSize kind) × (headSize kind ≤ 16)
 unfolding headSize pick
-size-few kind = go (eqb kind 3) (eqb kind 2) (eqb kind 7)
+size-between kind = go (eqb kind 3) (eqb kind 2) (eqb kind 7)
   where
-    go : (a b c : Bool) → pick a 16 (pick b 4 (pick c 4 8)) ≤ 16
-    go true b c = omega arith
-    go false true c = omega arith
-    go false false true = omega arith
-    go false false false = omega arith
+    go : (a b c : Bool) → (4 ≤ pick a 16 (pick b 4 (pick c 4 8))) × (pick a 16 (pick b 4 (pick c 4 8)) ≤ 16)
+    go true b c = (omega arith, omega arith)
+    go false true c = (omega arith, omega arith)
+    go false false true = (omega arith, omega arith)
+    go false false false = (omega arith, omega arith)
+
+pub size-some : (kind : ℕ) → 4 ≤ headSize kind
+size-some kind = size-between kind .0
+
+pub size-few : (kind : ℕ) → headSize kind ≤ 16
+size-few kind = size-between kind .1
 
 -- ---- an element that may be absent
 

@@ -9,4 +9,5 @@ pub mod Enough
 pub mod Parts
 pub mod Elements
 pub mod Values
+pub mod Leaves
 pub mod Writes

@@ -2,6 +2,7 @@
 // containers' reserved fields are zero." The bytes go into scratch room first, since a refusal may change no byte of the output.
 pub mod front;
 pub mod head;
+pub mod leaf;
 pub mod list;
 pub mod walk;
 
@@ -40,6 +41,13 @@ pub enum Opened {
 pub enum Built {
     Failed,
     Done { word: usize, at: usize },
+}
+
+// Where a row of elements stands: the index of its next element, the next word of the list and the next byte of the output.
+pub struct Place {
+    pub index: usize,
+    pub word: usize,
+    pub at: usize,
 }
 
 // What writing a value gives: refused, with the number; or the bytes of the value.

@@ -6,6 +6,7 @@ use crate::Opened;
 use crate::Read;
 use crate::front;
 use crate::head;
+use crate::leaf;
 use crate::list;
 use heads::sparse::Seen;
 ghost use mathlib.Core.Path.{_≡_};
@@ -138,7 +139,7 @@ pub fn build_value(
     build_row(plan, needs, node, src, list, count, first, below, out, from)
 }
 
-// Elements in the order of their indexes.
+// Elements in the order of their indexes: leaves by the loop that is theirs, and between them the others.
 fn build_row(
     plan: &[u32],
     needs: &[u32],
@@ -154,8 +155,17 @@ fn build_row(
     requires { ⌜ (At (now plan) node) × (Holds (look (now plan) node) (first + count)) × (first + count < 2 ^ 33) × (at ≤ 65535) × (Memo (now plan) (now needs)) ⌝ }
     ensures { λ r. ⌜ standOf r (now (list .entry)) (now (out .exit)) ≡ put-at (elementsMade rowOrder (buildOf (now (src .entry)) (look (now (plan .entry)))) (look (now (plan .entry)) node) count first (drop word (now (list .entry)))) at (now (out .entry)) ⌝ }
 {
+    let kind = plan::node::kind_at(plan, node);
     let end = first + count;
-    for i in first..end {
+    let mut i = first;
+    while i < end {
+        let place = leaf::put_leaves(plan, node, kind, src, list, i, end, word, out, at);
+        i = place.index;
+        word = place.word;
+        at = place.at;
+        if end <= i {
+            return Built::Done { word, at };
+        }
         let Read::Whole(entry) = list::next_entry(list, word) else {
             return Built::Failed;
         };
@@ -168,6 +178,7 @@ fn build_row(
         };
         word = w;
         at = a;
+        i += 1;
     }
     Built::Done { word, at }
 }

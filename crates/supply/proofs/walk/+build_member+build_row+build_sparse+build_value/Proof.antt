@@ -46,6 +46,7 @@ use Rattle.plan.proofs.node.second_at.Reads as second-at-reads
 use Rattle.supply.proofs.front.put_front.Reads as put-front-reads
 use Rattle.supply.proofs.head.head_size.Reads as head-size-reads
 use Rattle.supply.proofs.head.put_head.Reads as put-head-reads
+use Rattle.supply.proofs.leaf.put_leaves.Reads as put-leaves-reads
 use Rattle.supply.proofs.list.next_entry.Reads as next-entry-reads
 use Rattle.supply.proofs.walk.build_absent.Reads as build-absent-reads
 use Rattle.supply.proofs.walk.build_leaf.Reads as build-leaf-reads
@@ -105,509 +106,197 @@ abbrev build-value-below : ℕ → In 5 build-value-kinds.ps
 build-value-below t =
     and 5 build-value-kinds.ps (falls 5 build-value-kinds.ps _<_ μ-build-value t) build-value.Pre
 
-build-member-kind-at-requires : (t : ℕ) → build-member-lts.Need-kind-at-requires (
-  kind-at-reads.Asked,
-  kind-at-reads.Learnt,
-  ref-of-reads.Asked,
-  ref-of-reads.Learnt,
-  build-absent-reads.Asked,
-  build-absent-reads.Learnt,
-  head-size-reads.Asked,
-  head-size-reads.Learnt,
-  build-value-below t,
-  build-value.Post,
-  put-head-reads.Asked,
-  put-head-reads.Learnt,
-) (build-member-at t) build-member.Post
+abbrev build-member-claims : ℕ → build-member-lts.Claims
+build-member-claims t =
+    (kind-at-reads.Asked, kind-at-reads.Learnt, ref-of-reads.Asked, ref-of-reads.Learnt, build-absent-reads.Asked, build-absent-reads.Learnt, head-size-reads.Asked, head-size-reads.Learnt, build-value-below t, build-value.Post, put-head-reads.Asked, put-head-reads.Learnt)
+
+abbrev build-row-claims : ℕ → build-row-lts.Claims
+build-row-claims t =
+    (kind-at-reads.Asked, kind-at-reads.Learnt, put-leaves-reads.Asked, put-leaves-reads.Learnt, next-entry-reads.Asked, next-entry-reads.Learnt, build-member-below t, build-member.Post)
+
+abbrev build-sparse-claims : ℕ → build-sparse-lts.Claims
+build-sparse-claims t =
+    (second-at-reads.Asked, second-at-reads.Learnt, new-reads.Asked, new-reads.Learnt, next-entry-reads.Asked, next-entry-reads.Learnt, mark-reads.Asked, mark-reads.Learnt, count-given-reads.Asked, count-given-reads.Learnt, build-member-below t, build-member.Post, needed-of-reads.Asked, needed-of-reads.Learnt)
+
+abbrev build-value-claims : ℕ → build-value-lts.Claims
+build-value-claims t =
+    (kind-at-reads.Asked, kind-at-reads.Learnt, is-leaf-reads.Asked, is-leaf-reads.Learnt, build-leaf-reads.Asked, build-leaf-reads.Learnt, put-front-reads.Asked, put-front-reads.Learnt, build-sparse-below t, build-sparse.Post, build-row-below t, build-row.Post)
+
+build-member-kind-at-requires : (t : ℕ) → build-member-lts.Need-kind-at-requires (build-member-claims t) (build-member-at t) build-member.Post
 build-member-kind-at-requires t c κs = c .before .before .before .before .before .pre .1 .0
 
-build-member-cast-ref-of : (t : ℕ) → build-member-lts.Need-cast-ref-of (
-  kind-at-reads.Asked,
-  kind-at-reads.Learnt,
-  ref-of-reads.Asked,
-  ref-of-reads.Learnt,
-  build-absent-reads.Asked,
-  build-absent-reads.Learnt,
-  head-size-reads.Asked,
-  head-size-reads.Learnt,
-  build-value-below t,
-  build-value.Post,
-  put-head-reads.Asked,
-  put-head-reads.Learnt,
-) (build-member-at t) build-member.Post
+build-member-cast-ref-of : (t : ℕ) → build-member-lts.Need-cast-ref-of (build-member-claims t) (build-member-at t) build-member.Post
 build-member-cast-ref-of t c = search needs
 
-build-member-ref-of-requires : (t : ℕ) → build-member-lts.Need-ref-of-requires (
-  kind-at-reads.Asked,
-  kind-at-reads.Learnt,
-  ref-of-reads.Asked,
-  ref-of-reads.Learnt,
-  build-absent-reads.Asked,
-  build-absent-reads.Learnt,
-  head-size-reads.Asked,
-  head-size-reads.Learnt,
-  build-value-below t,
-  build-value.Post,
-  put-head-reads.Asked,
-  put-head-reads.Learnt,
-) (build-member-at t) build-member.Post
+build-member-ref-of-requires : (t : ℕ) → build-member-lts.Need-ref-of-requires (build-member-claims t) (build-member-at t) build-member.Post
 build-member-ref-of-requires t c κs =
     (c .before .before .before .before .before .before .before .pre .1 .0, c .before .before .before .before .before .before .before .pre .1 .1)
 
-build-member-add-build-absent : (t : ℕ) → build-member-lts.Need-add-build-absent (
-  kind-at-reads.Asked,
-  kind-at-reads.Learnt,
-  ref-of-reads.Asked,
-  ref-of-reads.Learnt,
-  build-absent-reads.Asked,
-  build-absent-reads.Learnt,
-  head-size-reads.Asked,
-  head-size-reads.Learnt,
-  build-value-below t,
-  build-value.Post,
-  put-head-reads.Asked,
-  put-head-reads.Learnt,
-) (build-member-at t) build-member.Post
+build-member-add-build-absent : (t : ℕ) → build-member-lts.Need-add-build-absent (build-member-claims t) (build-member-at t) build-member.Post
 build-member-add-build-absent t c =
     omega (arith, c .before .before .before .before .before .before .before .before .before .before .pre .1 .3)
 
-build-member-build-absent-requires : (t : ℕ) → build-member-lts.Need-build-absent-requires (
-  kind-at-reads.Asked,
-  kind-at-reads.Learnt,
-  ref-of-reads.Asked,
-  ref-of-reads.Learnt,
-  build-absent-reads.Asked,
-  build-absent-reads.Learnt,
-  head-size-reads.Asked,
-  head-size-reads.Learnt,
-  build-value-below t,
-  build-value.Post,
-  put-head-reads.Asked,
-  put-head-reads.Learnt,
-) (build-member-at t) build-member.Post
+build-member-build-absent-requires : (t : ℕ) → build-member-lts.Need-build-absent-requires (build-member-claims t) (build-member-at t) build-member.Post
 build-member-build-absent-requires t c κs =
     (c .before .before .before .before .before .before .before .before .before .before .before .pre .1 .0, refers-inner _ _ _ _ (c .before .before .before .before .before .kind-at .ensures) (c .before .before .before .before .before .before .before .before .before .before .before .pre .1 .1), c .before .before .before .before .before .before .before .before .before .before .before .pre .1 .1, c .before .before .before .before .before .before .before .before .before .before .before .pre .1 .4)
 
-build-member-same-length : (t : ℕ) → build-member-lts.Need-same-length (
-  kind-at-reads.Asked,
-  kind-at-reads.Learnt,
-  ref-of-reads.Asked,
-  ref-of-reads.Learnt,
-  build-absent-reads.Asked,
-  build-absent-reads.Learnt,
-  head-size-reads.Asked,
-  head-size-reads.Learnt,
-  build-value-below t,
-  build-value.Post,
-  put-head-reads.Asked,
-  put-head-reads.Learnt,
-) (build-member-at t) build-member.Post
+build-member-same-length : (t : ℕ) → build-member-lts.Need-same-length (build-member-claims t) (build-member-at t) build-member.Post
 build-member-same-length t c = c .before .before .build-absent .kept .1 .1 .1 .1 .1 .1 .0
 
-build-member-returns : (t : ℕ) → build-member-lts.Need-returns (
-  kind-at-reads.Asked,
-  kind-at-reads.Learnt,
-  ref-of-reads.Asked,
-  ref-of-reads.Learnt,
-  build-absent-reads.Asked,
-  build-absent-reads.Learnt,
-  head-size-reads.Asked,
-  head-size-reads.Learnt,
-  build-value-below t,
-  build-value.Post,
-  put-head-reads.Asked,
-  put-head-reads.Learnt,
-) (build-member-at t) build-member.Post
+build-member-returns : (t : ℕ) → build-member-lts.Need-returns (build-member-claims t) (build-member-at t) build-member.Post
 build-member-returns t c =
     c .before .before .build-absent .ensures _ ∙ member-absent _ _ _ (refers-inner _ _ _ _ (c .before .before .before .before .before .before .before .before .kind-at .ensures) (c .before .before .before .before .before .before .before .before .before .before .before .before .before .before .pre .1 .1)) _ _ _ _ _ (c .before .before .before .before .before .before .ref-of .ensures) _ _ (c .before .before .before .before .if1 .taken)
 
-build-member-head-size-requires : (t : ℕ) → build-member-lts.Need-head-size-requires (
-  kind-at-reads.Asked,
-  kind-at-reads.Learnt,
-  ref-of-reads.Asked,
-  ref-of-reads.Learnt,
-  build-absent-reads.Asked,
-  build-absent-reads.Learnt,
-  head-size-reads.Asked,
-  head-size-reads.Learnt,
-  build-value-below t,
-  build-value.Post,
-  put-head-reads.Asked,
-  put-head-reads.Learnt,
-) (build-member-at t) build-member.Post
+build-member-head-size-requires : (t : ℕ) → build-member-lts.Need-head-size-requires (build-member-claims t) (build-member-at t) build-member.Post
 build-member-head-size-requires t c κs = search needs
 
-build-member-add-from : (t : ℕ) → build-member-lts.Need-add-from (
-  kind-at-reads.Asked,
-  kind-at-reads.Learnt,
-  ref-of-reads.Asked,
-  ref-of-reads.Learnt,
-  build-absent-reads.Asked,
-  build-absent-reads.Learnt,
-  head-size-reads.Asked,
-  head-size-reads.Learnt,
-  build-value-below t,
-  build-value.Post,
-  put-head-reads.Asked,
-  put-head-reads.Learnt,
-) (build-member-at t) build-member.Post
+build-member-add-from : (t : ℕ) → build-member-lts.Need-add-from (build-member-claims t) (build-member-at t) build-member.Post
 build-member-add-from t c =
     omega (arith, c .head-size .ensures, size-few (c .before .before .before .before .before .kind-at .result), c .before .before .before .before .before .before .before .before .before .before .before .pre .1 .4)
 
-build-member-build-value-requires : (t : ℕ) → build-member-lts.Need-build-value-requires (
-  kind-at-reads.Asked,
-  kind-at-reads.Learnt,
-  ref-of-reads.Asked,
-  ref-of-reads.Learnt,
-  build-absent-reads.Asked,
-  build-absent-reads.Learnt,
-  head-size-reads.Asked,
-  head-size-reads.Learnt,
-  build-value-below t,
-  build-value.Post,
-  put-head-reads.Asked,
-  put-head-reads.Learnt,
-) (build-member-at t) build-member.Post
+build-member-build-value-requires : (t : ℕ) → build-member-lts.Need-build-value-requires (build-member-claims t) (build-member-at t) build-member.Post
 build-member-build-value-requires t c κs =
     let r = at-ref _ _ _ _ (c .before .before .before .before .before .before .before .before .before .before .before .before .pre .1 .0) (c .before .before .before .before .ref-of .ensures) in
     (omega (arith, c .before .before .before .before .before .before .before .before .before .before .before .before .pre .0, r .1), (r .0, c .before .before .before .before .before .before .before .before .before .before .before .before .pre .1 .2, c .before .before .if1 .left, c .before .before .before .before .before .before .before .before .before .before .before .before .pre .1 .3, omega (arith, c .before .head-size .ensures, size-few (c .before .before .before .before .before .before .kind-at .result), c .before .before .before .before .before .before .before .before .before .before .before .before .pre .1 .4), c .before .before .before .before .before .before .before .before .before .before .before .before .pre .1 .5))
 
-build-member-enum-known-built : (t : ℕ) → build-member-lts.Need-enum-known-built (
-  kind-at-reads.Asked,
-  kind-at-reads.Learnt,
-  ref-of-reads.Asked,
-  ref-of-reads.Learnt,
-  build-absent-reads.Asked,
-  build-absent-reads.Learnt,
-  head-size-reads.Asked,
-  head-size-reads.Learnt,
-  build-value-below t,
-  build-value.Post,
-  put-head-reads.Asked,
-  put-head-reads.Learnt,
-) (build-member-at t) build-member.Post
+build-member-enum-known-built : (t : ℕ) → build-member-lts.Need-enum-known-built (build-member-claims t) (build-member-at t) build-member.Post
 build-member-enum-known-built t c = search needs
 
-build-member-enum-told : (t : ℕ) → build-member-lts.Need-enum-told (
-  kind-at-reads.Asked,
-  kind-at-reads.Learnt,
-  ref-of-reads.Asked,
-  ref-of-reads.Learnt,
-  build-absent-reads.Asked,
-  build-absent-reads.Learnt,
-  head-size-reads.Asked,
-  head-size-reads.Learnt,
-  build-value-below t,
-  build-value.Post,
-  put-head-reads.Asked,
-  put-head-reads.Learnt,
-) (build-member-at t) build-member.Post
+build-member-enum-told : (t : ℕ) → build-member-lts.Need-enum-told (build-member-claims t) (build-member-at t) build-member.Post
 build-member-enum-told t c = search needs
 
-build-member-same-length-2 : (t : ℕ) → build-member-lts.Need-same-length-2 (
-  kind-at-reads.Asked,
-  kind-at-reads.Learnt,
-  ref-of-reads.Asked,
-  ref-of-reads.Learnt,
-  build-absent-reads.Asked,
-  build-absent-reads.Learnt,
-  head-size-reads.Asked,
-  head-size-reads.Learnt,
-  build-value-below t,
-  build-value.Post,
-  put-head-reads.Asked,
-  put-head-reads.Learnt,
-) (build-member-at t) build-member.Post
+build-member-same-length-2 : (t : ℕ) → build-member-lts.Need-same-length-2 (build-member-claims t) (build-member-at t) build-member.Post
 build-member-same-length-2 t c = c .before .before .before .before .build-value .kept .1 .1 .1 .1 .1 .1 .1 .0
 
-build-member-returns-2 : (t : ℕ) → build-member-lts.Need-returns-2 (
-  kind-at-reads.Asked,
-  kind-at-reads.Learnt,
-  ref-of-reads.Asked,
-  ref-of-reads.Learnt,
-  build-absent-reads.Asked,
-  build-absent-reads.Learnt,
-  head-size-reads.Asked,
-  head-size-reads.Learnt,
-  build-value-below t,
-  build-value.Post,
-  put-head-reads.Asked,
-  put-head-reads.Learnt,
-) (build-member-at t) build-member.Post
+build-member-returns-2 : (t : ℕ) → build-member-lts.Need-returns-2 (build-member-claims t) (build-member-at t) build-member.Post
 unfolding standOf
 build-member-returns-2 t c =
     member-stop _ _ _ (refers-inner _ _ _ _ (c .before .before .before .before .before .before .before .before .before .before .before .kind-at .ensures) (c .before .before .before .before .before .before .before .before .before .before .before .before .before .before .before .before .before .pre .1 .1)) _ _ _ _ _ (c .before .before .before .before .before .before .before .before .before .ref-of .ensures) _ _ (c .before .before .before .before .before .before .before .if1 .left) _ (c .before .before .before .before .before .before .head-size .ensures) (failed-is _ _ _ _ (c .before .before .before .before .build-value .ensures) (c .enum-told .given .1))
 
-build-member-sub-put-head : (t : ℕ) → build-member-lts.Need-sub-put-head (
-  kind-at-reads.Asked,
-  kind-at-reads.Learnt,
-  ref-of-reads.Asked,
-  ref-of-reads.Learnt,
-  build-absent-reads.Asked,
-  build-absent-reads.Learnt,
-  head-size-reads.Asked,
-  head-size-reads.Learnt,
-  build-value-below t,
-  build-value.Post,
-  put-head-reads.Asked,
-  put-head-reads.Learnt,
-) (build-member-at t) build-member.Post
+build-member-sub-put-head : (t : ℕ) → build-member-lts.Need-sub-put-head (build-member-claims t) (build-member-at t) build-member.Post
 build-member-sub-put-head t c =
     let s = stood _ _ _ _ _ _ (done-is _ _ _ _ (c .before .before .before .before .before .build-value .ensures) _ _ (c .before .built .given .1)) in
     omega (arith, s .next)
 
-build-member-cast-put-head : (t : ℕ) → build-member-lts.Need-cast-put-head (
-  kind-at-reads.Asked,
-  kind-at-reads.Learnt,
-  ref-of-reads.Asked,
-  ref-of-reads.Learnt,
-  build-absent-reads.Asked,
-  build-absent-reads.Learnt,
-  head-size-reads.Asked,
-  head-size-reads.Learnt,
-  build-value-below t,
-  build-value.Post,
-  put-head-reads.Asked,
-  put-head-reads.Learnt,
-) (build-member-at t) build-member.Post
+build-member-cast-put-head : (t : ℕ) → build-member-lts.Need-cast-put-head (build-member-claims t) (build-member-at t) build-member.Post
 build-member-cast-put-head t c =
     let s = stood _ _ _ _ _ _ (done-is _ _ _ _ (c .before .before .before .before .before .build-value .ensures) _ _ (c .before .built .given .1)) in
     omega (arith, s .small)
 
-build-member-put-head-requires : (t : ℕ) → build-member-lts.Need-put-head-requires (
-  kind-at-reads.Asked,
-  kind-at-reads.Learnt,
-  ref-of-reads.Asked,
-  ref-of-reads.Learnt,
-  build-absent-reads.Asked,
-  build-absent-reads.Learnt,
-  head-size-reads.Asked,
-  head-size-reads.Learnt,
-  build-value-below t,
-  build-value.Post,
-  put-head-reads.Asked,
-  put-head-reads.Learnt,
-) (build-member-at t) build-member.Post
+build-member-put-head-requires : (t : ℕ) → build-member-lts.Need-put-head-requires (build-member-claims t) (build-member-at t) build-member.Post
 build-member-put-head-requires t c κs =
     let s = stood _ _ _ _ _ _ (done-is _ _ _ _ (c .before .before .before .before .before .before .build-value .ensures) _ _ (c .before .before .built .given .1)) in
     (omega (arith, c .before .before .before .before .before .before .before .before .before .before .before .before .before .before .before .before .before .before .before .pre .1 .4), λ e. omega (arith, s .small))
 
-build-member-same-length-3 : (t : ℕ) → build-member-lts.Need-same-length-3 (
-  kind-at-reads.Asked,
-  kind-at-reads.Learnt,
-  ref-of-reads.Asked,
-  ref-of-reads.Learnt,
-  build-absent-reads.Asked,
-  build-absent-reads.Learnt,
-  head-size-reads.Asked,
-  head-size-reads.Learnt,
-  build-value-below t,
-  build-value.Post,
-  put-head-reads.Asked,
-  put-head-reads.Learnt,
-) (build-member-at t) build-member.Post
+build-member-same-length-3 : (t : ℕ) → build-member-lts.Need-same-length-3 (build-member-claims t) (build-member-at t) build-member.Post
 build-member-same-length-3 t c =
     c .before .before .put-head .kept .1 .1 .1 .0 ∙ c .before .before .before .before .before .before .before .before .before .build-value .kept .1 .1 .1 .1 .1 .1 .1 .0
 
-build-member-returns-3 : (t : ℕ) → build-member-lts.Need-returns-3 (
-  kind-at-reads.Asked,
-  kind-at-reads.Learnt,
-  ref-of-reads.Asked,
-  ref-of-reads.Learnt,
-  build-absent-reads.Asked,
-  build-absent-reads.Learnt,
-  head-size-reads.Asked,
-  head-size-reads.Learnt,
-  build-value-below t,
-  build-value.Post,
-  put-head-reads.Asked,
-  put-head-reads.Learnt,
-) (build-member-at t) build-member.Post
+build-member-returns-3 : (t : ℕ) → build-member-lts.Need-returns-3 (build-member-claims t) (build-member-at t) build-member.Post
 unfolding standOf
 build-member-returns-3 t c =
     member-go _ _ _ (refers-inner _ _ _ _ (c .before .before .before .before .before .before .before .before .before .before .before .before .before .before .before .before .kind-at .ensures) (c .before .before .before .before .before .before .before .before .before .before .before .before .before .before .before .before .before .before .before .before .before .before .pre .1 .1)) _ _ _ _ _ (c .before .before .before .before .before .before .before .before .before .before .before .before .before .before .ref-of .ensures) _ _ (c .before .before .before .before .before .before .before .before .before .before .before .before .if1 .left) _ (c .before .before .before .before .before .before .before .before .before .before .before .head-size .ensures) _ _ _ (done-is _ _ _ _ (c .before .before .before .before .before .before .before .before .before .build-value .ensures) _ _ (c .before .before .before .before .before .built .given .1)) _ (c .before .before .put-head .ensures)
 
 abbrev build-row-Inv-loop : build-row-lts.InvT-loop
-build-row-Inv-loop plan needs node src list count first word₀ out₀ at₀ end i₀ word out at i =
+build-row-Inv-loop plan needs node src list count first word₀ out₀ at₀ kind end i₀ word out at i =
     (i ≤ end) × (at ≤ 65535) × (length out ≡ length out₀)
     × (put-at (elementsMade rowOrder (buildOf src (look plan)) (look plan node) count first (drop word₀ list)) at₀ out₀
     ≡ put-at (elementsMade rowOrder (buildOf src (look plan)) (look plan node) (end - i) i (drop word list)) at out)
 
 abbrev build-row-μ-loop : build-row-lts.MeasureT-loop
-build-row-μ-loop plan needs node src list count first word₀ out₀ at₀ end i₀ word out at i = end - i
+build-row-μ-loop plan needs node src list count first word₀ out₀ at₀ kind end i₀ word out at i = end - i
 
-build-row-add-end : (t : ℕ) → build-row-lts.Need-add-end (
-  next-entry-reads.Asked,
-  next-entry-reads.Learnt,
-  build-member-below t,
-  build-member.Post,
-) (build-row-at t) build-row.Post build-row-Inv-loop build-row-μ-loop
-build-row-add-end t c = omega (arith, c .before .before .before .before .before .pre .1 .2)
+build-row-kind-at-requires : (t : ℕ) → build-row-lts.Need-kind-at-requires (build-row-claims t) (build-row-at t) build-row.Post build-row-Inv-loop build-row-μ-loop
+build-row-kind-at-requires t c κs = c .before .before .before .before .before .pre .1 .0
 
-build-row-loop-holds : (t : ℕ) → build-row-lts.Need-loop-holds (
-  next-entry-reads.Asked,
-  next-entry-reads.Learnt,
-  build-member-below t,
-  build-member.Post,
-) (build-row-at t) build-row.Post build-row-Inv-loop build-row-μ-loop
+build-row-add-end : (t : ℕ) → build-row-lts.Need-add-end (build-row-claims t) (build-row-at t) build-row.Post build-row-Inv-loop build-row-μ-loop
+build-row-add-end t c = omega (arith, c .before .before .before .before .before .before .pre .1 .2)
+
+build-row-loop-holds : (t : ℕ) → build-row-lts.Need-loop-holds (build-row-claims t) (build-row-at t) build-row.Post build-row-Inv-loop build-row-μ-loop
 build-row-loop-holds t c =
-    (omega arith, c .before .before .before .before .before .pre .1 .3, refl, as-many rowOrder _ _ (c .before .before .before .before .before .args .first) _ _ _ _ _ (add-sub-cancel-left (c .before .before .before .before .before .args .first) (c .before .before .before .before .before .args .count)))
+    (omega arith, c .before .before .before .before .before .before .pre .1 .3, refl, as-many rowOrder _ _ (c .before .before .before .before .before .before .args .first) _ _ _ _ _ (add-sub-cancel-left (c .before .before .before .before .before .before .args .first) (c .before .before .before .before .before .before .args .count)))
 
-build-row-next-entry-requires : (t : ℕ) → build-row-lts.Need-next-entry-requires (
-  next-entry-reads.Asked,
-  next-entry-reads.Learnt,
-  build-member-below t,
-  build-member.Post,
-) (build-row-at t) build-row.Post build-row-Inv-loop build-row-μ-loop
-build-row-next-entry-requires t c κs = search needs
+build-row-put-leaves-requires : (t : ℕ) → build-row-lts.Need-put-leaves-requires (build-row-claims t) (build-row-at t) build-row.Post build-row-Inv-loop build-row-μ-loop
+build-row-put-leaves-requires t c κs =
+    (c .before .before .before .before .before .before .before .before .before .pre .1 .0, c .before .before .before .kind-at .ensures, c .before .before .before .before .before .before .before .before .before .pre .1 .1, omega (arith, c .before .loop-test .taken), omega (arith, c .before .before .before .before .before .before .before .before .before .pre .1 .2), c .before .before .loop .inv .1)
 
-build-row-enum-known-entry : (t : ℕ) → build-row-lts.Need-enum-known-entry (
-  next-entry-reads.Asked,
-  next-entry-reads.Learnt,
-  build-member-below t,
-  build-member.Post,
-) (build-row-at t) build-row.Post build-row-Inv-loop build-row-μ-loop
-build-row-enum-known-entry t c = search needs
+build-row-same-length : (t : ℕ) → build-row-lts.Need-same-length (build-row-claims t) (build-row-at t) build-row.Post build-row-Inv-loop build-row-μ-loop
+build-row-same-length t c =
+    c .before .before .before .put-leaves .kept .1 .1 .1 .1 .1 .1 .1 .1 .0 ∙ c .before .before .before .before .before .before .loop .inv .2
 
-build-row-enum-told : (t : ℕ) → build-row-lts.Need-enum-told (
-  next-entry-reads.Asked,
-  next-entry-reads.Learnt,
-  build-member-below t,
-  build-member.Post,
-) (build-row-at t) build-row.Post build-row-Inv-loop build-row-μ-loop
-build-row-enum-told t c = search needs
-
-build-row-same-length : (t : ℕ) → build-row-lts.Need-same-length (
-  next-entry-reads.Asked,
-  next-entry-reads.Learnt,
-  build-member-below t,
-  build-member.Post,
-) (build-row-at t) build-row.Post build-row-Inv-loop build-row-μ-loop
-build-row-same-length t c = c .before .before .before .before .loop .inv .2
-
-build-row-returns : (t : ℕ) → build-row-lts.Need-returns (
-  next-entry-reads.Asked,
-  next-entry-reads.Learnt,
-  build-member-below t,
-  build-member.Post,
-) (build-row-at t) build-row.Post build-row-Inv-loop build-row-μ-loop
+build-row-returns : (t : ℕ) → build-row-lts.Need-returns (build-row-claims t) (build-row-at t) build-row.Post build-row-Inv-loop build-row-μ-loop
 unfolding standOf
 build-row-returns t c =
-    turn-short rowOrder _ _ (c .before .before .before .before .loop .i) _ _ _ _ (some-left _ _ (c .before .before .before .loop-test .taken)) (no-entry (c .before .before .before .before .before .before .before .before .before .before .args .list .now) (c .before .before .before .before .loop .word) _ (c .before .before .next-entry .ensures) (c .enum-told .given .1)) ∙ sym (c .before .before .before .before .loop .inv .3)
+    done rowOrder _ _ (c .before .before .before .put-leaves .result .index) _ _ _ _ (none-left _ _ (c .if1 .taken)) refl (c .before .before .before .put-leaves .ensures .2) ∙ sym (c .before .before .before .before .before .before .loop .inv .3 ∙ c .before .before .before .put-leaves .ensures .3)
 
-build-row-cast-if1 : (t : ℕ) → build-row-lts.Need-cast-if1 (
-  next-entry-reads.Asked,
-  next-entry-reads.Learnt,
-  build-member-below t,
-  build-member.Post,
-) (build-row-at t) build-row.Post build-row-Inv-loop build-row-μ-loop
-build-row-cast-if1 t c = search needs
+build-row-next-entry-requires : (t : ℕ) → build-row-lts.Need-next-entry-requires (build-row-claims t) (build-row-at t) build-row.Post build-row-Inv-loop build-row-μ-loop
+build-row-next-entry-requires t c κs = search needs
 
-build-row-same-length-2 : (t : ℕ) → build-row-lts.Need-same-length-2 (
-  next-entry-reads.Asked,
-  next-entry-reads.Learnt,
-  build-member-below t,
-  build-member.Post,
-) (build-row-at t) build-row.Post build-row-Inv-loop build-row-μ-loop
-build-row-same-length-2 t c = c .before .before .before .before .before .before .before .loop .inv .2
+build-row-enum-known-entry : (t : ℕ) → build-row-lts.Need-enum-known-entry (build-row-claims t) (build-row-at t) build-row.Post build-row-Inv-loop build-row-μ-loop
+build-row-enum-known-entry t c = search needs
 
-build-row-returns-2 : (t : ℕ) → build-row-lts.Need-returns-2 (
-  next-entry-reads.Asked,
-  next-entry-reads.Learnt,
-  build-member-below t,
-  build-member.Post,
-) (build-row-at t) build-row.Post build-row-Inv-loop build-row-μ-loop
+build-row-enum-told : (t : ℕ) → build-row-lts.Need-enum-told (build-row-claims t) (build-row-at t) build-row.Post build-row-Inv-loop build-row-μ-loop
+build-row-enum-told t c = search needs
+
+build-row-same-length-2 : (t : ℕ) → build-row-lts.Need-same-length-2 (build-row-claims t) (build-row-at t) build-row.Post build-row-Inv-loop build-row-μ-loop
+build-row-same-length-2 t c =
+    c .before .before .before .before .before .before .put-leaves .kept .1 .1 .1 .1 .1 .1 .1 .1 .0 ∙ c .before .before .before .before .before .before .before .before .before .loop .inv .2
+
+build-row-returns-2 : (t : ℕ) → build-row-lts.Need-returns-2 (build-row-claims t) (build-row-at t) build-row.Post build-row-Inv-loop build-row-μ-loop
 unfolding standOf
 build-row-returns-2 t c =
-    turn-barred rowOrder _ _ (c .before .before .before .before .before .before .before .loop .i) _ _ _ _ (some-left _ _ (c .before .before .before .before .before .before .loop-test .taken)) _ _ (entry-at (c .before .before .before .before .before .before .before .before .before .before .before .before .before .args .list .now) (c .before .before .before .before .before .before .before .loop .word) _ (c .before .before .before .before .before .next-entry .ensures) _ (c .before .before .before .entry .given .1)) (ne-eqb _ _ (λ e. c .if1 .taken (sym e))) ∙ sym (c .before .before .before .before .before .before .before .loop .inv .3)
+    turn-short rowOrder _ _ (c .before .before .before .before .before .before .put-leaves .result .index) _ _ _ _ (some-left _ _ (c .before .before .before .if1 .left)) (no-entry (c .before .before .before .before .before .before .before .before .before .before .before .before .before .before .before .before .args .list .now) (c .before .before .before .before .before .before .put-leaves .result .word) _ (c .before .before .next-entry .ensures) (c .enum-told .given .1)) ∙ sym (c .before .before .before .before .before .before .before .before .before .loop .inv .3 ∙ c .before .before .before .before .before .before .put-leaves .ensures .3)
 
-build-row-build-member-requires : (t : ℕ) → build-row-lts.Need-build-member-requires (
-  next-entry-reads.Asked,
-  next-entry-reads.Learnt,
-  build-member-below t,
-  build-member.Post,
-) (build-row-at t) build-row.Post build-row-Inv-loop build-row-μ-loop
-build-row-build-member-requires t c κs =
-    (omega (arith, c .before .before .before .before .before .before .before .before .before .before .before .before .before .before .pre .0), (c .before .before .before .before .before .before .before .before .before .before .before .before .before .before .pre .1 .0, c .before .before .before .before .before .before .before .before .before .before .before .before .before .before .pre .1 .1 _ (omega (arith, c .before .if1 .left, c .before .before .before .before .before .before .before .loop-test .taken)), entry-at (c .before .before .before .before .before .before .before .before .before .before .before .before .before .before .args .list .now) (c .before .before .before .before .before .before .before .before .loop .word) _ (c .before .before .before .before .before .before .next-entry .ensures) _ (c .before .before .before .before .entry .given .1), entry-inside (c .before .before .before .before .before .before .before .before .before .before .before .before .before .before .args .list .now) (c .before .before .before .before .before .before .before .before .loop .word) _ (c .before .before .before .before .before .before .next-entry .ensures) _ (c .before .before .before .before .entry .given .1), c .before .before .before .before .before .before .before .before .loop .inv .1, c .before .before .before .before .before .before .before .before .before .before .before .before .before .before .pre .1 .4))
+build-row-cast-if2 : (t : ℕ) → build-row-lts.Need-cast-if2 (build-row-claims t) (build-row-at t) build-row.Post build-row-Inv-loop build-row-μ-loop
+build-row-cast-if2 t c = search needs
 
-build-row-enum-known-built : (t : ℕ) → build-row-lts.Need-enum-known-built (
-  next-entry-reads.Asked,
-  next-entry-reads.Learnt,
-  build-member-below t,
-  build-member.Post,
-) (build-row-at t) build-row.Post build-row-Inv-loop build-row-μ-loop
-build-row-enum-known-built t c = search needs
-
-build-row-enum-told-2 : (t : ℕ) → build-row-lts.Need-enum-told-2 (
-  next-entry-reads.Asked,
-  next-entry-reads.Learnt,
-  build-member-below t,
-  build-member.Post,
-) (build-row-at t) build-row.Post build-row-Inv-loop build-row-μ-loop
-build-row-enum-told-2 t c = search needs
-
-build-row-same-length-3 : (t : ℕ) → build-row-lts.Need-same-length-3 (
-  next-entry-reads.Asked,
-  next-entry-reads.Learnt,
-  build-member-below t,
-  build-member.Post,
-) (build-row-at t) build-row.Post build-row-Inv-loop build-row-μ-loop
+build-row-same-length-3 : (t : ℕ) → build-row-lts.Need-same-length-3 (build-row-claims t) (build-row-at t) build-row.Post build-row-Inv-loop build-row-μ-loop
 build-row-same-length-3 t c =
-    c .before .before .before .before .build-member .kept .1 .1 .1 .1 .1 .1 .1 .0 ∙ c .before .before .before .before .before .before .before .before .before .before .before .before .before .loop .inv .2
+    c .before .before .before .before .before .before .before .before .before .put-leaves .kept .1 .1 .1 .1 .1 .1 .1 .1 .0 ∙ c .before .before .before .before .before .before .before .before .before .before .before .before .loop .inv .2
 
-build-row-returns-3 : (t : ℕ) → build-row-lts.Need-returns-3 (
-  next-entry-reads.Asked,
-  next-entry-reads.Learnt,
-  build-member-below t,
-  build-member.Post,
-) (build-row-at t) build-row.Post build-row-Inv-loop build-row-μ-loop
+build-row-returns-3 : (t : ℕ) → build-row-lts.Need-returns-3 (build-row-claims t) (build-row-at t) build-row.Post build-row-Inv-loop build-row-μ-loop
 unfolding standOf
 build-row-returns-3 t c =
-    turn-stop rowOrder _ _ (c .before .before .before .before .before .before .before .before .before .before .before .before .before .loop .i) _ _ _ _ (some-left _ _ (c .before .before .before .before .before .before .before .before .before .before .before .before .loop-test .taken)) _ _ (entry-at (c .before .before .before .before .before .before .before .before .before .before .before .before .before .before .before .before .before .before .before .args .list .now) (c .before .before .before .before .before .before .before .before .before .before .before .before .before .loop .word) _ (c .before .before .before .before .before .before .before .before .before .before .before .next-entry .ensures) _ (c .before .before .before .before .before .before .before .before .before .entry .given .1)) (eq-eqb _ _ (sym (c .before .before .before .before .before .before .if1 .left))) (failed-is _ _ _ _ (c .before .before .before .before .build-member .ensures) (c .enum-told2 .given .1)) ∙ sym (c .before .before .before .before .before .before .before .before .before .before .before .before .before .loop .inv .3)
+    turn-barred rowOrder _ _ (c .before .before .before .before .before .before .before .before .before .put-leaves .result .index) _ _ _ _ (some-left _ _ (c .before .before .before .before .before .before .if1 .left)) _ _ (entry-at (c .before .before .before .before .before .before .before .before .before .before .before .before .before .before .before .before .before .before .before .args .list .now) (c .before .before .before .before .before .before .before .before .before .put-leaves .result .word) _ (c .before .before .before .before .before .next-entry .ensures) _ (c .before .before .before .entry .given .1)) (ne-eqb _ _ (λ e. c .if2 .taken (sym e))) ∙ sym (c .before .before .before .before .before .before .before .before .before .before .before .before .loop .inv .3 ∙ c .before .before .before .before .before .before .before .before .before .put-leaves .ensures .3)
 
-build-row-add-i : (t : ℕ) → build-row-lts.Need-add-i (
-  next-entry-reads.Asked,
-  next-entry-reads.Learnt,
-  build-member-below t,
-  build-member.Post,
-) (build-row-at t) build-row.Post build-row-Inv-loop build-row-μ-loop
-build-row-add-i t c =
-    omega (arith, c .before .before .before .before .before .before .before .before .before .before .before .before .before .loop-test .taken, c .before .before .before .before .before .before .before .before .before .before .before .before .before .before .before .before .before .before .before .before .pre .1 .2)
+build-row-build-member-requires : (t : ℕ) → build-row-lts.Need-build-member-requires (build-row-claims t) (build-row-at t) build-row.Post build-row-Inv-loop build-row-μ-loop
+build-row-build-member-requires t c κs =
+    (omega (arith, c .before .before .before .before .before .before .before .before .before .before .before .before .before .before .before .before .before .before .before .before .pre .0), (c .before .before .before .before .before .before .before .before .before .before .before .before .before .before .before .before .before .before .before .before .pre .1 .0, c .before .before .before .before .before .before .before .before .before .before .before .before .before .before .before .before .before .before .before .before .pre .1 .1 _ (omega (arith, c .before .if2 .left, c .before .before .before .before .before .before .before .if1 .left)), entry-at (c .before .before .before .before .before .before .before .before .before .before .before .before .before .before .before .before .before .before .before .before .args .list .now) (c .before .before .before .before .before .before .before .before .before .before .put-leaves .result .word) _ (c .before .before .before .before .before .before .next-entry .ensures) _ (c .before .before .before .before .entry .given .1), entry-inside (c .before .before .before .before .before .before .before .before .before .before .before .before .before .before .before .before .before .before .before .before .args .list .now) (c .before .before .before .before .before .before .before .before .before .before .put-leaves .result .word) _ (c .before .before .before .before .before .before .next-entry .ensures) _ (c .before .before .before .before .entry .given .1), c .before .before .before .before .before .before .before .before .before .before .put-leaves .ensures .2, c .before .before .before .before .before .before .before .before .before .before .before .before .before .before .before .before .before .before .before .before .pre .1 .4))
 
-build-row-loop-less : (t : ℕ) → build-row-lts.Need-loop-less (
-  next-entry-reads.Asked,
-  next-entry-reads.Learnt,
-  build-member-below t,
-  build-member.Post,
-) (build-row-at t) build-row.Post build-row-Inv-loop build-row-μ-loop
-build-row-loop-less t c = omega arith
+build-row-enum-known-built : (t : ℕ) → build-row-lts.Need-enum-known-built (build-row-claims t) (build-row-at t) build-row.Post build-row-Inv-loop build-row-μ-loop
+build-row-enum-known-built t c = search needs
 
-build-row-loop-again : (t : ℕ) → build-row-lts.Need-loop-again (
-  next-entry-reads.Asked,
-  next-entry-reads.Learnt,
-  build-member-below t,
-  build-member.Post,
-) (build-row-at t) build-row.Post build-row-Inv-loop build-row-μ-loop
-build-row-loop-again t c =
-    let q = done-is _ _ _ _ (c .before .before .before .before .before .build-member .ensures) _ _ (c .before .built .given .1) in
-    (omega (arith, c .before .before .before .before .before .before .before .before .before .before .before .before .before .loop-test .taken), stood _ _ _ _ _ _ q .small, c .before .before .before .before .before .build-member .kept .1 .1 .1 .1 .1 .1 .1 .0 ∙ c .before .before .before .before .before .before .before .before .before .before .before .before .before .before .loop .inv .2, c .before .before .before .before .before .before .before .before .before .before .before .before .before .before .loop .inv .3 ∙ turn-go rowOrder _ _ (c .before .before .before .before .before .before .before .before .before .before .before .before .before .before .loop .i) _ _ _ _ (some-left _ _ (c .before .before .before .before .before .before .before .before .before .before .before .before .before .loop-test .taken)) _ _ (entry-at (c .before .before .before .before .before .before .before .before .before .before .before .before .before .before .before .before .before .before .before .before .args .list .now) (c .before .before .before .before .before .before .before .before .before .before .before .before .before .before .loop .word) _ (c .before .before .before .before .before .before .before .before .before .before .before .before .next-entry .ensures) _ (c .before .before .before .before .before .before .before .before .before .before .entry .given .1)) (eq-eqb _ _ (sym (c .before .before .before .before .before .before .before .if1 .left))) _ _ _ q _ refl _ (one-fewer _ _))
+build-row-enum-told-2 : (t : ℕ) → build-row-lts.Need-enum-told-2 (build-row-claims t) (build-row-at t) build-row.Post build-row-Inv-loop build-row-μ-loop
+build-row-enum-told-2 t c = search needs
 
-build-row-same-length-4 : (t : ℕ) → build-row-lts.Need-same-length-4 (
-  next-entry-reads.Asked,
-  next-entry-reads.Learnt,
-  build-member-below t,
-  build-member.Post,
-) (build-row-at t) build-row.Post build-row-Inv-loop build-row-μ-loop
-build-row-same-length-4 t c = c .before .loop .inv .2
+build-row-same-length-4 : (t : ℕ) → build-row-lts.Need-same-length-4 (build-row-claims t) (build-row-at t) build-row.Post build-row-Inv-loop build-row-μ-loop
+build-row-same-length-4 t c =
+    c .before .before .before .before .build-member .kept .1 .1 .1 .1 .1 .1 .1 .0 ∙ c .before .before .before .before .before .before .before .before .before .before .before .before .before .before .before .put-leaves .kept .1 .1 .1 .1 .1 .1 .1 .1 .0 ∙ c .before .before .before .before .before .before .before .before .before .before .before .before .before .before .before .before .before .before .loop .inv .2
 
-build-row-returns-4 : (t : ℕ) → build-row-lts.Need-returns-4 (
-  next-entry-reads.Asked,
-  next-entry-reads.Learnt,
-  build-member-below t,
-  build-member.Post,
-) (build-row-at t) build-row.Post build-row-Inv-loop build-row-μ-loop
+build-row-returns-4 : (t : ℕ) → build-row-lts.Need-returns-4 (build-row-claims t) (build-row-at t) build-row.Post build-row-Inv-loop build-row-μ-loop
 unfolding standOf
 build-row-returns-4 t c =
+    turn-stop rowOrder _ _ (c .before .before .before .before .before .before .before .before .before .before .before .before .before .before .before .put-leaves .result .index) _ _ _ _ (some-left _ _ (c .before .before .before .before .before .before .before .before .before .before .before .before .if1 .left)) _ _ (entry-at (c .before .before .before .before .before .before .before .before .before .before .before .before .before .before .before .before .before .before .before .before .before .before .before .before .before .args .list .now) (c .before .before .before .before .before .before .before .before .before .before .before .before .before .before .before .put-leaves .result .word) _ (c .before .before .before .before .before .before .before .before .before .before .before .next-entry .ensures) _ (c .before .before .before .before .before .before .before .before .before .entry .given .1)) (eq-eqb _ _ (sym (c .before .before .before .before .before .before .if2 .left))) (failed-is _ _ _ _ (c .before .before .before .before .build-member .ensures) (c .enum-told2 .given .1)) ∙ sym (c .before .before .before .before .before .before .before .before .before .before .before .before .before .before .before .before .before .before .loop .inv .3 ∙ c .before .before .before .before .before .before .before .before .before .before .before .before .before .before .before .put-leaves .ensures .3)
+
+build-row-add-i : (t : ℕ) → build-row-lts.Need-add-i (build-row-claims t) (build-row-at t) build-row.Post build-row-Inv-loop build-row-μ-loop
+build-row-add-i t c =
+    omega (arith, c .before .before .before .before .before .before .before .before .before .before .before .before .before .if1 .left, c .before .before .before .before .before .before .before .before .before .before .before .before .before .before .before .before .before .before .before .before .before .before .before .before .before .before .pre .1 .2)
+
+build-row-loop-less : (t : ℕ) → build-row-lts.Need-loop-less (build-row-claims t) (build-row-at t) build-row.Post build-row-Inv-loop build-row-μ-loop
+build-row-loop-less t c =
+    omega (arith, c .before .before .before .before .before .before .before .before .before .before .before .before .before .before .before .before .put-leaves .ensures .0, c .before .before .before .before .before .before .before .before .before .before .before .before .before .if1 .left)
+
+build-row-loop-again : (t : ℕ) → build-row-lts.Need-loop-again (build-row-claims t) (build-row-at t) build-row.Post build-row-Inv-loop build-row-μ-loop
+build-row-loop-again t c =
+    let q = done-is _ _ _ _ (c .before .before .before .before .before .build-member .ensures) _ _ (c .before .built .given .1) in
+    (omega (arith, c .before .before .before .before .before .before .before .before .before .before .before .before .before .if1 .left), stood _ _ _ _ _ _ q .small, c .before .before .before .before .before .build-member .kept .1 .1 .1 .1 .1 .1 .1 .0 ∙ c .before .before .before .before .before .before .before .before .before .before .before .before .before .before .before .before .put-leaves .kept .1 .1 .1 .1 .1 .1 .1 .1 .0 ∙ c .before .before .before .before .before .before .before .before .before .before .before .before .before .before .before .before .before .before .before .loop .inv .2, c .before .before .before .before .before .before .before .before .before .before .before .before .before .before .before .before .before .before .before .loop .inv .3 ∙ c .before .before .before .before .before .before .before .before .before .before .before .before .before .before .before .before .put-leaves .ensures .3 ∙ turn-go rowOrder _ _ (c .before .before .before .before .before .before .before .before .before .before .before .before .before .before .before .before .put-leaves .result .index) _ _ _ _ (some-left _ _ (c .before .before .before .before .before .before .before .before .before .before .before .before .before .if1 .left)) _ _ (entry-at (c .before .before .before .before .before .before .before .before .before .before .before .before .before .before .before .before .before .before .before .before .before .before .before .before .before .before .args .list .now) (c .before .before .before .before .before .before .before .before .before .before .before .before .before .before .before .before .put-leaves .result .word) _ (c .before .before .before .before .before .before .before .before .before .before .before .before .next-entry .ensures) _ (c .before .before .before .before .before .before .before .before .before .before .entry .given .1)) (eq-eqb _ _ (sym (c .before .before .before .before .before .before .before .if2 .left))) _ _ _ q _ refl _ (one-fewer _ _))
+
+build-row-same-length-5 : (t : ℕ) → build-row-lts.Need-same-length-5 (build-row-claims t) (build-row-at t) build-row.Post build-row-Inv-loop build-row-μ-loop
+build-row-same-length-5 t c = c .before .loop .inv .2
+
+build-row-returns-5 : (t : ℕ) → build-row-lts.Need-returns-5 (build-row-claims t) (build-row-at t) build-row.Post build-row-Inv-loop build-row-μ-loop
+unfolding standOf
+build-row-returns-5 t c =
     done rowOrder _ _ (c .before .loop .i) _ _ _ _ (none-left _ _ (c .loop-test .left)) refl (c .before .loop .inv .1) ∙ sym (c .before .loop .inv .3)
 
 abbrev build-sparse-Inv-loop : build-sparse-lts.InvT-loop
@@ -620,887 +309,193 @@ build-sparse-Inv-loop plan needs node src list count word₀ out₀ at₀ n seen
 abbrev build-sparse-μ-loop : build-sparse-lts.MeasureT-loop
 build-sparse-μ-loop plan needs node src list count word₀ out₀ at₀ n seen₀ given₀ counter₀ word out at seen given counter = count - counter
 
-build-sparse-second-at-requires : (t : ℕ) → build-sparse-lts.Need-second-at-requires (
-  second-at-reads.Asked,
-  second-at-reads.Learnt,
-  new-reads.Asked,
-  new-reads.Learnt,
-  next-entry-reads.Asked,
-  next-entry-reads.Learnt,
-  mark-reads.Asked,
-  mark-reads.Learnt,
-  count-given-reads.Asked,
-  count-given-reads.Learnt,
-  build-member-below t,
-  build-member.Post,
-  needed-of-reads.Asked,
-  needed-of-reads.Learnt,
-) (build-sparse-at t) build-sparse.Post build-sparse-Inv-loop build-sparse-μ-loop
+build-sparse-second-at-requires : (t : ℕ) → build-sparse-lts.Need-second-at-requires (build-sparse-claims t) (build-sparse-at t) build-sparse.Post build-sparse-Inv-loop build-sparse-μ-loop
 build-sparse-second-at-requires t c κs =
     (c .before .before .before .before .before .pre .1 .0, λ e. omega (arith, c .before .before .before .before .before .pre .1 .1))
 
-build-sparse-new-requires : (t : ℕ) → build-sparse-lts.Need-new-requires (
-  second-at-reads.Asked,
-  second-at-reads.Learnt,
-  new-reads.Asked,
-  new-reads.Learnt,
-  next-entry-reads.Asked,
-  next-entry-reads.Learnt,
-  mark-reads.Asked,
-  mark-reads.Learnt,
-  count-given-reads.Asked,
-  count-given-reads.Learnt,
-  build-member-below t,
-  build-member.Post,
-  needed-of-reads.Asked,
-  needed-of-reads.Learnt,
-) (build-sparse-at t) build-sparse.Post build-sparse-Inv-loop build-sparse-μ-loop
+build-sparse-new-requires : (t : ℕ) → build-sparse-lts.Need-new-requires (build-sparse-claims t) (build-sparse-at t) build-sparse.Post build-sparse-Inv-loop build-sparse-μ-loop
 build-sparse-new-requires t c κs = search needs
 
-build-sparse-loop-holds : (t : ℕ) → build-sparse-lts.Need-loop-holds (
-  second-at-reads.Asked,
-  second-at-reads.Learnt,
-  new-reads.Asked,
-  new-reads.Learnt,
-  next-entry-reads.Asked,
-  next-entry-reads.Learnt,
-  mark-reads.Asked,
-  mark-reads.Learnt,
-  count-given-reads.Asked,
-  count-given-reads.Learnt,
-  build-member-below t,
-  build-member.Post,
-  needed-of-reads.Asked,
-  needed-of-reads.Learnt,
-) (build-sparse-at t) build-sparse.Post build-sparse-Inv-loop build-sparse-μ-loop
+build-sparse-loop-holds : (t : ℕ) → build-sparse-lts.Need-loop-holds (build-sparse-claims t) (build-sparse-at t) build-sparse.Post build-sparse-Inv-loop build-sparse-μ-loop
 build-sparse-loop-holds t c =
     (c .before .before .before .before .before .before .before .pre .1 .2, refl, rw (c .new .ensures, sub-zero), counted-none _ _ _ (c .new .ensures))
 
-build-sparse-next-entry-requires : (t : ℕ) → build-sparse-lts.Need-next-entry-requires (
-  second-at-reads.Asked,
-  second-at-reads.Learnt,
-  new-reads.Asked,
-  new-reads.Learnt,
-  next-entry-reads.Asked,
-  next-entry-reads.Learnt,
-  mark-reads.Asked,
-  mark-reads.Learnt,
-  count-given-reads.Asked,
-  count-given-reads.Learnt,
-  build-member-below t,
-  build-member.Post,
-  needed-of-reads.Asked,
-  needed-of-reads.Learnt,
-) (build-sparse-at t) build-sparse.Post build-sparse-Inv-loop build-sparse-μ-loop
+build-sparse-next-entry-requires : (t : ℕ) → build-sparse-lts.Need-next-entry-requires (build-sparse-claims t) (build-sparse-at t) build-sparse.Post build-sparse-Inv-loop build-sparse-μ-loop
 build-sparse-next-entry-requires t c κs = search needs
 
-build-sparse-enum-known-entry : (t : ℕ) → build-sparse-lts.Need-enum-known-entry (
-  second-at-reads.Asked,
-  second-at-reads.Learnt,
-  new-reads.Asked,
-  new-reads.Learnt,
-  next-entry-reads.Asked,
-  next-entry-reads.Learnt,
-  mark-reads.Asked,
-  mark-reads.Learnt,
-  count-given-reads.Asked,
-  count-given-reads.Learnt,
-  build-member-below t,
-  build-member.Post,
-  needed-of-reads.Asked,
-  needed-of-reads.Learnt,
-) (build-sparse-at t) build-sparse.Post build-sparse-Inv-loop build-sparse-μ-loop
+build-sparse-enum-known-entry : (t : ℕ) → build-sparse-lts.Need-enum-known-entry (build-sparse-claims t) (build-sparse-at t) build-sparse.Post build-sparse-Inv-loop build-sparse-μ-loop
 build-sparse-enum-known-entry t c = search needs
 
-build-sparse-enum-told : (t : ℕ) → build-sparse-lts.Need-enum-told (
-  second-at-reads.Asked,
-  second-at-reads.Learnt,
-  new-reads.Asked,
-  new-reads.Learnt,
-  next-entry-reads.Asked,
-  next-entry-reads.Learnt,
-  mark-reads.Asked,
-  mark-reads.Learnt,
-  count-given-reads.Asked,
-  count-given-reads.Learnt,
-  build-member-below t,
-  build-member.Post,
-  needed-of-reads.Asked,
-  needed-of-reads.Learnt,
-) (build-sparse-at t) build-sparse.Post build-sparse-Inv-loop build-sparse-μ-loop
+build-sparse-enum-told : (t : ℕ) → build-sparse-lts.Need-enum-told (build-sparse-claims t) (build-sparse-at t) build-sparse.Post build-sparse-Inv-loop build-sparse-μ-loop
 build-sparse-enum-told t c = search needs
 
-build-sparse-same-length : (t : ℕ) → build-sparse-lts.Need-same-length (
-  second-at-reads.Asked,
-  second-at-reads.Learnt,
-  new-reads.Asked,
-  new-reads.Learnt,
-  next-entry-reads.Asked,
-  next-entry-reads.Learnt,
-  mark-reads.Asked,
-  mark-reads.Learnt,
-  count-given-reads.Asked,
-  count-given-reads.Learnt,
-  build-member-below t,
-  build-member.Post,
-  needed-of-reads.Asked,
-  needed-of-reads.Learnt,
-) (build-sparse-at t) build-sparse.Post build-sparse-Inv-loop build-sparse-μ-loop
+build-sparse-same-length : (t : ℕ) → build-sparse-lts.Need-same-length (build-sparse-claims t) (build-sparse-at t) build-sparse.Post build-sparse-Inv-loop build-sparse-μ-loop
 build-sparse-same-length t c = c .before .before .before .before .loop .inv .1
 
-build-sparse-returns : (t : ℕ) → build-sparse-lts.Need-returns (
-  second-at-reads.Asked,
-  second-at-reads.Learnt,
-  new-reads.Asked,
-  new-reads.Learnt,
-  next-entry-reads.Asked,
-  next-entry-reads.Learnt,
-  mark-reads.Asked,
-  mark-reads.Learnt,
-  count-given-reads.Asked,
-  count-given-reads.Learnt,
-  build-member-below t,
-  build-member.Post,
-  needed-of-reads.Asked,
-  needed-of-reads.Learnt,
-) (build-sparse-at t) build-sparse.Post build-sparse-Inv-loop build-sparse-μ-loop
+build-sparse-returns : (t : ℕ) → build-sparse-lts.Need-returns (build-sparse-claims t) (build-sparse-at t) build-sparse.Post build-sparse-Inv-loop build-sparse-μ-loop
 unfolding standOf
 build-sparse-returns t c =
     turn-short (sparseOrder (cardsAt (c .before .before .before .before .before .before .before .before .before .before .before .before .args .plan .now) (c .before .before .before .before .before .before .before .before .before .before .before .before .args .node))) _ _ (c .before .before .before .before .loop .seen .marks) _ _ _ _ (some-left _ _ (c .before .before .before .loop-test .taken)) (no-entry (c .before .before .before .before .before .before .before .before .before .before .before .before .args .list .now) (c .before .before .before .before .loop .word) _ (c .before .before .next-entry .ensures) (c .enum-told .given .1)) ∙ sym (c .before .before .before .before .loop .inv .2)
 
-build-sparse-cast-i : (t : ℕ) → build-sparse-lts.Need-cast-i (
-  second-at-reads.Asked,
-  second-at-reads.Learnt,
-  new-reads.Asked,
-  new-reads.Learnt,
-  next-entry-reads.Asked,
-  next-entry-reads.Learnt,
-  mark-reads.Asked,
-  mark-reads.Learnt,
-  count-given-reads.Asked,
-  count-given-reads.Learnt,
-  build-member-below t,
-  build-member.Post,
-  needed-of-reads.Asked,
-  needed-of-reads.Learnt,
-) (build-sparse-at t) build-sparse.Post build-sparse-Inv-loop build-sparse-μ-loop
+build-sparse-cast-i : (t : ℕ) → build-sparse-lts.Need-cast-i (build-sparse-claims t) (build-sparse-at t) build-sparse.Post build-sparse-Inv-loop build-sparse-μ-loop
 build-sparse-cast-i t c = search needs
 
-build-sparse-same-length-2 : (t : ℕ) → build-sparse-lts.Need-same-length-2 (
-  second-at-reads.Asked,
-  second-at-reads.Learnt,
-  new-reads.Asked,
-  new-reads.Learnt,
-  next-entry-reads.Asked,
-  next-entry-reads.Learnt,
-  mark-reads.Asked,
-  mark-reads.Learnt,
-  count-given-reads.Asked,
-  count-given-reads.Learnt,
-  build-member-below t,
-  build-member.Post,
-  needed-of-reads.Asked,
-  needed-of-reads.Learnt,
-) (build-sparse-at t) build-sparse.Post build-sparse-Inv-loop build-sparse-μ-loop
+build-sparse-same-length-2 : (t : ℕ) → build-sparse-lts.Need-same-length-2 (build-sparse-claims t) (build-sparse-at t) build-sparse.Post build-sparse-Inv-loop build-sparse-μ-loop
 build-sparse-same-length-2 t c = c .before .before .before .before .before .before .before .loop .inv .1
 
-build-sparse-returns-2 : (t : ℕ) → build-sparse-lts.Need-returns-2 (
-  second-at-reads.Asked,
-  second-at-reads.Learnt,
-  new-reads.Asked,
-  new-reads.Learnt,
-  next-entry-reads.Asked,
-  next-entry-reads.Learnt,
-  mark-reads.Asked,
-  mark-reads.Learnt,
-  count-given-reads.Asked,
-  count-given-reads.Learnt,
-  build-member-below t,
-  build-member.Post,
-  needed-of-reads.Asked,
-  needed-of-reads.Learnt,
-) (build-sparse-at t) build-sparse.Post build-sparse-Inv-loop build-sparse-μ-loop
+build-sparse-returns-2 : (t : ℕ) → build-sparse-lts.Need-returns-2 (build-sparse-claims t) (build-sparse-at t) build-sparse.Post build-sparse-Inv-loop build-sparse-μ-loop
 unfolding standOf
 build-sparse-returns-2 t c =
     turn-barred (sparseOrder (cardsAt (c .before .before .before .before .before .before .before .before .before .before .before .before .before .before .before .args .plan .now) (c .before .before .before .before .before .before .before .before .before .before .before .before .before .before .before .args .node))) _ _ (c .before .before .before .before .before .before .before .loop .seen .marks) _ _ _ _ (some-left _ _ (c .before .before .before .before .before .before .loop-test .taken)) _ _ (entry-at (c .before .before .before .before .before .before .before .before .before .before .before .before .before .before .before .args .list .now) (c .before .before .before .before .before .before .before .loop .word) _ (c .before .before .before .before .before .next-entry .ensures) _ (c .before .before .before .entry .given .1)) (unknown-index (c .before .before .before .before .before .before .before .before .before .before .before .before .before .before .before .args .plan .now) (c .before .before .before .before .before .before .before .before .before .before .before .before .before .before .before .args .node) (c .before .before .before .before .before .before .before .loop .seen .marks) _ _ (c .before .before .before .before .before .before .before .before .before .second-at .ensures) (c .if1 .taken)) ∙ sym (c .before .before .before .before .before .before .before .loop .inv .2)
 
-build-sparse-mark-requires : (t : ℕ) → build-sparse-lts.Need-mark-requires (
-  second-at-reads.Asked,
-  second-at-reads.Learnt,
-  new-reads.Asked,
-  new-reads.Learnt,
-  next-entry-reads.Asked,
-  next-entry-reads.Learnt,
-  mark-reads.Asked,
-  mark-reads.Learnt,
-  count-given-reads.Asked,
-  count-given-reads.Learnt,
-  build-member-below t,
-  build-member.Post,
-  needed-of-reads.Asked,
-  needed-of-reads.Learnt,
-) (build-sparse-at t) build-sparse.Post build-sparse-Inv-loop build-sparse-μ-loop
+build-sparse-mark-requires : (t : ℕ) → build-sparse-lts.Need-mark-requires (build-sparse-claims t) (build-sparse-at t) build-sparse.Post build-sparse-Inv-loop build-sparse-μ-loop
 build-sparse-mark-requires t c κs =
     omega (arith, c .if1 .left, c .before .before .before .before .before .before .before .before .before .second-at .ensures, at-few _ _ (c .before .before .before .before .before .before .before .before .before .before .before .before .before .before .before .pre .1 .0) (omega (arith, c .before .before .before .before .before .before .before .before .before .before .before .before .before .before .before .pre .1 .1)) (omega (arith, c .before .before .before .before .before .before .before .before .before .before .before .before .before .before .before .pre .1 .1)))
 
-build-sparse-same-length-3 : (t : ℕ) → build-sparse-lts.Need-same-length-3 (
-  second-at-reads.Asked,
-  second-at-reads.Learnt,
-  new-reads.Asked,
-  new-reads.Learnt,
-  next-entry-reads.Asked,
-  next-entry-reads.Learnt,
-  mark-reads.Asked,
-  mark-reads.Learnt,
-  count-given-reads.Asked,
-  count-given-reads.Learnt,
-  build-member-below t,
-  build-member.Post,
-  needed-of-reads.Asked,
-  needed-of-reads.Learnt,
-) (build-sparse-at t) build-sparse.Post build-sparse-Inv-loop build-sparse-μ-loop
+build-sparse-same-length-3 : (t : ℕ) → build-sparse-lts.Need-same-length-3 (build-sparse-claims t) (build-sparse-at t) build-sparse.Post build-sparse-Inv-loop build-sparse-μ-loop
 build-sparse-same-length-3 t c = c .before .before .before .before .before .before .before .before .before .loop .inv .1
 
-build-sparse-returns-3 : (t : ℕ) → build-sparse-lts.Need-returns-3 (
-  second-at-reads.Asked,
-  second-at-reads.Learnt,
-  new-reads.Asked,
-  new-reads.Learnt,
-  next-entry-reads.Asked,
-  next-entry-reads.Learnt,
-  mark-reads.Asked,
-  mark-reads.Learnt,
-  count-given-reads.Asked,
-  count-given-reads.Learnt,
-  build-member-below t,
-  build-member.Post,
-  needed-of-reads.Asked,
-  needed-of-reads.Learnt,
-) (build-sparse-at t) build-sparse.Post build-sparse-Inv-loop build-sparse-μ-loop
+build-sparse-returns-3 : (t : ℕ) → build-sparse-lts.Need-returns-3 (build-sparse-claims t) (build-sparse-at t) build-sparse.Post build-sparse-Inv-loop build-sparse-μ-loop
 unfolding standOf
 build-sparse-returns-3 t c =
     turn-barred (sparseOrder (cardsAt (c .before .before .before .before .before .before .before .before .before .before .before .before .before .before .before .before .before .args .plan .now) (c .before .before .before .before .before .before .before .before .before .before .before .before .before .before .before .before .before .args .node))) _ _ (c .before .before .before .before .before .before .before .before .before .loop .seen .marks) _ _ _ _ (some-left _ _ (c .before .before .before .before .before .before .before .before .loop-test .taken)) _ _ (entry-at (c .before .before .before .before .before .before .before .before .before .before .before .before .before .before .before .before .before .args .list .now) (c .before .before .before .before .before .before .before .before .before .loop .word) _ (c .before .before .before .before .before .before .before .next-entry .ensures) _ (c .before .before .before .before .before .entry .given .1)) (same-index (c .before .before .before .before .before .before .before .before .before .before .before .before .before .before .before .before .before .args .plan .now) (c .before .before .before .before .before .before .before .before .before .before .before .before .before .before .before .before .before .args .node) (c .before .before .before .before .before .before .before .before .before .loop .seen .marks) _ _ (c .before .before .before .before .before .before .before .before .before .before .before .second-at .ensures) (c .before .before .if1 .left) (sym (c .before .mark .ensures .0) ∙ c .if2 .taken)) ∙ sym (c .before .before .before .before .before .before .before .before .before .loop .inv .2)
 
-build-sparse-count-given-requires : (t : ℕ) → build-sparse-lts.Need-count-given-requires (
-  second-at-reads.Asked,
-  second-at-reads.Learnt,
-  new-reads.Asked,
-  new-reads.Learnt,
-  next-entry-reads.Asked,
-  next-entry-reads.Learnt,
-  mark-reads.Asked,
-  mark-reads.Learnt,
-  count-given-reads.Asked,
-  count-given-reads.Learnt,
-  build-member-below t,
-  build-member.Post,
-  needed-of-reads.Asked,
-  needed-of-reads.Learnt,
-) (build-sparse-at t) build-sparse.Post build-sparse-Inv-loop build-sparse-μ-loop
+build-sparse-count-given-requires : (t : ℕ) → build-sparse-lts.Need-count-given-requires (build-sparse-claims t) (build-sparse-at t) build-sparse.Post build-sparse-Inv-loop build-sparse-μ-loop
 build-sparse-count-given-requires t c κs =
     (c .before .before .before .before .before .before .before .before .before .before .before .before .before .before .before .before .before .pre .1 .0, c .before .before .before .before .before .before .before .before .before .before .before .before .before .before .before .before .before .pre .1 .1, omega (arith, c .before .before .if1 .left, c .before .before .before .before .before .before .before .before .before .before .before .second-at .ensures), counted-few _ _ _ _ (c .before .before .before .before .before .before .before .before .before .loop .inv .3) (c .before .before .before .before .before .before .before .before .before .before .before .before .before .before .before .before .before .pre .1 .0) (c .before .before .before .before .before .before .before .before .before .before .before .before .before .before .before .before .before .pre .1 .1))
 
-build-sparse-build-member-requires : (t : ℕ) → build-sparse-lts.Need-build-member-requires (
-  second-at-reads.Asked,
-  second-at-reads.Learnt,
-  new-reads.Asked,
-  new-reads.Learnt,
-  next-entry-reads.Asked,
-  next-entry-reads.Learnt,
-  mark-reads.Asked,
-  mark-reads.Learnt,
-  count-given-reads.Asked,
-  count-given-reads.Learnt,
-  build-member-below t,
-  build-member.Post,
-  needed-of-reads.Asked,
-  needed-of-reads.Learnt,
-) (build-sparse-at t) build-sparse.Post build-sparse-Inv-loop build-sparse-μ-loop
+build-sparse-build-member-requires : (t : ℕ) → build-sparse-lts.Need-build-member-requires (build-sparse-claims t) (build-sparse-at t) build-sparse.Post build-sparse-Inv-loop build-sparse-μ-loop
 build-sparse-build-member-requires t c κs =
     (omega (arith, c .before .before .before .before .before .before .before .before .before .before .before .before .before .before .before .before .before .before .before .pre .0), (c .before .before .before .before .before .before .before .before .before .before .before .before .before .before .before .before .before .before .before .pre .1 .0, sparse-holds _ _ (c .before .before .before .before .before .before .before .before .before .before .before .before .before .before .before .before .before .before .before .pre .1 .0) (c .before .before .before .before .before .before .before .before .before .before .before .before .before .before .before .before .before .before .before .pre .1 .1) _ (omega (arith, c .before .before .before .before .if1 .left, c .before .before .before .before .before .before .before .before .before .before .before .before .before .second-at .ensures, cards-length (c .before .before .before .before .before .before .before .before .before .before .before .before .before .before .before .before .before .before .before .args .plan .now) (c .before .before .before .before .before .before .before .before .before .before .before .before .before .before .before .before .before .before .before .args .node))), entry-at (c .before .before .before .before .before .before .before .before .before .before .before .before .before .before .before .before .before .before .before .args .list .now) (c .before .before .before .before .before .before .before .before .before .before .before .loop .word) _ (c .before .before .before .before .before .before .before .before .before .next-entry .ensures) _ (c .before .before .before .before .before .before .before .entry .given .1), entry-inside (c .before .before .before .before .before .before .before .before .before .before .before .before .before .before .before .before .before .before .before .args .list .now) (c .before .before .before .before .before .before .before .before .before .before .before .loop .word) _ (c .before .before .before .before .before .before .before .before .before .next-entry .ensures) _ (c .before .before .before .before .before .before .before .entry .given .1), c .before .before .before .before .before .before .before .before .before .before .before .loop .inv .0, c .before .before .before .before .before .before .before .before .before .before .before .before .before .before .before .before .before .before .before .pre .1 .3))
 
-build-sparse-enum-known-built : (t : ℕ) → build-sparse-lts.Need-enum-known-built (
-  second-at-reads.Asked,
-  second-at-reads.Learnt,
-  new-reads.Asked,
-  new-reads.Learnt,
-  next-entry-reads.Asked,
-  next-entry-reads.Learnt,
-  mark-reads.Asked,
-  mark-reads.Learnt,
-  count-given-reads.Asked,
-  count-given-reads.Learnt,
-  build-member-below t,
-  build-member.Post,
-  needed-of-reads.Asked,
-  needed-of-reads.Learnt,
-) (build-sparse-at t) build-sparse.Post build-sparse-Inv-loop build-sparse-μ-loop
+build-sparse-enum-known-built : (t : ℕ) → build-sparse-lts.Need-enum-known-built (build-sparse-claims t) (build-sparse-at t) build-sparse.Post build-sparse-Inv-loop build-sparse-μ-loop
 build-sparse-enum-known-built t c = search needs
 
-build-sparse-enum-told-2 : (t : ℕ) → build-sparse-lts.Need-enum-told-2 (
-  second-at-reads.Asked,
-  second-at-reads.Learnt,
-  new-reads.Asked,
-  new-reads.Learnt,
-  next-entry-reads.Asked,
-  next-entry-reads.Learnt,
-  mark-reads.Asked,
-  mark-reads.Learnt,
-  count-given-reads.Asked,
-  count-given-reads.Learnt,
-  build-member-below t,
-  build-member.Post,
-  needed-of-reads.Asked,
-  needed-of-reads.Learnt,
-) (build-sparse-at t) build-sparse.Post build-sparse-Inv-loop build-sparse-μ-loop
+build-sparse-enum-told-2 : (t : ℕ) → build-sparse-lts.Need-enum-told-2 (build-sparse-claims t) (build-sparse-at t) build-sparse.Post build-sparse-Inv-loop build-sparse-μ-loop
 build-sparse-enum-told-2 t c = search needs
 
-build-sparse-same-length-4 : (t : ℕ) → build-sparse-lts.Need-same-length-4 (
-  second-at-reads.Asked,
-  second-at-reads.Learnt,
-  new-reads.Asked,
-  new-reads.Learnt,
-  next-entry-reads.Asked,
-  next-entry-reads.Learnt,
-  mark-reads.Asked,
-  mark-reads.Learnt,
-  count-given-reads.Asked,
-  count-given-reads.Learnt,
-  build-member-below t,
-  build-member.Post,
-  needed-of-reads.Asked,
-  needed-of-reads.Learnt,
-) (build-sparse-at t) build-sparse.Post build-sparse-Inv-loop build-sparse-μ-loop
+build-sparse-same-length-4 : (t : ℕ) → build-sparse-lts.Need-same-length-4 (build-sparse-claims t) (build-sparse-at t) build-sparse.Post build-sparse-Inv-loop build-sparse-μ-loop
 build-sparse-same-length-4 t c =
     c .before .before .before .before .build-member .kept .1 .1 .1 .1 .1 .1 .1 .0 ∙ c .before .before .before .before .before .before .before .before .before .before .before .before .before .before .before .before .loop .inv .1
 
-build-sparse-returns-4 : (t : ℕ) → build-sparse-lts.Need-returns-4 (
-  second-at-reads.Asked,
-  second-at-reads.Learnt,
-  new-reads.Asked,
-  new-reads.Learnt,
-  next-entry-reads.Asked,
-  next-entry-reads.Learnt,
-  mark-reads.Asked,
-  mark-reads.Learnt,
-  count-given-reads.Asked,
-  count-given-reads.Learnt,
-  build-member-below t,
-  build-member.Post,
-  needed-of-reads.Asked,
-  needed-of-reads.Learnt,
-) (build-sparse-at t) build-sparse.Post build-sparse-Inv-loop build-sparse-μ-loop
+build-sparse-returns-4 : (t : ℕ) → build-sparse-lts.Need-returns-4 (build-sparse-claims t) (build-sparse-at t) build-sparse.Post build-sparse-Inv-loop build-sparse-μ-loop
 unfolding standOf
 build-sparse-returns-4 t c =
     turn-stop (sparseOrder (cardsAt (c .before .before .before .before .before .before .before .before .before .before .before .before .before .before .before .before .before .before .before .before .before .before .before .before .args .plan .now) (c .before .before .before .before .before .before .before .before .before .before .before .before .before .before .before .before .before .before .before .before .before .before .before .before .args .node))) _ _ (c .before .before .before .before .before .before .before .before .before .before .before .before .before .before .before .before .loop .seen .marks) _ _ _ _ (some-left _ _ (c .before .before .before .before .before .before .before .before .before .before .before .before .before .before .before .loop-test .taken)) _ _ (entry-at (c .before .before .before .before .before .before .before .before .before .before .before .before .before .before .before .before .before .before .before .before .before .before .before .before .args .list .now) (c .before .before .before .before .before .before .before .before .before .before .before .before .before .before .before .before .loop .word) _ (c .before .before .before .before .before .before .before .before .before .before .before .before .before .before .next-entry .ensures) _ (c .before .before .before .before .before .before .before .before .before .before .before .before .entry .given .1)) (new-index (c .before .before .before .before .before .before .before .before .before .before .before .before .before .before .before .before .before .before .before .before .before .before .before .before .args .plan .now) (c .before .before .before .before .before .before .before .before .before .before .before .before .before .before .before .before .before .before .before .before .before .before .before .before .args .node) (c .before .before .before .before .before .before .before .before .before .before .before .before .before .before .before .before .loop .seen .marks) _ _ (c .before .before .before .before .before .before .before .before .before .before .before .before .before .before .before .before .before .before .second-at .ensures) (c .before .before .before .before .before .before .before .before .before .if1 .left) (sym (c .before .before .before .before .before .before .before .before .mark .ensures .0) ∙ c .before .before .before .before .before .before .before .if2 .left)) (failed-is _ _ _ _ (c .before .before .before .before .build-member .ensures) (c .enum-told2 .given .1)) ∙ sym (c .before .before .before .before .before .before .before .before .before .before .before .before .before .before .before .before .loop .inv .2)
 
-build-sparse-add-counter : (t : ℕ) → build-sparse-lts.Need-add-counter (
-  second-at-reads.Asked,
-  second-at-reads.Learnt,
-  new-reads.Asked,
-  new-reads.Learnt,
-  next-entry-reads.Asked,
-  next-entry-reads.Learnt,
-  mark-reads.Asked,
-  mark-reads.Learnt,
-  count-given-reads.Asked,
-  count-given-reads.Learnt,
-  build-member-below t,
-  build-member.Post,
-  needed-of-reads.Asked,
-  needed-of-reads.Learnt,
-) (build-sparse-at t) build-sparse.Post build-sparse-Inv-loop build-sparse-μ-loop
+build-sparse-add-counter : (t : ℕ) → build-sparse-lts.Need-add-counter (build-sparse-claims t) (build-sparse-at t) build-sparse.Post build-sparse-Inv-loop build-sparse-μ-loop
 build-sparse-add-counter t c =
     omega (arith, c .before .before .before .before .before .before .before .before .before .before .before .before .before .before .before .before .loop-test .taken, c .before .before .before .before .before .before .before .before .before .before .before .before .before .before .before .before .before .before .before .before .before .before .before .before .before .good, c .before .before .before .before .before .before .before .before .before .before .before .before .before .before .before .before .before .before .before .before .before .before .before .before .before .fits)
 
-build-sparse-loop-less : (t : ℕ) → build-sparse-lts.Need-loop-less (
-  second-at-reads.Asked,
-  second-at-reads.Learnt,
-  new-reads.Asked,
-  new-reads.Learnt,
-  next-entry-reads.Asked,
-  next-entry-reads.Learnt,
-  mark-reads.Asked,
-  mark-reads.Learnt,
-  count-given-reads.Asked,
-  count-given-reads.Learnt,
-  build-member-below t,
-  build-member.Post,
-  needed-of-reads.Asked,
-  needed-of-reads.Learnt,
-) (build-sparse-at t) build-sparse.Post build-sparse-Inv-loop build-sparse-μ-loop
+build-sparse-loop-less : (t : ℕ) → build-sparse-lts.Need-loop-less (build-sparse-claims t) (build-sparse-at t) build-sparse.Post build-sparse-Inv-loop build-sparse-μ-loop
 build-sparse-loop-less t c = omega arith
 
-build-sparse-loop-again : (t : ℕ) → build-sparse-lts.Need-loop-again (
-  second-at-reads.Asked,
-  second-at-reads.Learnt,
-  new-reads.Asked,
-  new-reads.Learnt,
-  next-entry-reads.Asked,
-  next-entry-reads.Learnt,
-  mark-reads.Asked,
-  mark-reads.Learnt,
-  count-given-reads.Asked,
-  count-given-reads.Learnt,
-  build-member-below t,
-  build-member.Post,
-  needed-of-reads.Asked,
-  needed-of-reads.Learnt,
-) (build-sparse-at t) build-sparse.Post build-sparse-Inv-loop build-sparse-μ-loop
+build-sparse-loop-again : (t : ℕ) → build-sparse-lts.Need-loop-again (build-sparse-claims t) (build-sparse-at t) build-sparse.Post build-sparse-Inv-loop build-sparse-μ-loop
 build-sparse-loop-again t c =
     let q = done-is _ _ _ _ (c .before .before .before .before .before .build-member .ensures) _ _ (c .before .built .given .1) in
     (stood _ _ _ _ _ _ q .small, c .before .before .before .before .before .build-member .kept .1 .1 .1 .1 .1 .1 .1 .0 ∙ c .before .before .before .before .before .before .before .before .before .before .before .before .before .before .before .before .before .loop .inv .1, c .before .before .before .before .before .before .before .before .before .before .before .before .before .before .before .before .before .loop .inv .2 ∙ turn-go (sparseOrder (cardsAt (c .before .before .before .before .before .before .before .before .before .before .before .before .before .before .before .before .before .before .before .before .before .before .before .before .before .args .plan .now) (c .before .before .before .before .before .before .before .before .before .before .before .before .before .before .before .before .before .before .before .before .before .before .before .before .before .args .node))) _ _ (c .before .before .before .before .before .before .before .before .before .before .before .before .before .before .before .before .before .loop .seen .marks) _ _ _ _ (some-left _ _ (c .before .before .before .before .before .before .before .before .before .before .before .before .before .before .before .before .loop-test .taken)) _ _ (entry-at (c .before .before .before .before .before .before .before .before .before .before .before .before .before .before .before .before .before .before .before .before .before .before .before .before .before .args .list .now) (c .before .before .before .before .before .before .before .before .before .before .before .before .before .before .before .before .before .loop .word) _ (c .before .before .before .before .before .before .before .before .before .before .before .before .before .before .before .next-entry .ensures) _ (c .before .before .before .before .before .before .before .before .before .before .before .before .before .entry .given .1)) (new-index (c .before .before .before .before .before .before .before .before .before .before .before .before .before .before .before .before .before .before .before .before .before .before .before .before .before .args .plan .now) (c .before .before .before .before .before .before .before .before .before .before .before .before .before .before .before .before .before .before .before .before .before .before .before .before .before .args .node) (c .before .before .before .before .before .before .before .before .before .before .before .before .before .before .before .before .before .loop .seen .marks) _ _ (c .before .before .before .before .before .before .before .before .before .before .before .before .before .before .before .before .before .before .before .second-at .ensures) (c .before .before .before .before .before .before .before .before .before .before .if1 .left) (sym (c .before .before .before .before .before .before .before .before .before .mark .ensures .0) ∙ c .before .before .before .before .before .before .before .before .if2 .left)) _ _ _ q _ (c .before .before .before .before .before .before .before .before .before .mark .ensures .1) _ (one-fewer _ _), counted-next _ _ _ _ (c .before .before .before .before .before .before .before .before .before .before .before .before .before .before .before .before .before .loop .inv .3) _ (omega (arith, c .before .before .before .before .before .before .before .before .before .before .if1 .left, c .before .before .before .before .before .before .before .before .before .before .before .before .before .before .before .before .before .before .before .second-at .ensures)) (omega (arith, c .before .before .before .before .before .before .before .before .before .before .if1 .left, c .before .before .before .before .before .before .before .before .before .before .before .before .before .before .before .before .before .before .before .second-at .ensures, at-few _ _ (c .before .before .before .before .before .before .before .before .before .before .before .before .before .before .before .before .before .before .before .before .before .before .before .before .before .pre .1 .0) (omega (arith, c .before .before .before .before .before .before .before .before .before .before .before .before .before .before .before .before .before .before .before .before .before .before .before .before .before .pre .1 .1)) (omega (arith, c .before .before .before .before .before .before .before .before .before .before .before .before .before .before .before .before .before .before .before .before .before .before .before .before .before .pre .1 .1)))) (sym (c .before .before .before .before .before .before .before .before .before .mark .ensures .0) ∙ c .before .before .before .before .before .before .before .before .if2 .left) _ (c .before .before .before .before .before .before .before .before .before .mark .ensures .1) _ (c .before .before .before .before .before .before .before .count-given .ensures))
 
-build-sparse-needed-of-requires : (t : ℕ) → build-sparse-lts.Need-needed-of-requires (
-  second-at-reads.Asked,
-  second-at-reads.Learnt,
-  new-reads.Asked,
-  new-reads.Learnt,
-  next-entry-reads.Asked,
-  next-entry-reads.Learnt,
-  mark-reads.Asked,
-  mark-reads.Learnt,
-  count-given-reads.Asked,
-  count-given-reads.Learnt,
-  build-member-below t,
-  build-member.Post,
-  needed-of-reads.Asked,
-  needed-of-reads.Learnt,
-) (build-sparse-at t) build-sparse.Post build-sparse-Inv-loop build-sparse-μ-loop
+build-sparse-needed-of-requires : (t : ℕ) → build-sparse-lts.Need-needed-of-requires (build-sparse-claims t) (build-sparse-at t) build-sparse.Post build-sparse-Inv-loop build-sparse-μ-loop
 build-sparse-needed-of-requires t c κs =
     (c .before .before .before .before .before .before .before .before .before .pre .1 .0, c .before .before .before .before .before .before .before .before .before .pre .1 .1, c .before .before .before .before .before .before .before .before .before .pre .1 .3)
 
-build-sparse-same-length-5 : (t : ℕ) → build-sparse-lts.Need-same-length-5 (
-  second-at-reads.Asked,
-  second-at-reads.Learnt,
-  new-reads.Asked,
-  new-reads.Learnt,
-  next-entry-reads.Asked,
-  next-entry-reads.Learnt,
-  mark-reads.Asked,
-  mark-reads.Learnt,
-  count-given-reads.Asked,
-  count-given-reads.Learnt,
-  build-member-below t,
-  build-member.Post,
-  needed-of-reads.Asked,
-  needed-of-reads.Learnt,
-) (build-sparse-at t) build-sparse.Post build-sparse-Inv-loop build-sparse-μ-loop
+build-sparse-same-length-5 : (t : ℕ) → build-sparse-lts.Need-same-length-5 (build-sparse-claims t) (build-sparse-at t) build-sparse.Post build-sparse-Inv-loop build-sparse-μ-loop
 build-sparse-same-length-5 t c = c .before .before .before .loop .inv .1
 
-build-sparse-returns-5 : (t : ℕ) → build-sparse-lts.Need-returns-5 (
-  second-at-reads.Asked,
-  second-at-reads.Learnt,
-  new-reads.Asked,
-  new-reads.Learnt,
-  next-entry-reads.Asked,
-  next-entry-reads.Learnt,
-  mark-reads.Asked,
-  mark-reads.Learnt,
-  count-given-reads.Asked,
-  count-given-reads.Learnt,
-  build-member-below t,
-  build-member.Post,
-  needed-of-reads.Asked,
-  needed-of-reads.Learnt,
-) (build-sparse-at t) build-sparse.Post build-sparse-Inv-loop build-sparse-μ-loop
+build-sparse-returns-5 : (t : ℕ) → build-sparse-lts.Need-returns-5 (build-sparse-claims t) (build-sparse-at t) build-sparse.Post build-sparse-Inv-loop build-sparse-μ-loop
 unfolding standOf
 build-sparse-returns-5 t c =
     lacks (sparseOrder (cardsAt (c .before .before .before .before .before .before .before .before .before .before .before .args .plan .now) (c .before .before .before .before .before .before .before .before .before .before .before .args .node))) _ _ (c .before .before .before .loop .seen .marks) _ _ _ _ (none-left _ _ (c .before .before .loop-test .left)) (sym (counted-end _ _ _ _ (c .before .before .before .loop .inv .3) _ (c .before .needed-of .ensures)) ∙ lt-ltb _ _ (c .if3 .taken)) ∙ sym (c .before .before .before .loop .inv .2)
 
-build-sparse-same-length-6 : (t : ℕ) → build-sparse-lts.Need-same-length-6 (
-  second-at-reads.Asked,
-  second-at-reads.Learnt,
-  new-reads.Asked,
-  new-reads.Learnt,
-  next-entry-reads.Asked,
-  next-entry-reads.Learnt,
-  mark-reads.Asked,
-  mark-reads.Learnt,
-  count-given-reads.Asked,
-  count-given-reads.Learnt,
-  build-member-below t,
-  build-member.Post,
-  needed-of-reads.Asked,
-  needed-of-reads.Learnt,
-) (build-sparse-at t) build-sparse.Post build-sparse-Inv-loop build-sparse-μ-loop
+build-sparse-same-length-6 : (t : ℕ) → build-sparse-lts.Need-same-length-6 (build-sparse-claims t) (build-sparse-at t) build-sparse.Post build-sparse-Inv-loop build-sparse-μ-loop
 build-sparse-same-length-6 t c = c .before .before .before .loop .inv .1
 
-build-sparse-returns-6 : (t : ℕ) → build-sparse-lts.Need-returns-6 (
-  second-at-reads.Asked,
-  second-at-reads.Learnt,
-  new-reads.Asked,
-  new-reads.Learnt,
-  next-entry-reads.Asked,
-  next-entry-reads.Learnt,
-  mark-reads.Asked,
-  mark-reads.Learnt,
-  count-given-reads.Asked,
-  count-given-reads.Learnt,
-  build-member-below t,
-  build-member.Post,
-  needed-of-reads.Asked,
-  needed-of-reads.Learnt,
-) (build-sparse-at t) build-sparse.Post build-sparse-Inv-loop build-sparse-μ-loop
+build-sparse-returns-6 : (t : ℕ) → build-sparse-lts.Need-returns-6 (build-sparse-claims t) (build-sparse-at t) build-sparse.Post build-sparse-Inv-loop build-sparse-μ-loop
 unfolding standOf
 build-sparse-returns-6 t c =
     done (sparseOrder (cardsAt (c .before .before .before .before .before .before .before .before .before .before .before .args .plan .now) (c .before .before .before .before .before .before .before .before .before .before .before .args .node))) _ _ (c .before .before .before .loop .seen .marks) _ _ _ _ (none-left _ _ (c .before .before .loop-test .left)) (sym (counted-end _ _ _ _ (c .before .before .before .loop .inv .3) _ (c .before .needed-of .ensures)) ∙ le-ltb _ _ (c .if3 .left)) (c .before .before .before .loop .inv .0) ∙ sym (c .before .before .before .loop .inv .2)
 
-build-value-cast-if1 : (t : ℕ) → build-value-lts.Need-cast-if1 (
-  kind-at-reads.Asked,
-  kind-at-reads.Learnt,
-  is-leaf-reads.Asked,
-  is-leaf-reads.Learnt,
-  build-leaf-reads.Asked,
-  build-leaf-reads.Learnt,
-  put-front-reads.Asked,
-  put-front-reads.Learnt,
-  build-sparse-below t,
-  build-sparse.Post,
-  build-row-below t,
-  build-row.Post,
-) (build-value-at t) build-value.Post
+build-value-cast-if1 : (t : ℕ) → build-value-lts.Need-cast-if1 (build-value-claims t) (build-value-at t) build-value.Post
 build-value-cast-if1 t c = search needs
 
-build-value-returns : (t : ℕ) → build-value-lts.Need-returns (
-  kind-at-reads.Asked,
-  kind-at-reads.Learnt,
-  is-leaf-reads.Asked,
-  is-leaf-reads.Learnt,
-  build-leaf-reads.Asked,
-  build-leaf-reads.Learnt,
-  put-front-reads.Asked,
-  put-front-reads.Learnt,
-  build-sparse-below t,
-  build-sparse.Post,
-  build-row-below t,
-  build-row.Post,
-) (build-value-at t) build-value.Post
+build-value-returns : (t : ℕ) → build-value-lts.Need-returns (build-value-claims t) (build-value-at t) build-value.Post
 unfolding standOf
 build-value-returns t c =
     value-node _ _ _ (c .before .before .before .before .before .before .before .pre .1 .0) _ _ _ (c .before .before .before .before .before .before .before .pre .1 .1) (c .before .before .before .before .before .before .before .pre .1 .2) _ _ (c .if1 .taken)
 
-build-value-kind-at-requires : (t : ℕ) → build-value-lts.Need-kind-at-requires (
-  kind-at-reads.Asked,
-  kind-at-reads.Learnt,
-  is-leaf-reads.Asked,
-  is-leaf-reads.Learnt,
-  build-leaf-reads.Asked,
-  build-leaf-reads.Learnt,
-  put-front-reads.Asked,
-  put-front-reads.Learnt,
-  build-sparse-below t,
-  build-sparse.Post,
-  build-row-below t,
-  build-row.Post,
-) (build-value-at t) build-value.Post
+build-value-kind-at-requires : (t : ℕ) → build-value-lts.Need-kind-at-requires (build-value-claims t) (build-value-at t) build-value.Post
 build-value-kind-at-requires t c κs = c .before .before .before .before .before .before .before .pre .1 .0
 
-build-value-add-below : (t : ℕ) → build-value-lts.Need-add-below (
-  kind-at-reads.Asked,
-  kind-at-reads.Learnt,
-  is-leaf-reads.Asked,
-  is-leaf-reads.Learnt,
-  build-leaf-reads.Asked,
-  build-leaf-reads.Learnt,
-  put-front-reads.Asked,
-  put-front-reads.Learnt,
-  build-sparse-below t,
-  build-sparse.Post,
-  build-row-below t,
-  build-row.Post,
-) (build-value-at t) build-value.Post
+build-value-add-below : (t : ℕ) → build-value-lts.Need-add-below (build-value-claims t) (build-value-at t) build-value.Post
 build-value-add-below t c =
     omega (arith, c .before .before .before .before .before .before .before .before .pre .1 .3)
 
-build-value-is-leaf-requires : (t : ℕ) → build-value-lts.Need-is-leaf-requires (
-  kind-at-reads.Asked,
-  kind-at-reads.Learnt,
-  is-leaf-reads.Asked,
-  is-leaf-reads.Learnt,
-  build-leaf-reads.Asked,
-  build-leaf-reads.Learnt,
-  put-front-reads.Asked,
-  put-front-reads.Learnt,
-  build-sparse-below t,
-  build-sparse.Post,
-  build-row-below t,
-  build-row.Post,
-) (build-value-at t) build-value.Post
+build-value-is-leaf-requires : (t : ℕ) → build-value-lts.Need-is-leaf-requires (build-value-claims t) (build-value-at t) build-value.Post
 build-value-is-leaf-requires t c κs = search needs
 
-build-value-build-leaf-requires : (t : ℕ) → build-value-lts.Need-build-leaf-requires (
-  kind-at-reads.Asked,
-  kind-at-reads.Learnt,
-  is-leaf-reads.Asked,
-  is-leaf-reads.Learnt,
-  build-leaf-reads.Asked,
-  build-leaf-reads.Learnt,
-  put-front-reads.Asked,
-  put-front-reads.Learnt,
-  build-sparse-below t,
-  build-sparse.Post,
-  build-row-below t,
-  build-row.Post,
-) (build-value-at t) build-value.Post
+build-value-build-leaf-requires : (t : ℕ) → build-value-lts.Need-build-leaf-requires (build-value-claims t) (build-value-at t) build-value.Post
 build-value-build-leaf-requires t c κs =
     (c .before .before .before .before .before .before .before .before .before .before .before .pre .1 .0, c .before .before .before .kind-at .ensures .is, sym (c .before .before .is-leaf .ensures) ∙ c .before .if2 .taken, c .before .before .before .before .before .before .before .before .before .before .before .pre .1 .4)
 
-build-value-same-length : (t : ℕ) → build-value-lts.Need-same-length (
-  kind-at-reads.Asked,
-  kind-at-reads.Learnt,
-  is-leaf-reads.Asked,
-  is-leaf-reads.Learnt,
-  build-leaf-reads.Asked,
-  build-leaf-reads.Learnt,
-  put-front-reads.Asked,
-  put-front-reads.Learnt,
-  build-sparse-below t,
-  build-sparse.Post,
-  build-row-below t,
-  build-row.Post,
-) (build-value-at t) build-value.Post
+build-value-same-length : (t : ℕ) → build-value-lts.Need-same-length (build-value-claims t) (build-value-at t) build-value.Post
 build-value-same-length t c = c .before .before .build-leaf .kept .1 .1 .1 .1 .1 .1 .0
 
-build-value-returns-2 : (t : ℕ) → build-value-lts.Need-returns-2 (
-  kind-at-reads.Asked,
-  kind-at-reads.Learnt,
-  is-leaf-reads.Asked,
-  is-leaf-reads.Learnt,
-  build-leaf-reads.Asked,
-  build-leaf-reads.Learnt,
-  put-front-reads.Asked,
-  put-front-reads.Learnt,
-  build-sparse-below t,
-  build-sparse.Post,
-  build-row-below t,
-  build-row.Post,
-) (build-value-at t) build-value.Post
+build-value-returns-2 : (t : ℕ) → build-value-lts.Need-returns-2 (build-value-claims t) (build-value-at t) build-value.Post
 build-value-returns-2 t c =
     c .before .before .build-leaf .ensures _ ∙ value-leaf _ _ _ (c .before .before .before .before .before .before .before .before .before .before .before .before .before .before .pre .1 .0) _ _ _ (c .before .before .before .before .before .before .before .before .before .before .before .before .before .before .pre .1 .1) (c .before .before .before .before .before .before .before .before .before .before .before .before .before .before .pre .1 .2) _ _ (c .before .before .before .before .before .before .before .if1 .left) (sym (ap leafKind (c .before .before .before .before .before .before .kind-at .ensures .is)) ∙ sym (c .before .before .before .before .before .is-leaf .ensures) ∙ c .before .before .before .before .if2 .taken)
 
-build-value-put-front-requires : (t : ℕ) → build-value-lts.Need-put-front-requires (
-  kind-at-reads.Asked,
-  kind-at-reads.Learnt,
-  is-leaf-reads.Asked,
-  is-leaf-reads.Learnt,
-  build-leaf-reads.Asked,
-  build-leaf-reads.Learnt,
-  put-front-reads.Asked,
-  put-front-reads.Learnt,
-  build-sparse-below t,
-  build-sparse.Post,
-  build-row-below t,
-  build-row.Post,
-) (build-value-at t) build-value.Post
+build-value-put-front-requires : (t : ℕ) → build-value-lts.Need-put-front-requires (build-value-claims t) (build-value-at t) build-value.Post
 build-value-put-front-requires t c κs =
     (c .before .before .before .before .before .before .before .before .before .before .before .pre .1 .0, inner-kind _ _ _ (c .before .before .before .kind-at .ensures) (sym (c .before .before .is-leaf .ensures) ∙ c .before .if2 .left), c .before .before .before .before .before .before .before .before .before .before .before .pre .1 .4)
 
-build-value-enum-known-opened : (t : ℕ) → build-value-lts.Need-enum-known-opened (
-  kind-at-reads.Asked,
-  kind-at-reads.Learnt,
-  is-leaf-reads.Asked,
-  is-leaf-reads.Learnt,
-  build-leaf-reads.Asked,
-  build-leaf-reads.Learnt,
-  put-front-reads.Asked,
-  put-front-reads.Learnt,
-  build-sparse-below t,
-  build-sparse.Post,
-  build-row-below t,
-  build-row.Post,
-) (build-value-at t) build-value.Post
+build-value-enum-known-opened : (t : ℕ) → build-value-lts.Need-enum-known-opened (build-value-claims t) (build-value-at t) build-value.Post
 build-value-enum-known-opened t c = search needs
 
-build-value-enum-told : (t : ℕ) → build-value-lts.Need-enum-told (
-  kind-at-reads.Asked,
-  kind-at-reads.Learnt,
-  is-leaf-reads.Asked,
-  is-leaf-reads.Learnt,
-  build-leaf-reads.Asked,
-  build-leaf-reads.Learnt,
-  put-front-reads.Asked,
-  put-front-reads.Learnt,
-  build-sparse-below t,
-  build-sparse.Post,
-  build-row-below t,
-  build-row.Post,
-) (build-value-at t) build-value.Post
+build-value-enum-told : (t : ℕ) → build-value-lts.Need-enum-told (build-value-claims t) (build-value-at t) build-value.Post
 build-value-enum-told t c = search needs
 
-build-value-same-length-2 : (t : ℕ) → build-value-lts.Need-same-length-2 (
-  kind-at-reads.Asked,
-  kind-at-reads.Learnt,
-  is-leaf-reads.Asked,
-  is-leaf-reads.Learnt,
-  build-leaf-reads.Asked,
-  build-leaf-reads.Learnt,
-  put-front-reads.Asked,
-  put-front-reads.Learnt,
-  build-sparse-below t,
-  build-sparse.Post,
-  build-row-below t,
-  build-row.Post,
-) (build-value-at t) build-value.Post
+build-value-same-length-2 : (t : ℕ) → build-value-lts.Need-same-length-2 (build-value-claims t) (build-value-at t) build-value.Post
 build-value-same-length-2 t c = c .before .before .before .before .put-front .kept .1 .1 .1 .1 .1 .0
 
-build-value-returns-3 : (t : ℕ) → build-value-lts.Need-returns-3 (
-  kind-at-reads.Asked,
-  kind-at-reads.Learnt,
-  is-leaf-reads.Asked,
-  is-leaf-reads.Learnt,
-  build-leaf-reads.Asked,
-  build-leaf-reads.Learnt,
-  put-front-reads.Asked,
-  put-front-reads.Learnt,
-  build-sparse-below t,
-  build-sparse.Post,
-  build-row-below t,
-  build-row.Post,
-) (build-value-at t) build-value.Post
+build-value-returns-3 : (t : ℕ) → build-value-lts.Need-returns-3 (build-value-claims t) (build-value-at t) build-value.Post
 unfolding standOf
 build-value-returns-3 t c =
     value-shut _ _ _ (c .before .before .before .before .before .before .before .before .before .before .before .before .before .before .before .before .pre .1 .0) _ _ _ (c .before .before .before .before .before .before .before .before .before .before .before .before .before .before .before .before .pre .1 .1) (c .before .before .before .before .before .before .before .before .before .before .before .before .before .before .before .before .pre .1 .2) _ _ (c .before .before .before .before .before .before .before .before .before .if1 .left) _ (inner-kind _ _ _ (c .before .before .before .before .before .before .before .before .kind-at .ensures) (sym (c .before .before .before .before .before .before .before .is-leaf .ensures) ∙ c .before .before .before .before .before .before .if2 .left)) _ _ (c .before .before .before .before .put-front .ensures) (c .enum-told .given .1)
 
-build-value-cast-count : (t : ℕ) → build-value-lts.Need-cast-count (
-  kind-at-reads.Asked,
-  kind-at-reads.Learnt,
-  is-leaf-reads.Asked,
-  is-leaf-reads.Learnt,
-  build-leaf-reads.Asked,
-  build-leaf-reads.Learnt,
-  put-front-reads.Asked,
-  put-front-reads.Learnt,
-  build-sparse-below t,
-  build-sparse.Post,
-  build-row-below t,
-  build-row.Post,
-) (build-value-at t) build-value.Post
+build-value-cast-count : (t : ℕ) → build-value-lts.Need-cast-count (build-value-claims t) (build-value-at t) build-value.Post
 build-value-cast-count t c = search needs
 
-build-value-build-sparse-requires : (t : ℕ) → build-value-lts.Need-build-sparse-requires (
-  kind-at-reads.Asked,
-  kind-at-reads.Learnt,
-  is-leaf-reads.Asked,
-  is-leaf-reads.Learnt,
-  build-leaf-reads.Asked,
-  build-leaf-reads.Learnt,
-  put-front-reads.Asked,
-  put-front-reads.Learnt,
-  build-sparse-below t,
-  build-sparse.Post,
-  build-row-below t,
-  build-row.Post,
-) (build-value-at t) build-value.Post
+build-value-build-sparse-requires : (t : ℕ) → build-value-lts.Need-build-sparse-requires (build-value-claims t) (build-value-at t) build-value.Post
 build-value-build-sparse-requires t c κs =
     let k = inner-kind _ _ _ (c .before .before .before .before .before .before .before .before .before .before .before .before .kind-at .ensures) (sym (c .before .before .before .before .before .before .before .before .before .before .before .is-leaf .ensures) ∙ c .before .before .before .before .before .before .before .before .before .before .if2 .left) in
     (omega (arith, c .before .before .before .before .before .before .before .before .before .before .before .before .before .before .before .before .before .before .before .before .pre .0), (c .before .before .before .before .before .before .before .before .before .before .before .before .before .before .before .before .before .before .before .before .pre .1 .0, sym (c .before .before .before .before .before .before .before .before .before .before .before .before .kind-at .ensures .is) ∙ c .before .if3 .taken, opened-small _ _ _ (c .before .before .before .before .before .before .before .before .before .before .before .before .before .before .before .before .before .before .before .before .pre .1 .0) _ _ _ (c .before .before .before .before .before .before .before .before .before .before .before .before .before .before .before .before .before .before .before .before .pre .1 .1) (c .before .before .before .before .before .before .before .before .before .before .before .before .before .before .before .before .before .before .before .before .pre .1 .2) _ _ (c .before .before .before .before .before .before .before .before .before .before .before .before .before .if1 .left) _ k _ _ (c .before .before .before .before .before .before .before .before .put-front .ensures) _ _ (c .before .before .before .before .opened .given .1), c .before .before .before .before .before .before .before .before .before .before .before .before .before .before .before .before .before .before .before .before .pre .1 .5))
 
-build-value-same-length-3 : (t : ℕ) → build-value-lts.Need-same-length-3 (
-  kind-at-reads.Asked,
-  kind-at-reads.Learnt,
-  is-leaf-reads.Asked,
-  is-leaf-reads.Learnt,
-  build-leaf-reads.Asked,
-  build-leaf-reads.Learnt,
-  put-front-reads.Asked,
-  put-front-reads.Learnt,
-  build-sparse-below t,
-  build-sparse.Post,
-  build-row-below t,
-  build-row.Post,
-) (build-value-at t) build-value.Post
+build-value-same-length-3 : (t : ℕ) → build-value-lts.Need-same-length-3 (build-value-claims t) (build-value-at t) build-value.Post
 build-value-same-length-3 t c =
     c .before .before .build-sparse .kept .1 .1 .1 .1 .1 .1 .1 .0 ∙ c .before .before .before .before .before .before .before .before .before .before .before .put-front .kept .1 .1 .1 .1 .1 .0
 
-build-value-returns-4 : (t : ℕ) → build-value-lts.Need-returns-4 (
-  kind-at-reads.Asked,
-  kind-at-reads.Learnt,
-  is-leaf-reads.Asked,
-  is-leaf-reads.Learnt,
-  build-leaf-reads.Asked,
-  build-leaf-reads.Learnt,
-  put-front-reads.Asked,
-  put-front-reads.Learnt,
-  build-sparse-below t,
-  build-sparse.Post,
-  build-row-below t,
-  build-row.Post,
-) (build-value-at t) build-value.Post
+build-value-returns-4 : (t : ℕ) → build-value-lts.Need-returns-4 (build-value-claims t) (build-value-at t) build-value.Post
 build-value-returns-4 t c =
     let k = inner-kind _ _ _ (c .before .before .before .before .before .before .before .before .before .before .before .before .before .before .before .kind-at .ensures) (sym (c .before .before .before .before .before .before .before .before .before .before .before .before .before .before .is-leaf .ensures) ∙ c .before .before .before .before .before .before .before .before .before .before .before .before .before .if2 .left) in
     c .before .before .build-sparse .ensures ∙ value-sparse _ _ _ (c .before .before .before .before .before .before .before .before .before .before .before .before .before .before .before .before .before .before .before .before .before .before .before .pre .1 .0) _ _ _ (c .before .before .before .before .before .before .before .before .before .before .before .before .before .before .before .before .before .before .before .before .before .before .before .pre .1 .1) (c .before .before .before .before .before .before .before .before .before .before .before .before .before .before .before .before .before .before .before .before .before .before .before .pre .1 .2) _ _ (c .before .before .before .before .before .before .before .before .before .before .before .before .before .before .before .before .if1 .left) _ k _ _ (c .before .before .before .before .before .before .before .before .before .before .before .put-front .ensures) _ _ (c .before .before .before .before .before .before .before .opened .given .1) (c .before .before .before .before .if3 .taken)
 
-build-value-build-row-requires : (t : ℕ) → build-value-lts.Need-build-row-requires (
-  kind-at-reads.Asked,
-  kind-at-reads.Learnt,
-  is-leaf-reads.Asked,
-  is-leaf-reads.Learnt,
-  build-leaf-reads.Asked,
-  build-leaf-reads.Learnt,
-  put-front-reads.Asked,
-  put-front-reads.Learnt,
-  build-sparse-below t,
-  build-sparse.Post,
-  build-row-below t,
-  build-row.Post,
-) (build-value-at t) build-value.Post
+build-value-build-row-requires : (t : ℕ) → build-value-lts.Need-build-row-requires (build-value-claims t) (build-value-at t) build-value.Post
 build-value-build-row-requires t c κs =
     let k = inner-kind _ _ _ (c .before .before .before .before .before .before .before .before .before .before .before .before .kind-at .ensures) (sym (c .before .before .before .before .before .before .before .before .before .before .before .is-leaf .ensures) ∙ c .before .before .before .before .before .before .before .before .before .before .if2 .left) in
     (omega (arith, c .before .before .before .before .before .before .before .before .before .before .before .before .before .before .before .before .before .before .before .before .pre .0), (c .before .before .before .before .before .before .before .before .before .before .before .before .before .before .before .before .before .before .before .before .pre .1 .0, opened-holds _ _ _ (c .before .before .before .before .before .before .before .before .before .before .before .before .before .before .before .before .before .before .before .before .pre .1 .0) _ _ _ (c .before .before .before .before .before .before .before .before .before .before .before .before .before .before .before .before .before .before .before .before .pre .1 .1) (c .before .before .before .before .before .before .before .before .before .before .before .before .before .before .before .before .before .before .before .before .pre .1 .2) _ _ (c .before .before .before .before .before .before .before .before .before .before .before .before .before .if1 .left) _ k _ _ (c .before .before .before .before .before .before .before .before .put-front .ensures) _ _ (c .before .before .before .before .opened .given .1) (c .before .if3 .left), omega (arith, opened-first _ _ _ (c .before .before .before .before .before .before .before .before .before .before .before .before .before .before .before .before .before .before .before .before .pre .1 .0) _ _ _ (c .before .before .before .before .before .before .before .before .before .before .before .before .before .before .before .before .before .before .before .before .pre .1 .1) (c .before .before .before .before .before .before .before .before .before .before .before .before .before .before .before .before .before .before .before .before .pre .1 .2) _ _ (c .before .before .before .before .before .before .before .before .before .before .before .before .before .if1 .left) _ k _ _ (c .before .before .before .before .before .before .before .before .put-front .ensures) _ _ (c .before .before .before .before .opened .given .1) (c .before .if3 .left), c .before .before .struct-known2 .given), opened-small _ _ _ (c .before .before .before .before .before .before .before .before .before .before .before .before .before .before .before .before .before .before .before .before .pre .1 .0) _ _ _ (c .before .before .before .before .before .before .before .before .before .before .before .before .before .before .before .before .before .before .before .before .pre .1 .1) (c .before .before .before .before .before .before .before .before .before .before .before .before .before .before .before .before .before .before .before .before .pre .1 .2) _ _ (c .before .before .before .before .before .before .before .before .before .before .before .before .before .if1 .left) _ k _ _ (c .before .before .before .before .before .before .before .before .put-front .ensures) _ _ (c .before .before .before .before .opened .given .1), c .before .before .before .before .before .before .before .before .before .before .before .before .before .before .before .before .before .before .before .before .pre .1 .5))
 
-build-value-same-length-4 : (t : ℕ) → build-value-lts.Need-same-length-4 (
-  kind-at-reads.Asked,
-  kind-at-reads.Learnt,
-  is-leaf-reads.Asked,
-  is-leaf-reads.Learnt,
-  build-leaf-reads.Asked,
-  build-leaf-reads.Learnt,
-  put-front-reads.Asked,
-  put-front-reads.Learnt,
-  build-sparse-below t,
-  build-sparse.Post,
-  build-row-below t,
-  build-row.Post,
-) (build-value-at t) build-value.Post
+build-value-same-length-4 : (t : ℕ) → build-value-lts.Need-same-length-4 (build-value-claims t) (build-value-at t) build-value.Post
 build-value-same-length-4 t c =
     c .before .before .build-row .kept .1 .1 .1 .1 .1 .1 .1 .1 .0 ∙ c .before .before .before .before .before .before .before .before .before .before .before .put-front .kept .1 .1 .1 .1 .1 .0
 
-build-value-returns-5 : (t : ℕ) → build-value-lts.Need-returns-5 (
-  kind-at-reads.Asked,
-  kind-at-reads.Learnt,
-  is-leaf-reads.Asked,
-  is-leaf-reads.Learnt,
-  build-leaf-reads.Asked,
-  build-leaf-reads.Learnt,
-  put-front-reads.Asked,
-  put-front-reads.Learnt,
-  build-sparse-below t,
-  build-sparse.Post,
-  build-row-below t,
-  build-row.Post,
-) (build-value-at t) build-value.Post
+build-value-returns-5 : (t : ℕ) → build-value-lts.Need-returns-5 (build-value-claims t) (build-value-at t) build-value.Post
 build-value-returns-5 t c =
     let k = inner-kind _ _ _ (c .before .before .before .before .before .before .before .before .before .before .before .before .before .before .before .kind-at .ensures) (sym (c .before .before .before .before .before .before .before .before .before .before .before .before .before .before .is-leaf .ensures) ∙ c .before .before .before .before .before .before .before .before .before .before .before .before .before .if2 .left) in
     c .before .before .build-row .ensures ∙ value-row _ _ _ (c .before .before .before .before .before .before .before .before .before .before .before .before .before .before .before .before .before .before .before .before .before .before .before .pre .1 .0) _ _ _ (c .before .before .before .before .before .before .before .before .before .before .before .before .before .before .before .before .before .before .before .before .before .before .before .pre .1 .1) (c .before .before .before .before .before .before .before .before .before .before .before .before .before .before .before .before .before .before .before .before .before .before .before .pre .1 .2) _ _ (c .before .before .before .before .before .before .before .before .before .before .before .before .before .before .before .before .if1 .left) _ k _ _ (c .before .before .before .before .before .before .before .before .before .before .before .put-front .ensures) _ _ (c .before .before .before .before .before .before .before .opened .given .1) (c .before .before .before .before .if3 .left)
 
 pub +build-member+build-row+build-sparse+build-value-spec : {M : Type 1} → statement M
 +build-member+build-row+build-sparse+build-value-spec =
-    close μ-build-member μ-build-row μ-build-sparse μ-build-value (λ t. build-member-lts.spec (
-      kind-at-reads.Asked,
-      kind-at-reads.Learnt,
-      ref-of-reads.Asked,
-      ref-of-reads.Learnt,
-      build-absent-reads.Asked,
-      build-absent-reads.Learnt,
-      head-size-reads.Asked,
-      head-size-reads.Learnt,
-      build-value-below t,
-      build-value.Post,
-      put-head-reads.Asked,
-      put-head-reads.Learnt,
-    )
-    (build-member-at t)
+    close μ-build-member μ-build-row μ-build-sparse μ-build-value (λ t. build-member-lts.spec (build-member-claims t) (build-member-at t)
     build-member.Post
     (build-member-kind-at-requires t)
     (build-member-cast-ref-of t)
@@ -1521,53 +516,35 @@ pub +build-member+build-row+build-sparse+build-value-spec : {M : Type 1} → sta
     (build-member-put-head-requires t)
     (build-member-same-length-3 t)
     (build-member-returns-3 t))
-    (λ t. build-row-lts.spec (
-      next-entry-reads.Asked,
-      next-entry-reads.Learnt,
-      build-member-below t,
-      build-member.Post,
-    )
-    (build-row-at t)
+    (λ t. build-row-lts.spec (build-row-claims t) (build-row-at t)
     build-row.Post
     build-row-Inv-loop
     build-row-μ-loop
+    (build-row-kind-at-requires t)
     (build-row-add-end t)
     (build-row-loop-holds t)
+    (build-row-put-leaves-requires t)
+    (build-row-same-length t)
+    (build-row-returns t)
     (build-row-next-entry-requires t)
     (build-row-enum-known-entry t)
     (build-row-enum-told t)
-    (build-row-same-length t)
-    (build-row-returns t)
-    (build-row-cast-if1 t)
     (build-row-same-length-2 t)
     (build-row-returns-2 t)
+    (build-row-cast-if2 t)
+    (build-row-same-length-3 t)
+    (build-row-returns-3 t)
     (build-row-build-member-requires t)
     (build-row-enum-known-built t)
     (build-row-enum-told-2 t)
-    (build-row-same-length-3 t)
-    (build-row-returns-3 t)
+    (build-row-same-length-4 t)
+    (build-row-returns-4 t)
     (build-row-add-i t)
     (build-row-loop-less t)
     (build-row-loop-again t)
-    (build-row-same-length-4 t)
-    (build-row-returns-4 t))
-    (λ t. build-sparse-lts.spec (
-      second-at-reads.Asked,
-      second-at-reads.Learnt,
-      new-reads.Asked,
-      new-reads.Learnt,
-      next-entry-reads.Asked,
-      next-entry-reads.Learnt,
-      mark-reads.Asked,
-      mark-reads.Learnt,
-      count-given-reads.Asked,
-      count-given-reads.Learnt,
-      build-member-below t,
-      build-member.Post,
-      needed-of-reads.Asked,
-      needed-of-reads.Learnt,
-    )
-    (build-sparse-at t)
+    (build-row-same-length-5 t)
+    (build-row-returns-5 t))
+    (λ t. build-sparse-lts.spec (build-sparse-claims t) (build-sparse-at t)
     build-sparse.Post
     build-sparse-Inv-loop
     build-sparse-μ-loop
@@ -1599,21 +576,7 @@ pub +build-member+build-row+build-sparse+build-value-spec : {M : Type 1} → sta
     (build-sparse-returns-5 t)
     (build-sparse-same-length-6 t)
     (build-sparse-returns-6 t))
-    λ t. build-value-lts.spec (
-      kind-at-reads.Asked,
-      kind-at-reads.Learnt,
-      is-leaf-reads.Asked,
-      is-leaf-reads.Learnt,
-      build-leaf-reads.Asked,
-      build-leaf-reads.Learnt,
-      put-front-reads.Asked,
-      put-front-reads.Learnt,
-      build-sparse-below t,
-      build-sparse.Post,
-      build-row-below t,
-      build-row.Post,
-    )
-    (build-value-at t)
+    λ t. build-value-lts.spec (build-value-claims t) (build-value-at t)
     build-value.Post
     (build-value-cast-if1 t)
     (build-value-returns t)

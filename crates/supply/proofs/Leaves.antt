@@ -1,0 +1,78 @@
+-- The laws of a leaf that is put out with its head at once. Assumes nothing.
+use mathlib.Core.Path.{_≡_, refl, ap, sym, _∙_}
+use mathlib.Core.Bool.{Bool, true, false}
+use mathlib.Core.List.{List}
+use mathlib.Core.Option.{some}
+use Prim.Native.Nat.{ℕ, _+_, _-_, _<_, _≤_}
+use native.Mathlib.Omega.{arith}
+use native.Mathlib.Nat.{add-sub-cancel-left}
+use lib.Dec.{eqb}
+use lib.ListN.{length, take, drop, getD, length-take, length-drop}
+use lib.Seq.{sets}
+use Rattle.wire.specs.Choice.{pick}
+use Rattle.scalars.specs.Scalars.{sized}
+use Rattle.scalars.specs.Sizes.{Fixed}
+use Rattle.heads.specs.Heads.{gone}
+use Rattle.rules.specs.Node.{refAt}
+use Rattle.plan.specs.Plan.{look, At}
+use Rattle.plan.specs.Readers.{KindAt}
+use Rattle.plan.proofs.Refs.{kind-gives}
+use Rattle.value.specs.Walk.{leafKind, leafGood, Container}
+use Rattle.value.proofs.Nodes.{good-scalar}
+use Rattle.value.proofs.Members.{inner-kind}
+use Rattle.supply.specs.Supply.{Claim, next, nextOf}
+use Rattle.supply.specs.Build.{Made, partMade, buildOf}
+use Rattle.supply.specs.Emitting.{Stand, stands, put-at, headOf, headSize}
+use Rattle.supply.proofs.Containers.{by-kind}
+use Rattle.supply.proofs.Parts.{leaf-done, member-go}
+use Rattle.supply.proofs.Values.{value-leaf}
+
+-- ---- whether its bytes are permitted
+
+-- by their number alone
+pub fits-size : (p : List ℕ) (k kind : ℕ) → kind ≡ getD p k 0 → kind ≡ 1 → (f : ℕ) → f ≡ getD p (k + 1) 0 → (size : ℕ) → Fixed f size → 0 < size
+    → (src : List ℕ) (s e : ℕ) → s ≤ e → e ≤ length src → eqb (e - s) size ≡ leafGood (look p k) (take (e - s) (drop s src))
+unfolding sized
+fits-size p k kind is one f ef size fixed z src s e low high =
+    let n : length (take (e - s) (drop s src)) ≡ e - s = simp (length-take, length-drop) (omega arith) in
+    ap (λ (m : ℕ). eqb m size) (sym n) ∙ sym (fixed .rule z (take (e - s) (drop s src))) ∙ good-scalar p k kind is (take (e - s) (drop s src)) f ef one
+
+-- a container has none
+pub fits-none : (p : List ℕ) (k kind : ℕ) → Container p k kind → (b : List ℕ) → false ≡ leafGood (look p k) b
+unfolding leafGood
+fits-none p k kind c b = by-kind p k kind c (λ m v. false ≡ leafGood v b) refl refl refl refl refl refl
+
+fits-leaf : (p : List ℕ) (k : ℕ) → KindAt p k (getD p k 0) → (b : List ℕ) → leafGood (look p k) b ≡ true → leafKind (getD p k 0) ≡ true
+fits-leaf p k a b g = go (leafKind (getD p k 0)) refl
+  where
+    go : (t : Bool) → leafKind (getD p k 0) ≡ t → leafKind (getD p k 0) ≡ true
+    go true e = e
+    go false e =
+        let x : false ≡ true = fits-none p k (getD p k 0) (inner-kind p k (getD p k 0) a e) b ∙ g in let z : _≡_ {A = ℕ} 0 1 = cc in absurd (omega arith)
+
+-- ---- its head and its bytes
+
+module _ (src p : List ℕ) (k kind : ℕ) (is : Container p k kind) (c : Claim) (r : ℕ) (er : refAt (look p k) (c .index) ≡ some r) (a : At p r) (en : c .node ≡ r) (z : c .count ≡ 0) (at : ℕ) (out : List ℕ) where
+  pub leaf-put : (h : ℕ) → h ≡ headSize kind → at + h + (c .start + c .size - c .start) ≤ 65535 → c .start + c .size ≤ length src
+      → (b : Bool) → b ≡ leafGood (look p r) (take (c .start + c .size - c .start) (drop (c .start) src)) → b ≡ true
+      → (out₁ : List ℕ) → out₁ ≡ sets out (at + h) (take (c .start + c .size - c .start) (drop (c .start) src))
+      → (out₂ : List ℕ) → out₂ ≡ sets out₁ at (headOf kind (c .index) (c .size))
+      → (rest ws : List ℕ) → nextOf ws ≡ next c rest
+      → stands rest (at + h + (c .start + c .size - c .start)) out₂
+      ≡ put-at (partMade (buildOf src (look p)) (look p k) (refAt (look p k) (c .index)) c rest ws) at out
+  leaf-put h eh small inside b eb true-b out₁ o₁ out₂ o₂ rest ws e =
+      let n : c .start + c .size - c .start ≡ c .size = add-sub-cancel-left (c .start) (c .size) in
+      let fit : leafGood (look p r) (take (c .start + c .size - c .start) (drop (c .start) src)) ≡ true = sym eb ∙ true-b in
+      let there : c .size ≡ gone → ⊥ = λ g. omega arith in
+      let few : at + h + c .size ≤ 65535 = omega arith in
+      let q : stands rest (at + h + c .size) out₁ ≡ put-at (buildOf src (look p) r (c .index) ws) (at + h) out =
+      leaf-done (leafGood (look p r)) src c rest (at + h) out z inside (take (c .start + c .size - c .start) (drop (c .start) src)) refl
+      (leafGood (look p r) (take (c .start + c .size - c .start) (drop (c .start) src))) refl fit few out₁ o₁
+      ∙ value-leaf src p r a c rest ws e there (at + h) out en (fits-leaf p r (kind-gives p r a) (take (c .start + c .size - c .start) (drop (c .start) src)) fit) in
+      ap (λ (m : ℕ). stands rest (at + h + m) out₂) n
+      ∙ member-go p k kind is (buildOf src (look p)) c rest ws r er at out there h eh rest (at + h + c .size) out₁ q out₂
+      (o₂ ∙ ap (λ (m : ℕ). sets out₁ at (headOf kind (c .index) m)) (sym (add-sub-cancel-left (at + h) (c .size))))
+
+-- the same output
+pub same-out : (w : Stand) (m : Made) (at : ℕ) (x y : List ℕ) → w ≡ put-at m at x → y ≡ x → w ≡ put-at m at y
+same-out w m at x y q e = rw e q
