@@ -1,7 +1,7 @@
 -- The laws of a leaf that is put out with its head at once. Assumes nothing.
 use mathlib.Core.Path.{_≡_, refl, ap, sym, _∙_}
 use mathlib.Core.Bool.{Bool, true, false}
-use mathlib.Core.List.{List}
+use mathlib.Core.List.{List, [], append-nil}
 use mathlib.Core.Option.{some}
 use Prim.Native.Nat.{ℕ, _+_, _-_, _<_, _≤_}
 use native.Mathlib.Omega.{arith}
@@ -13,7 +13,8 @@ use Rattle.wire.specs.Choice.{pick}
 use Rattle.scalars.specs.Scalars.{sized}
 use Rattle.scalars.specs.Sizes.{Fixed}
 use Rattle.heads.specs.Heads.{gone}
-use Rattle.rules.specs.Node.{refAt}
+use borrow.Author.Tests.{eq-eqb}
+use Rattle.rules.specs.Node.{Node, refAt}
 use Rattle.plan.specs.Plan.{look, At}
 use Rattle.plan.specs.Readers.{KindAt}
 use Rattle.plan.proofs.Refs.{kind-gives}
@@ -21,11 +22,12 @@ use Rattle.value.specs.Walk.{leafKind, leafGood, Container}
 use Rattle.value.proofs.Nodes.{good-scalar}
 use Rattle.value.proofs.Members.{inner-kind}
 use Rattle.supply.specs.Supply.{Claim, next, nextOf}
-use Rattle.supply.specs.Build.{Made, partMade, buildOf}
+use Rattle.supply.specs.Build.{Made, wrong, made, before, andThen, Builder, rowOrder, partMade, memberMade, stateAfter, elementsMade, buildOf}
 use Rattle.supply.specs.Emitting.{Stand, stands, put-at, headOf, headSize}
 use Rattle.supply.proofs.Containers.{by-kind}
 use Rattle.supply.proofs.Parts.{leaf-done, member-go}
 use Rattle.supply.proofs.Values.{value-leaf}
+use Rattle.supply.proofs.Elements.{done}
 
 -- ---- whether its bytes are permitted
 
@@ -76,3 +78,26 @@ module _ (src p : List ℕ) (k kind : ℕ) (is : Container p k kind) (c : Claim)
 -- the same output
 pub same-out : (w : Stand) (m : Made) (at : ℕ) (x y : List ℕ) → w ≡ put-at m at x → y ≡ x → w ≡ put-at m at y
 same-out w m at x y q e = rw e q
+
+-- ---- a row of one element
+
+one-alone : (m : Made) → andThen m (made []) ≡ m
+unfolding andThen before
+one-alone wrong = refl
+one-alone (made b ws) = ap (λ (x : List ℕ). made x ws) (append-nil b)
+
+module _ (rule : Builder) (v : Node) (c : Claim) (rest ws : List ℕ) (e : nextOf ws ≡ next c rest) where
+  one-is : elementsMade rowOrder rule v 1 (c .index) ws ≡ partMade rule v (refAt v (c .index)) c rest ws
+  unfolding elementsMade memberMade stateAfter pick
+  one-is = rw (e, eq-eqb (c .index) (c .index) refl) (one-alone (partMade rule v (refAt v (c .index)) c rest ws))
+
+  -- where it was put out
+  pub one-put : (at : ℕ) (out : List ℕ) (i at′ : ℕ) (us out′ : List ℕ)
+      → put-at (elementsMade rowOrder rule v (c .index + 1 - c .index) (c .index) ws) at out ≡ put-at (elementsMade rowOrder rule v (c .index + 1 - i) i us) at′ out′
+      → c .index ≤ i → (i ≡ c .index → ⊥) → at′ ≤ 65535 → stands us at′ out′ ≡ put-at (partMade rule v (refAt v (c .index)) c rest ws) at out
+  one-put at out i at′ us out′ q low other small =
+      let n : c .index + 1 - c .index ≡ 1 = add-sub-cancel-left (c .index) 1 in
+      done rowOrder rule v i us at′ out′ (c .index + 1 - i) (omega (arith, other)) refl small
+      ∙ sym q
+      ∙ ap (λ (m : ℕ). put-at (elementsMade rowOrder rule v m (c .index) ws) at out) n
+      ∙ ap (λ (m : Made). put-at m at out) one-is

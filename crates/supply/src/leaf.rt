@@ -76,7 +76,8 @@ fn put_leaf(
     0
 }
 
-// Puts out the elements with the indexes from `first` up to `end`, as far as they are leaves, and says where that ends.
+// Puts out the elements with the indexes from `first` up to `end`, as far as they are leaves, and says where that ends. If the first is
+// none, nothing was put out.
 pub fn put_leaves(
     plan: &[u32],
     node: usize,
@@ -90,6 +91,7 @@ pub fn put_leaves(
     mut at: usize,
 ) -> Place
     requires { ⌜ (At (now plan) node) × (KindAt (now plan) node kind) × (Holds (look (now plan) node) end) × (first ≤ end) × (end < 2 ^ 34) × (at ≤ 65535) ⌝ }
+    ensures at_once { λ r. ⌜ (r .index ≡ first → (r .word ≡ word) × (r .at ≡ at) × (now (out .exit) ≡ now (out .entry))) ⌝ }
     ensures { λ r. ⌜ (first ≤ r .index) × (r .index ≤ end) × (r .at ≤ 65535) × (put-at (elementsMade rowOrder (buildOf (now (src .entry)) (look (now (plan .entry)))) (look (now (plan .entry)) node) (end - first) first (drop word (now (list .entry)))) at (now (out .entry)) ≡ put-at (elementsMade rowOrder (buildOf (now (src .entry)) (look (now (plan .entry)))) (look (now (plan .entry)) node) (end - r .index) (r .index) (drop (r .word) (now (list .entry)))) (r .at) (now (out .exit))) ⌝ }
 {
     let mut index = first;

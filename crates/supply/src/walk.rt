@@ -214,7 +214,7 @@ fn build_sparse(
             return Built::Failed;
         }
         given = value::node::count_given(plan, node, i, given);
-        let built = build_member(plan, needs, node, src, list, entry, word, out, at);
+        let built = build_given(plan, needs, node, src, list, entry, word, out, at);
         let Built::Done { word: w, at: a } = built else {
             return Built::Failed;
         };
@@ -225,6 +225,32 @@ fn build_sparse(
         return Built::Failed;
     }
     Built::Done { word, at }
+}
+
+// The element of a sparse object whose entry is at a word of the list: a leaf by the loop that is theirs, as a row of one.
+fn build_given(
+    plan: &[u32],
+    needs: &[u32],
+    node: usize,
+    src: &[u8],
+    list: &[u32],
+    entry: Entry,
+    word: usize,
+    out: &mut [u8],
+    at: usize,
+) -> Built
+    requires { ⌜ (At (now plan) node) × (getD (now plan) node 0 ≡ 6) × (Refers (look (now plan) node) (entry .index)) × (Holds (look (now plan) node) (entry .index + 1)) × (nextOf (drop word (now list)) ≡ next (claim entry) (drop (word + 5) (now list))) × (word + 5 ≤ length (now list)) × (at ≤ 65535) × (Memo (now plan) (now needs)) ⌝ }
+    ensures { λ r. ⌜ standOf r (now (list .entry)) (now (out .exit)) ≡ put-at (partMade (buildOf (now (src .entry)) (look (now (plan .entry)))) (look (now (plan .entry)) node) (refAt (look (now (plan .entry)) node) (entry .index)) (claim entry) (drop (word + 5) (now (list .entry))) (drop word (now (list .entry)))) at (now (out .entry)) ⌝ }
+{
+    let i = entry.index as usize;
+    let place = leaf::put_leaves(plan, node, 6, src, list, i, i + 1, word, out, at);
+    if place.index == i {
+        return build_member(plan, needs, node, src, list, entry, word, out, at);
+    }
+    Built::Done {
+        word: place.word,
+        at: place.at,
+    }
 }
 
 // The element whose entry is at a word of the list. Its head has the length of its data, which is known once that was built, so the head is

@@ -21,13 +21,14 @@ Inv-loop plan node kind src list first end word₀ out₀ at₀ index₀ word ou
     (first ≤ index) × (index ≤ end) × (at ≤ 65535) × (length out ≡ length out₀)
     × (put-at (elementsMade rowOrder (buildOf src (look plan)) (look plan node) (end - first) first (drop word₀ list)) at₀ out₀
     ≡ put-at (elementsMade rowOrder (buildOf src (look plan)) (look plan node) (end - index) index (drop word list)) at out)
+    × (index ≡ first → (word ≡ word₀) × (at ≡ at₀) × (out ≡ out₀))
 
 abbrev μ-loop : tie.MeasureT-loop
 μ-loop plan node kind src list first end word₀ out₀ at₀ index₀ word out at index = end - index
 
 loop-holds : tie.Need-loop-holds Inv-loop μ-loop
 loop-holds c =
-    (omega arith, c .before .before .before .before .pre .3, c .before .before .before .before .pre .5, refl, refl)
+    (omega arith, c .before .before .before .before .pre .3, c .before .before .before .before .pre .5, refl, refl, λ e. (refl, refl, refl))
 
 next-entry-requires : tie.Need-next-entry-requires Inv-loop μ-loop
 next-entry-requires c κs = search needs
@@ -43,7 +44,7 @@ same-length c = c .before .before .before .before .loop .inv .3
 
 returns : tie.Need-returns Inv-loop μ-loop
 returns c =
-    (c .before .before .before .before .loop .inv .0, c .before .before .before .before .loop .inv .1, c .before .before .before .before .loop .inv .2, c .before .before .before .before .loop .inv .4)
+    (c .before .before .before .before .loop .inv .5, (c .before .before .before .before .loop .inv .0, c .before .before .before .before .loop .inv .1, c .before .before .before .before .loop .inv .2, c .before .before .before .before .loop .inv .4))
 
 cast-if1 : tie.Need-cast-if1 Inv-loop μ-loop
 cast-if1 c = search needs
@@ -53,7 +54,7 @@ same-length-2 c = c .before .before .before .before .before .before .before .loo
 
 returns-2 : tie.Need-returns-2 Inv-loop μ-loop
 returns-2 c =
-    (c .before .before .before .before .before .before .before .loop .inv .0, c .before .before .before .before .before .before .before .loop .inv .1, c .before .before .before .before .before .before .before .loop .inv .2, c .before .before .before .before .before .before .before .loop .inv .4)
+    (c .before .before .before .before .before .before .before .loop .inv .5, (c .before .before .before .before .before .before .before .loop .inv .0, c .before .before .before .before .before .before .before .loop .inv .1, c .before .before .before .before .before .before .before .loop .inv .2, c .before .before .before .before .before .before .before .loop .inv .4))
 
 put-leaf-requires : tie.Need-put-leaf-requires Inv-loop μ-loop
 put-leaf-requires c κs =
@@ -65,7 +66,7 @@ same-length-3 c =
 
 returns-3 : tie.Need-returns-3 Inv-loop μ-loop
 returns-3 c =
-    (c .before .before .before .before .before .before .before .before .before .before .before .before .loop .inv .0, c .before .before .before .before .before .before .before .before .before .before .before .before .loop .inv .1, c .before .before .before .before .before .before .before .before .before .before .before .before .loop .inv .2, same-out _ _ _ _ _ (c .before .before .before .before .before .before .before .before .before .before .before .before .loop .inv .4) (c .before .before .before .put-leaf .ensures .0 (c .if2 .taken)))
+    (λ e. (c .before .before .before .before .before .before .before .before .before .before .before .before .loop .inv .5 e .0, c .before .before .before .before .before .before .before .before .before .before .before .before .loop .inv .5 e .1, c .before .before .before .put-leaf .ensures .0 (c .if2 .taken) ∙ c .before .before .before .before .before .before .before .before .before .before .before .before .loop .inv .5 e .2), (c .before .before .before .before .before .before .before .before .before .before .before .before .loop .inv .0, c .before .before .before .before .before .before .before .before .before .before .before .before .loop .inv .1, c .before .before .before .before .before .before .before .before .before .before .before .before .loop .inv .2, same-out _ _ _ _ _ (c .before .before .before .before .before .before .before .before .before .before .before .before .loop .inv .4) (c .before .before .before .put-leaf .ensures .0 (c .if2 .taken))))
 
 add-word : tie.Need-add-word Inv-loop μ-loop
 add-word c =
@@ -83,14 +84,14 @@ loop-again : tie.Need-loop-again Inv-loop μ-loop
 loop-again c =
     let e = entry-at (c .before .before .before .before .before .before .before .before .before .before .before .before .before .before .before .before .before .args .list .now) (c .before .before .before .before .before .before .before .before .before .before .before .before .loop .word) _ (c .before .before .before .before .before .before .before .before .before .before .next-entry .ensures) _ (c .before .before .before .before .before .before .before .before .entry .given .1) in
     let q = c .before .before .before .put-leaf .ensures .1 (omega (arith, c .if2 .left)) _ _ e in
-    (omega (arith, c .before .before .before .before .before .before .before .before .before .before .before .before .loop .inv .0), omega (arith, c .before .before .before .before .before .before .before .before .before .before .before .loop-test .taken), stood _ _ _ _ _ _ q .small, c .before .before .before .put-leaf .kept .1 .1 .1 .1 .1 .0 ∙ c .before .before .before .before .before .before .before .before .before .before .before .before .loop .inv .3, c .before .before .before .before .before .before .before .before .before .before .before .before .loop .inv .4 ∙ turn-go rowOrder _ _ (c .before .before .before .before .before .before .before .before .before .before .before .before .loop .index) _ _ _ _ (some-left _ _ (c .before .before .before .before .before .before .before .before .before .before .before .loop-test .taken)) _ _ e (eq-eqb _ _ (sym (c .before .before .before .before .before .if1 .left))) _ _ _ q _ refl _ (one-fewer _ _))
+    (omega (arith, c .before .before .before .before .before .before .before .before .before .before .before .before .loop .inv .0), omega (arith, c .before .before .before .before .before .before .before .before .before .before .before .loop-test .taken), stood _ _ _ _ _ _ q .small, c .before .before .before .put-leaf .kept .1 .1 .1 .1 .1 .0 ∙ c .before .before .before .before .before .before .before .before .before .before .before .before .loop .inv .3, c .before .before .before .before .before .before .before .before .before .before .before .before .loop .inv .4 ∙ turn-go rowOrder _ _ (c .before .before .before .before .before .before .before .before .before .before .before .before .loop .index) _ _ _ _ (some-left _ _ (c .before .before .before .before .before .before .before .before .before .before .before .loop-test .taken)) _ _ e (eq-eqb _ _ (sym (c .before .before .before .before .before .if1 .left))) _ _ _ q _ refl _ (one-fewer _ _), λ f. absurd (omega (arith, c .before .before .before .before .before .before .before .before .before .before .before .before .loop .inv .0)))
 
 same-length-4 : tie.Need-same-length-4 Inv-loop μ-loop
 same-length-4 c = c .before .loop .inv .3
 
 returns-4 : tie.Need-returns-4 Inv-loop μ-loop
 returns-4 c =
-    (c .before .loop .inv .0, c .before .loop .inv .1, c .before .loop .inv .2, c .before .loop .inv .4)
+    (c .before .loop .inv .5, (c .before .loop .inv .0, c .before .loop .inv .1, c .before .loop .inv .2, c .before .loop .inv .4))
 
 pub put-leaves-spec : {M : Type 1} → statement M
 put-leaves-spec =

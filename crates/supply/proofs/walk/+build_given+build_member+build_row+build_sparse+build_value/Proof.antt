@@ -22,21 +22,25 @@ use Rattle.supply.proofs.Stands.{failed-is, done-is, stood}
 use Rattle.supply.proofs.Parts.{member-absent, member-stop, member-go}
 use Rattle.supply.proofs.Elements.{turn-short, turn-barred, turn-stop, turn-go, done, lacks, as-many, some-left, none-left, one-fewer, unknown-index, same-index, new-index}
 use Rattle.supply.proofs.Values.{value-node, value-leaf, value-shut, value-sparse, value-row, opened-small, opened-holds, opened-first}
+use Rattle.supply.proofs.Leaves.{one-put, same-out}
 use borrow.Author.Needs.{needs}
 use borrow.Fn.Kinds.{In}
 use borrow.Fn.PlainCycle.{Measures, is, falls, and}
+use Rattle.supply.proofs.walk.build_given.Reads as build-given
+use Rattle.supply.proofs.walk.build_given.Kinds as build-given-kinds
+use Rattle.supply.proofs.walk.+build_given+build_member+build_row+build_sparse+build_value.Lts-build_given as build-given-lts
 use Rattle.supply.proofs.walk.build_member.Reads as build-member
 use Rattle.supply.proofs.walk.build_member.Kinds as build-member-kinds
-use Rattle.supply.proofs.walk.+build_member+build_row+build_sparse+build_value.Lts-build_member as build-member-lts
+use Rattle.supply.proofs.walk.+build_given+build_member+build_row+build_sparse+build_value.Lts-build_member as build-member-lts
 use Rattle.supply.proofs.walk.build_row.Reads as build-row
 use Rattle.supply.proofs.walk.build_row.Kinds as build-row-kinds
-use Rattle.supply.proofs.walk.+build_member+build_row+build_sparse+build_value.Lts-build_row as build-row-lts
+use Rattle.supply.proofs.walk.+build_given+build_member+build_row+build_sparse+build_value.Lts-build_row as build-row-lts
 use Rattle.supply.proofs.walk.build_sparse.Reads as build-sparse
 use Rattle.supply.proofs.walk.build_sparse.Kinds as build-sparse-kinds
-use Rattle.supply.proofs.walk.+build_member+build_row+build_sparse+build_value.Lts-build_sparse as build-sparse-lts
+use Rattle.supply.proofs.walk.+build_given+build_member+build_row+build_sparse+build_value.Lts-build_sparse as build-sparse-lts
 use Rattle.supply.proofs.walk.build_value.Reads as build-value
 use Rattle.supply.proofs.walk.build_value.Kinds as build-value-kinds
-use Rattle.supply.proofs.walk.+build_member+build_row+build_sparse+build_value.Lts-build_value as build-value-lts
+use Rattle.supply.proofs.walk.+build_given+build_member+build_row+build_sparse+build_value.Lts-build_value as build-value-lts
 use Rattle.heads.proofs.sparse.Seen.mark.Reads as mark-reads
 use Rattle.heads.proofs.sparse.Seen.new.Reads as new-reads
 use Rattle.plan.proofs.needs.needed_of.Reads as needed-of-reads
@@ -52,20 +56,31 @@ use Rattle.supply.proofs.walk.build_absent.Reads as build-absent-reads
 use Rattle.supply.proofs.walk.build_leaf.Reads as build-leaf-reads
 use Rattle.value.proofs.node.count_given.Reads as count-given-reads
 use Rattle.value.proofs.node.is_leaf.Reads as is-leaf-reads
-use Rattle.supply.proofs.walk.+build_member+build_row+build_sparse+build_value.{statement}
-use Rattle.supply.proofs.walk.+build_member+build_row+build_sparse+build_value.Tie.{close}
+use Rattle.supply.proofs.walk.+build_given+build_member+build_row+build_sparse+build_value.{statement}
+use Rattle.supply.proofs.walk.+build_given+build_member+build_row+build_sparse+build_value.Tie.{close}
+
+abbrev μ-build-given : Measures 5 build-given-kinds.ps ℕ
+μ-build-given κs a = 4 * (a .1 .1 .0) + 1
 
 abbrev μ-build-member : Measures 5 build-member-kinds.ps ℕ
-μ-build-member κs a = 3 * (a .1 .1 .0)
+μ-build-member κs a = 4 * (a .1 .1 .0)
 
 abbrev μ-build-row : Measures 5 build-row-kinds.ps ℕ
-μ-build-row κs a = 3 * (a .1 .1 .0) + 1
+μ-build-row κs a = 4 * (a .1 .1 .0) + 2
 
 abbrev μ-build-sparse : Measures 5 build-sparse-kinds.ps ℕ
-μ-build-sparse κs a = 3 * (a .1 .1 .0) + 1
+μ-build-sparse κs a = 4 * (a .1 .1 .0) + 2
 
 abbrev μ-build-value : Measures 5 build-value-kinds.ps ℕ
-μ-build-value κs a = 3 * (a .1 .1 .0) + 2
+μ-build-value κs a = 4 * (a .1 .1 .0) + 3
+
+abbrev build-given-at : ℕ → In 5 build-given-kinds.ps
+build-given-at t =
+    and 5 build-given-kinds.ps (is 5 build-given-kinds.ps μ-build-given t) build-given.Pre
+
+abbrev build-given-below : ℕ → In 5 build-given-kinds.ps
+build-given-below t =
+    and 5 build-given-kinds.ps (falls 5 build-given-kinds.ps _<_ μ-build-given t) build-given.Pre
 
 abbrev build-member-at : ℕ → In 5 build-member-kinds.ps
 build-member-at t =
@@ -106,6 +121,9 @@ abbrev build-value-below : ℕ → In 5 build-value-kinds.ps
 build-value-below t =
     and 5 build-value-kinds.ps (falls 5 build-value-kinds.ps _<_ μ-build-value t) build-value.Pre
 
+abbrev build-given-claims : ℕ → build-given-lts.Claims
+build-given-claims t = (put-leaves-reads.Asked, put-leaves-reads.Learnt, build-member-below t, build-member.Post)
+
 abbrev build-member-claims : ℕ → build-member-lts.Claims
 build-member-claims t =
     (kind-at-reads.Asked, kind-at-reads.Learnt, ref-of-reads.Asked, ref-of-reads.Learnt, build-absent-reads.Asked, build-absent-reads.Learnt, head-size-reads.Asked, head-size-reads.Learnt, build-value-below t, build-value.Post, put-head-reads.Asked, put-head-reads.Learnt)
@@ -116,11 +134,41 @@ build-row-claims t =
 
 abbrev build-sparse-claims : ℕ → build-sparse-lts.Claims
 build-sparse-claims t =
-    (second-at-reads.Asked, second-at-reads.Learnt, new-reads.Asked, new-reads.Learnt, next-entry-reads.Asked, next-entry-reads.Learnt, mark-reads.Asked, mark-reads.Learnt, count-given-reads.Asked, count-given-reads.Learnt, build-member-below t, build-member.Post, needed-of-reads.Asked, needed-of-reads.Learnt)
+    (second-at-reads.Asked, second-at-reads.Learnt, new-reads.Asked, new-reads.Learnt, next-entry-reads.Asked, next-entry-reads.Learnt, mark-reads.Asked, mark-reads.Learnt, count-given-reads.Asked, count-given-reads.Learnt, build-given-below t, build-given.Post, needed-of-reads.Asked, needed-of-reads.Learnt)
 
 abbrev build-value-claims : ℕ → build-value-lts.Claims
 build-value-claims t =
     (kind-at-reads.Asked, kind-at-reads.Learnt, is-leaf-reads.Asked, is-leaf-reads.Learnt, build-leaf-reads.Asked, build-leaf-reads.Learnt, put-front-reads.Asked, put-front-reads.Learnt, build-sparse-below t, build-sparse.Post, build-row-below t, build-row.Post)
+
+build-given-cast-i : (t : ℕ) → build-given-lts.Need-cast-i (build-given-claims t) (build-given-at t) build-given.Post
+build-given-cast-i t c = search needs
+
+build-given-add-put-leaves : (t : ℕ) → build-given-lts.Need-add-put-leaves (build-given-claims t) (build-given-at t) build-given.Post
+build-given-add-put-leaves t c = search needs
+
+build-given-put-leaves-requires : (t : ℕ) → build-given-lts.Need-put-leaves-requires (build-given-claims t) (build-given-at t) build-given.Post
+build-given-put-leaves-requires t c κs =
+    (c .before .before .before .before .before .before .before .pre .1 .0, record { is = sym (c .before .before .before .before .before .before .before .pre .1 .1); low = omega arith; high = omega arith }, c .before .before .before .before .before .before .before .pre .1 .3, omega arith, omega arith, c .before .before .before .before .before .before .before .pre .1 .6)
+
+build-given-build-member-requires : (t : ℕ) → build-given-lts.Need-build-member-requires (build-given-claims t) (build-given-at t) build-given.Post
+build-given-build-member-requires t c κs =
+    (omega (arith, c .before .before .before .before .before .before .before .before .before .before .before .before .before .pre .0), (c .before .before .before .before .before .before .before .before .before .before .before .before .before .pre .1 .0, c .before .before .before .before .before .before .before .before .before .before .before .before .before .pre .1 .2, c .before .before .before .before .before .before .before .before .before .before .before .before .before .pre .1 .4, c .before .before .before .before .before .before .before .before .before .before .before .before .before .pre .1 .5, c .before .before .before .before .before .before .before .before .before .before .before .before .before .pre .1 .6, c .before .before .before .before .before .before .before .before .before .before .before .before .before .pre .1 .7))
+
+build-given-same-length : (t : ℕ) → build-given-lts.Need-same-length (build-given-claims t) (build-given-at t) build-given.Post
+build-given-same-length t c =
+    c .before .before .build-member .kept .1 .1 .1 .1 .1 .1 .1 .0 ∙ c .before .before .before .before .before .before .before .before .put-leaves .kept .1 .1 .1 .1 .1 .1 .1 .1 .0
+
+build-given-returns : (t : ℕ) → build-given-lts.Need-returns (build-given-claims t) (build-given-at t) build-given.Post
+build-given-returns t c =
+    same-out _ _ _ _ _ (c .before .before .build-member .ensures) (sym (c .before .before .before .before .before .before .before .before .put-leaves .ensures .0 (c .before .before .before .before .if1 .taken) .2))
+
+build-given-same-length-2 : (t : ℕ) → build-given-lts.Need-same-length-2 (build-given-claims t) (build-given-at t) build-given.Post
+build-given-same-length-2 t c = c .before .before .before .before .put-leaves .kept .1 .1 .1 .1 .1 .1 .1 .1 .0
+
+build-given-returns-2 : (t : ℕ) → build-given-lts.Need-returns-2 (build-given-claims t) (build-given-at t) build-given.Post
+unfolding standOf
+build-given-returns-2 t c =
+    one-put _ _ _ _ _ (c .before .before .before .before .before .before .before .before .before .before .before .before .pre .1 .4) _ _ _ _ _ _ (c .before .before .before .before .put-leaves .ensures .1 .3) (c .before .before .before .before .put-leaves .ensures .1 .0) (c .if1 .left) (c .before .before .before .before .put-leaves .ensures .1 .2)
 
 build-member-kind-at-requires : (t : ℕ) → build-member-lts.Need-kind-at-requires (build-member-claims t) (build-member-at t) build-member.Post
 build-member-kind-at-requires t c κs = c .before .before .before .before .before .pre .1 .0
@@ -227,7 +275,7 @@ build-row-same-length t c =
 build-row-returns : (t : ℕ) → build-row-lts.Need-returns (build-row-claims t) (build-row-at t) build-row.Post build-row-Inv-loop build-row-μ-loop
 unfolding standOf
 build-row-returns t c =
-    done rowOrder _ _ (c .before .before .before .put-leaves .result .index) _ _ _ _ (none-left _ _ (c .if1 .taken)) refl (c .before .before .before .put-leaves .ensures .2) ∙ sym (c .before .before .before .before .before .before .loop .inv .3 ∙ c .before .before .before .put-leaves .ensures .3)
+    done rowOrder _ _ (c .before .before .before .put-leaves .result .index) _ _ _ _ (none-left _ _ (c .if1 .taken)) refl (c .before .before .before .put-leaves .ensures .1 .2) ∙ sym (c .before .before .before .before .before .before .loop .inv .3 ∙ c .before .before .before .put-leaves .ensures .1 .3)
 
 build-row-next-entry-requires : (t : ℕ) → build-row-lts.Need-next-entry-requires (build-row-claims t) (build-row-at t) build-row.Post build-row-Inv-loop build-row-μ-loop
 build-row-next-entry-requires t c κs = search needs
@@ -245,7 +293,7 @@ build-row-same-length-2 t c =
 build-row-returns-2 : (t : ℕ) → build-row-lts.Need-returns-2 (build-row-claims t) (build-row-at t) build-row.Post build-row-Inv-loop build-row-μ-loop
 unfolding standOf
 build-row-returns-2 t c =
-    turn-short rowOrder _ _ (c .before .before .before .before .before .before .put-leaves .result .index) _ _ _ _ (some-left _ _ (c .before .before .before .if1 .left)) (no-entry (c .before .before .before .before .before .before .before .before .before .before .before .before .before .before .before .before .args .list .now) (c .before .before .before .before .before .before .put-leaves .result .word) _ (c .before .before .next-entry .ensures) (c .enum-told .given .1)) ∙ sym (c .before .before .before .before .before .before .before .before .before .loop .inv .3 ∙ c .before .before .before .before .before .before .put-leaves .ensures .3)
+    turn-short rowOrder _ _ (c .before .before .before .before .before .before .put-leaves .result .index) _ _ _ _ (some-left _ _ (c .before .before .before .if1 .left)) (no-entry (c .before .before .before .before .before .before .before .before .before .before .before .before .before .before .before .before .args .list .now) (c .before .before .before .before .before .before .put-leaves .result .word) _ (c .before .before .next-entry .ensures) (c .enum-told .given .1)) ∙ sym (c .before .before .before .before .before .before .before .before .before .loop .inv .3 ∙ c .before .before .before .before .before .before .put-leaves .ensures .1 .3)
 
 build-row-cast-if2 : (t : ℕ) → build-row-lts.Need-cast-if2 (build-row-claims t) (build-row-at t) build-row.Post build-row-Inv-loop build-row-μ-loop
 build-row-cast-if2 t c = search needs
@@ -257,11 +305,11 @@ build-row-same-length-3 t c =
 build-row-returns-3 : (t : ℕ) → build-row-lts.Need-returns-3 (build-row-claims t) (build-row-at t) build-row.Post build-row-Inv-loop build-row-μ-loop
 unfolding standOf
 build-row-returns-3 t c =
-    turn-barred rowOrder _ _ (c .before .before .before .before .before .before .before .before .before .put-leaves .result .index) _ _ _ _ (some-left _ _ (c .before .before .before .before .before .before .if1 .left)) _ _ (entry-at (c .before .before .before .before .before .before .before .before .before .before .before .before .before .before .before .before .before .before .before .args .list .now) (c .before .before .before .before .before .before .before .before .before .put-leaves .result .word) _ (c .before .before .before .before .before .next-entry .ensures) _ (c .before .before .before .entry .given .1)) (ne-eqb _ _ (λ e. c .if2 .taken (sym e))) ∙ sym (c .before .before .before .before .before .before .before .before .before .before .before .before .loop .inv .3 ∙ c .before .before .before .before .before .before .before .before .before .put-leaves .ensures .3)
+    turn-barred rowOrder _ _ (c .before .before .before .before .before .before .before .before .before .put-leaves .result .index) _ _ _ _ (some-left _ _ (c .before .before .before .before .before .before .if1 .left)) _ _ (entry-at (c .before .before .before .before .before .before .before .before .before .before .before .before .before .before .before .before .before .before .before .args .list .now) (c .before .before .before .before .before .before .before .before .before .put-leaves .result .word) _ (c .before .before .before .before .before .next-entry .ensures) _ (c .before .before .before .entry .given .1)) (ne-eqb _ _ (λ e. c .if2 .taken (sym e))) ∙ sym (c .before .before .before .before .before .before .before .before .before .before .before .before .loop .inv .3 ∙ c .before .before .before .before .before .before .before .before .before .put-leaves .ensures .1 .3)
 
 build-row-build-member-requires : (t : ℕ) → build-row-lts.Need-build-member-requires (build-row-claims t) (build-row-at t) build-row.Post build-row-Inv-loop build-row-μ-loop
 build-row-build-member-requires t c κs =
-    (omega (arith, c .before .before .before .before .before .before .before .before .before .before .before .before .before .before .before .before .before .before .before .before .pre .0), (c .before .before .before .before .before .before .before .before .before .before .before .before .before .before .before .before .before .before .before .before .pre .1 .0, c .before .before .before .before .before .before .before .before .before .before .before .before .before .before .before .before .before .before .before .before .pre .1 .1 _ (omega (arith, c .before .if2 .left, c .before .before .before .before .before .before .before .if1 .left)), entry-at (c .before .before .before .before .before .before .before .before .before .before .before .before .before .before .before .before .before .before .before .before .args .list .now) (c .before .before .before .before .before .before .before .before .before .before .put-leaves .result .word) _ (c .before .before .before .before .before .before .next-entry .ensures) _ (c .before .before .before .before .entry .given .1), entry-inside (c .before .before .before .before .before .before .before .before .before .before .before .before .before .before .before .before .before .before .before .before .args .list .now) (c .before .before .before .before .before .before .before .before .before .before .put-leaves .result .word) _ (c .before .before .before .before .before .before .next-entry .ensures) _ (c .before .before .before .before .entry .given .1), c .before .before .before .before .before .before .before .before .before .before .put-leaves .ensures .2, c .before .before .before .before .before .before .before .before .before .before .before .before .before .before .before .before .before .before .before .before .pre .1 .4))
+    (omega (arith, c .before .before .before .before .before .before .before .before .before .before .before .before .before .before .before .before .before .before .before .before .pre .0), (c .before .before .before .before .before .before .before .before .before .before .before .before .before .before .before .before .before .before .before .before .pre .1 .0, c .before .before .before .before .before .before .before .before .before .before .before .before .before .before .before .before .before .before .before .before .pre .1 .1 _ (omega (arith, c .before .if2 .left, c .before .before .before .before .before .before .before .if1 .left)), entry-at (c .before .before .before .before .before .before .before .before .before .before .before .before .before .before .before .before .before .before .before .before .args .list .now) (c .before .before .before .before .before .before .before .before .before .before .put-leaves .result .word) _ (c .before .before .before .before .before .before .next-entry .ensures) _ (c .before .before .before .before .entry .given .1), entry-inside (c .before .before .before .before .before .before .before .before .before .before .before .before .before .before .before .before .before .before .before .before .args .list .now) (c .before .before .before .before .before .before .before .before .before .before .put-leaves .result .word) _ (c .before .before .before .before .before .before .next-entry .ensures) _ (c .before .before .before .before .entry .given .1), c .before .before .before .before .before .before .before .before .before .before .put-leaves .ensures .1 .2, c .before .before .before .before .before .before .before .before .before .before .before .before .before .before .before .before .before .before .before .before .pre .1 .4))
 
 build-row-enum-known-built : (t : ℕ) → build-row-lts.Need-enum-known-built (build-row-claims t) (build-row-at t) build-row.Post build-row-Inv-loop build-row-μ-loop
 build-row-enum-known-built t c = search needs
@@ -276,7 +324,7 @@ build-row-same-length-4 t c =
 build-row-returns-4 : (t : ℕ) → build-row-lts.Need-returns-4 (build-row-claims t) (build-row-at t) build-row.Post build-row-Inv-loop build-row-μ-loop
 unfolding standOf
 build-row-returns-4 t c =
-    turn-stop rowOrder _ _ (c .before .before .before .before .before .before .before .before .before .before .before .before .before .before .before .put-leaves .result .index) _ _ _ _ (some-left _ _ (c .before .before .before .before .before .before .before .before .before .before .before .before .if1 .left)) _ _ (entry-at (c .before .before .before .before .before .before .before .before .before .before .before .before .before .before .before .before .before .before .before .before .before .before .before .before .before .args .list .now) (c .before .before .before .before .before .before .before .before .before .before .before .before .before .before .before .put-leaves .result .word) _ (c .before .before .before .before .before .before .before .before .before .before .before .next-entry .ensures) _ (c .before .before .before .before .before .before .before .before .before .entry .given .1)) (eq-eqb _ _ (sym (c .before .before .before .before .before .before .if2 .left))) (failed-is _ _ _ _ (c .before .before .before .before .build-member .ensures) (c .enum-told2 .given .1)) ∙ sym (c .before .before .before .before .before .before .before .before .before .before .before .before .before .before .before .before .before .before .loop .inv .3 ∙ c .before .before .before .before .before .before .before .before .before .before .before .before .before .before .before .put-leaves .ensures .3)
+    turn-stop rowOrder _ _ (c .before .before .before .before .before .before .before .before .before .before .before .before .before .before .before .put-leaves .result .index) _ _ _ _ (some-left _ _ (c .before .before .before .before .before .before .before .before .before .before .before .before .if1 .left)) _ _ (entry-at (c .before .before .before .before .before .before .before .before .before .before .before .before .before .before .before .before .before .before .before .before .before .before .before .before .before .args .list .now) (c .before .before .before .before .before .before .before .before .before .before .before .before .before .before .before .put-leaves .result .word) _ (c .before .before .before .before .before .before .before .before .before .before .before .next-entry .ensures) _ (c .before .before .before .before .before .before .before .before .before .entry .given .1)) (eq-eqb _ _ (sym (c .before .before .before .before .before .before .if2 .left))) (failed-is _ _ _ _ (c .before .before .before .before .build-member .ensures) (c .enum-told2 .given .1)) ∙ sym (c .before .before .before .before .before .before .before .before .before .before .before .before .before .before .before .before .before .before .loop .inv .3 ∙ c .before .before .before .before .before .before .before .before .before .before .before .before .before .before .before .put-leaves .ensures .1 .3)
 
 build-row-add-i : (t : ℕ) → build-row-lts.Need-add-i (build-row-claims t) (build-row-at t) build-row.Post build-row-Inv-loop build-row-μ-loop
 build-row-add-i t c =
@@ -284,12 +332,12 @@ build-row-add-i t c =
 
 build-row-loop-less : (t : ℕ) → build-row-lts.Need-loop-less (build-row-claims t) (build-row-at t) build-row.Post build-row-Inv-loop build-row-μ-loop
 build-row-loop-less t c =
-    omega (arith, c .before .before .before .before .before .before .before .before .before .before .before .before .before .before .before .before .put-leaves .ensures .0, c .before .before .before .before .before .before .before .before .before .before .before .before .before .if1 .left)
+    omega (arith, c .before .before .before .before .before .before .before .before .before .before .before .before .before .before .before .before .put-leaves .ensures .1 .0, c .before .before .before .before .before .before .before .before .before .before .before .before .before .if1 .left)
 
 build-row-loop-again : (t : ℕ) → build-row-lts.Need-loop-again (build-row-claims t) (build-row-at t) build-row.Post build-row-Inv-loop build-row-μ-loop
 build-row-loop-again t c =
     let q = done-is _ _ _ _ (c .before .before .before .before .before .build-member .ensures) _ _ (c .before .built .given .1) in
-    (omega (arith, c .before .before .before .before .before .before .before .before .before .before .before .before .before .if1 .left), stood _ _ _ _ _ _ q .small, c .before .before .before .before .before .build-member .kept .1 .1 .1 .1 .1 .1 .1 .0 ∙ c .before .before .before .before .before .before .before .before .before .before .before .before .before .before .before .before .put-leaves .kept .1 .1 .1 .1 .1 .1 .1 .1 .0 ∙ c .before .before .before .before .before .before .before .before .before .before .before .before .before .before .before .before .before .before .before .loop .inv .2, c .before .before .before .before .before .before .before .before .before .before .before .before .before .before .before .before .before .before .before .loop .inv .3 ∙ c .before .before .before .before .before .before .before .before .before .before .before .before .before .before .before .before .put-leaves .ensures .3 ∙ turn-go rowOrder _ _ (c .before .before .before .before .before .before .before .before .before .before .before .before .before .before .before .before .put-leaves .result .index) _ _ _ _ (some-left _ _ (c .before .before .before .before .before .before .before .before .before .before .before .before .before .if1 .left)) _ _ (entry-at (c .before .before .before .before .before .before .before .before .before .before .before .before .before .before .before .before .before .before .before .before .before .before .before .before .before .before .args .list .now) (c .before .before .before .before .before .before .before .before .before .before .before .before .before .before .before .before .put-leaves .result .word) _ (c .before .before .before .before .before .before .before .before .before .before .before .before .next-entry .ensures) _ (c .before .before .before .before .before .before .before .before .before .before .entry .given .1)) (eq-eqb _ _ (sym (c .before .before .before .before .before .before .before .if2 .left))) _ _ _ q _ refl _ (one-fewer _ _))
+    (omega (arith, c .before .before .before .before .before .before .before .before .before .before .before .before .before .if1 .left), stood _ _ _ _ _ _ q .small, c .before .before .before .before .before .build-member .kept .1 .1 .1 .1 .1 .1 .1 .0 ∙ c .before .before .before .before .before .before .before .before .before .before .before .before .before .before .before .before .put-leaves .kept .1 .1 .1 .1 .1 .1 .1 .1 .0 ∙ c .before .before .before .before .before .before .before .before .before .before .before .before .before .before .before .before .before .before .before .loop .inv .2, c .before .before .before .before .before .before .before .before .before .before .before .before .before .before .before .before .before .before .before .loop .inv .3 ∙ c .before .before .before .before .before .before .before .before .before .before .before .before .before .before .before .before .put-leaves .ensures .1 .3 ∙ turn-go rowOrder _ _ (c .before .before .before .before .before .before .before .before .before .before .before .before .before .before .before .before .put-leaves .result .index) _ _ _ _ (some-left _ _ (c .before .before .before .before .before .before .before .before .before .before .before .before .before .if1 .left)) _ _ (entry-at (c .before .before .before .before .before .before .before .before .before .before .before .before .before .before .before .before .before .before .before .before .before .before .before .before .before .before .args .list .now) (c .before .before .before .before .before .before .before .before .before .before .before .before .before .before .before .before .put-leaves .result .word) _ (c .before .before .before .before .before .before .before .before .before .before .before .before .next-entry .ensures) _ (c .before .before .before .before .before .before .before .before .before .before .entry .given .1)) (eq-eqb _ _ (sym (c .before .before .before .before .before .before .before .if2 .left))) _ _ _ q _ refl _ (one-fewer _ _))
 
 build-row-same-length-5 : (t : ℕ) → build-row-lts.Need-same-length-5 (build-row-claims t) (build-row-at t) build-row.Post build-row-Inv-loop build-row-μ-loop
 build-row-same-length-5 t c = c .before .loop .inv .2
@@ -364,9 +412,9 @@ build-sparse-count-given-requires : (t : ℕ) → build-sparse-lts.Need-count-gi
 build-sparse-count-given-requires t c κs =
     (c .before .before .before .before .before .before .before .before .before .before .before .before .before .before .before .before .before .pre .1 .0, c .before .before .before .before .before .before .before .before .before .before .before .before .before .before .before .before .before .pre .1 .1, omega (arith, c .before .before .if1 .left, c .before .before .before .before .before .before .before .before .before .before .before .second-at .ensures), counted-few _ _ _ _ (c .before .before .before .before .before .before .before .before .before .loop .inv .3) (c .before .before .before .before .before .before .before .before .before .before .before .before .before .before .before .before .before .pre .1 .0) (c .before .before .before .before .before .before .before .before .before .before .before .before .before .before .before .before .before .pre .1 .1))
 
-build-sparse-build-member-requires : (t : ℕ) → build-sparse-lts.Need-build-member-requires (build-sparse-claims t) (build-sparse-at t) build-sparse.Post build-sparse-Inv-loop build-sparse-μ-loop
-build-sparse-build-member-requires t c κs =
-    (omega (arith, c .before .before .before .before .before .before .before .before .before .before .before .before .before .before .before .before .before .before .before .pre .0), (c .before .before .before .before .before .before .before .before .before .before .before .before .before .before .before .before .before .before .before .pre .1 .0, sparse-holds _ _ (c .before .before .before .before .before .before .before .before .before .before .before .before .before .before .before .before .before .before .before .pre .1 .0) (c .before .before .before .before .before .before .before .before .before .before .before .before .before .before .before .before .before .before .before .pre .1 .1) _ (omega (arith, c .before .before .before .before .if1 .left, c .before .before .before .before .before .before .before .before .before .before .before .before .before .second-at .ensures, cards-length (c .before .before .before .before .before .before .before .before .before .before .before .before .before .before .before .before .before .before .before .args .plan .now) (c .before .before .before .before .before .before .before .before .before .before .before .before .before .before .before .before .before .before .before .args .node))), entry-at (c .before .before .before .before .before .before .before .before .before .before .before .before .before .before .before .before .before .before .before .args .list .now) (c .before .before .before .before .before .before .before .before .before .before .before .loop .word) _ (c .before .before .before .before .before .before .before .before .before .next-entry .ensures) _ (c .before .before .before .before .before .before .before .entry .given .1), entry-inside (c .before .before .before .before .before .before .before .before .before .before .before .before .before .before .before .before .before .before .before .args .list .now) (c .before .before .before .before .before .before .before .before .before .before .before .loop .word) _ (c .before .before .before .before .before .before .before .before .before .next-entry .ensures) _ (c .before .before .before .before .before .before .before .entry .given .1), c .before .before .before .before .before .before .before .before .before .before .before .loop .inv .0, c .before .before .before .before .before .before .before .before .before .before .before .before .before .before .before .before .before .before .before .pre .1 .3))
+build-sparse-build-given-requires : (t : ℕ) → build-sparse-lts.Need-build-given-requires (build-sparse-claims t) (build-sparse-at t) build-sparse.Post build-sparse-Inv-loop build-sparse-μ-loop
+build-sparse-build-given-requires t c κs =
+    (omega (arith, c .before .before .before .before .before .before .before .before .before .before .before .before .before .before .before .before .before .before .before .pre .0), (c .before .before .before .before .before .before .before .before .before .before .before .before .before .before .before .before .before .before .before .pre .1 .0, c .before .before .before .before .before .before .before .before .before .before .before .before .before .before .before .before .before .before .before .pre .1 .1, sparse-holds _ _ (c .before .before .before .before .before .before .before .before .before .before .before .before .before .before .before .before .before .before .before .pre .1 .0) (c .before .before .before .before .before .before .before .before .before .before .before .before .before .before .before .before .before .before .before .pre .1 .1) _ (omega (arith, c .before .before .before .before .if1 .left, c .before .before .before .before .before .before .before .before .before .before .before .before .before .second-at .ensures, cards-length (c .before .before .before .before .before .before .before .before .before .before .before .before .before .before .before .before .before .before .before .args .plan .now) (c .before .before .before .before .before .before .before .before .before .before .before .before .before .before .before .before .before .before .before .args .node))), λ j h. sparse-holds _ _ (c .before .before .before .before .before .before .before .before .before .before .before .before .before .before .before .before .before .before .before .pre .1 .0) (c .before .before .before .before .before .before .before .before .before .before .before .before .before .before .before .before .before .before .before .pre .1 .1) j (omega (arith, h, c .before .before .before .before .if1 .left, c .before .before .before .before .before .before .before .before .before .before .before .before .before .second-at .ensures, cards-length (c .before .before .before .before .before .before .before .before .before .before .before .before .before .before .before .before .before .before .before .args .plan .now) (c .before .before .before .before .before .before .before .before .before .before .before .before .before .before .before .before .before .before .before .args .node))), entry-at (c .before .before .before .before .before .before .before .before .before .before .before .before .before .before .before .before .before .before .before .args .list .now) (c .before .before .before .before .before .before .before .before .before .before .before .loop .word) _ (c .before .before .before .before .before .before .before .before .before .next-entry .ensures) _ (c .before .before .before .before .before .before .before .entry .given .1), entry-inside (c .before .before .before .before .before .before .before .before .before .before .before .before .before .before .before .before .before .before .before .args .list .now) (c .before .before .before .before .before .before .before .before .before .before .before .loop .word) _ (c .before .before .before .before .before .before .before .before .before .next-entry .ensures) _ (c .before .before .before .before .before .before .before .entry .given .1), c .before .before .before .before .before .before .before .before .before .before .before .loop .inv .0, c .before .before .before .before .before .before .before .before .before .before .before .before .before .before .before .before .before .before .before .pre .1 .3))
 
 build-sparse-enum-known-built : (t : ℕ) → build-sparse-lts.Need-enum-known-built (build-sparse-claims t) (build-sparse-at t) build-sparse.Post build-sparse-Inv-loop build-sparse-μ-loop
 build-sparse-enum-known-built t c = search needs
@@ -376,12 +424,12 @@ build-sparse-enum-told-2 t c = search needs
 
 build-sparse-same-length-4 : (t : ℕ) → build-sparse-lts.Need-same-length-4 (build-sparse-claims t) (build-sparse-at t) build-sparse.Post build-sparse-Inv-loop build-sparse-μ-loop
 build-sparse-same-length-4 t c =
-    c .before .before .before .before .build-member .kept .1 .1 .1 .1 .1 .1 .1 .0 ∙ c .before .before .before .before .before .before .before .before .before .before .before .before .before .before .before .before .loop .inv .1
+    c .before .before .before .before .build-given .kept .1 .1 .1 .1 .1 .1 .1 .0 ∙ c .before .before .before .before .before .before .before .before .before .before .before .before .before .before .before .before .loop .inv .1
 
 build-sparse-returns-4 : (t : ℕ) → build-sparse-lts.Need-returns-4 (build-sparse-claims t) (build-sparse-at t) build-sparse.Post build-sparse-Inv-loop build-sparse-μ-loop
 unfolding standOf
 build-sparse-returns-4 t c =
-    turn-stop (sparseOrder (cardsAt (c .before .before .before .before .before .before .before .before .before .before .before .before .before .before .before .before .before .before .before .before .before .before .before .before .args .plan .now) (c .before .before .before .before .before .before .before .before .before .before .before .before .before .before .before .before .before .before .before .before .before .before .before .before .args .node))) _ _ (c .before .before .before .before .before .before .before .before .before .before .before .before .before .before .before .before .loop .seen .marks) _ _ _ _ (some-left _ _ (c .before .before .before .before .before .before .before .before .before .before .before .before .before .before .before .loop-test .taken)) _ _ (entry-at (c .before .before .before .before .before .before .before .before .before .before .before .before .before .before .before .before .before .before .before .before .before .before .before .before .args .list .now) (c .before .before .before .before .before .before .before .before .before .before .before .before .before .before .before .before .loop .word) _ (c .before .before .before .before .before .before .before .before .before .before .before .before .before .before .next-entry .ensures) _ (c .before .before .before .before .before .before .before .before .before .before .before .before .entry .given .1)) (new-index (c .before .before .before .before .before .before .before .before .before .before .before .before .before .before .before .before .before .before .before .before .before .before .before .before .args .plan .now) (c .before .before .before .before .before .before .before .before .before .before .before .before .before .before .before .before .before .before .before .before .before .before .before .before .args .node) (c .before .before .before .before .before .before .before .before .before .before .before .before .before .before .before .before .loop .seen .marks) _ _ (c .before .before .before .before .before .before .before .before .before .before .before .before .before .before .before .before .before .before .second-at .ensures) (c .before .before .before .before .before .before .before .before .before .if1 .left) (sym (c .before .before .before .before .before .before .before .before .mark .ensures .0) ∙ c .before .before .before .before .before .before .before .if2 .left)) (failed-is _ _ _ _ (c .before .before .before .before .build-member .ensures) (c .enum-told2 .given .1)) ∙ sym (c .before .before .before .before .before .before .before .before .before .before .before .before .before .before .before .before .loop .inv .2)
+    turn-stop (sparseOrder (cardsAt (c .before .before .before .before .before .before .before .before .before .before .before .before .before .before .before .before .before .before .before .before .before .before .before .before .args .plan .now) (c .before .before .before .before .before .before .before .before .before .before .before .before .before .before .before .before .before .before .before .before .before .before .before .before .args .node))) _ _ (c .before .before .before .before .before .before .before .before .before .before .before .before .before .before .before .before .loop .seen .marks) _ _ _ _ (some-left _ _ (c .before .before .before .before .before .before .before .before .before .before .before .before .before .before .before .loop-test .taken)) _ _ (entry-at (c .before .before .before .before .before .before .before .before .before .before .before .before .before .before .before .before .before .before .before .before .before .before .before .before .args .list .now) (c .before .before .before .before .before .before .before .before .before .before .before .before .before .before .before .before .loop .word) _ (c .before .before .before .before .before .before .before .before .before .before .before .before .before .before .next-entry .ensures) _ (c .before .before .before .before .before .before .before .before .before .before .before .before .entry .given .1)) (new-index (c .before .before .before .before .before .before .before .before .before .before .before .before .before .before .before .before .before .before .before .before .before .before .before .before .args .plan .now) (c .before .before .before .before .before .before .before .before .before .before .before .before .before .before .before .before .before .before .before .before .before .before .before .before .args .node) (c .before .before .before .before .before .before .before .before .before .before .before .before .before .before .before .before .loop .seen .marks) _ _ (c .before .before .before .before .before .before .before .before .before .before .before .before .before .before .before .before .before .before .second-at .ensures) (c .before .before .before .before .before .before .before .before .before .if1 .left) (sym (c .before .before .before .before .before .before .before .before .mark .ensures .0) ∙ c .before .before .before .before .before .before .before .if2 .left)) (failed-is _ _ _ _ (c .before .before .before .before .build-given .ensures) (c .enum-told2 .given .1)) ∙ sym (c .before .before .before .before .before .before .before .before .before .before .before .before .before .before .before .before .loop .inv .2)
 
 build-sparse-add-counter : (t : ℕ) → build-sparse-lts.Need-add-counter (build-sparse-claims t) (build-sparse-at t) build-sparse.Post build-sparse-Inv-loop build-sparse-μ-loop
 build-sparse-add-counter t c =
@@ -392,8 +440,8 @@ build-sparse-loop-less t c = omega arith
 
 build-sparse-loop-again : (t : ℕ) → build-sparse-lts.Need-loop-again (build-sparse-claims t) (build-sparse-at t) build-sparse.Post build-sparse-Inv-loop build-sparse-μ-loop
 build-sparse-loop-again t c =
-    let q = done-is _ _ _ _ (c .before .before .before .before .before .build-member .ensures) _ _ (c .before .built .given .1) in
-    (stood _ _ _ _ _ _ q .small, c .before .before .before .before .before .build-member .kept .1 .1 .1 .1 .1 .1 .1 .0 ∙ c .before .before .before .before .before .before .before .before .before .before .before .before .before .before .before .before .before .loop .inv .1, c .before .before .before .before .before .before .before .before .before .before .before .before .before .before .before .before .before .loop .inv .2 ∙ turn-go (sparseOrder (cardsAt (c .before .before .before .before .before .before .before .before .before .before .before .before .before .before .before .before .before .before .before .before .before .before .before .before .before .args .plan .now) (c .before .before .before .before .before .before .before .before .before .before .before .before .before .before .before .before .before .before .before .before .before .before .before .before .before .args .node))) _ _ (c .before .before .before .before .before .before .before .before .before .before .before .before .before .before .before .before .before .loop .seen .marks) _ _ _ _ (some-left _ _ (c .before .before .before .before .before .before .before .before .before .before .before .before .before .before .before .before .loop-test .taken)) _ _ (entry-at (c .before .before .before .before .before .before .before .before .before .before .before .before .before .before .before .before .before .before .before .before .before .before .before .before .before .args .list .now) (c .before .before .before .before .before .before .before .before .before .before .before .before .before .before .before .before .before .loop .word) _ (c .before .before .before .before .before .before .before .before .before .before .before .before .before .before .before .next-entry .ensures) _ (c .before .before .before .before .before .before .before .before .before .before .before .before .before .entry .given .1)) (new-index (c .before .before .before .before .before .before .before .before .before .before .before .before .before .before .before .before .before .before .before .before .before .before .before .before .before .args .plan .now) (c .before .before .before .before .before .before .before .before .before .before .before .before .before .before .before .before .before .before .before .before .before .before .before .before .before .args .node) (c .before .before .before .before .before .before .before .before .before .before .before .before .before .before .before .before .before .loop .seen .marks) _ _ (c .before .before .before .before .before .before .before .before .before .before .before .before .before .before .before .before .before .before .before .second-at .ensures) (c .before .before .before .before .before .before .before .before .before .before .if1 .left) (sym (c .before .before .before .before .before .before .before .before .before .mark .ensures .0) ∙ c .before .before .before .before .before .before .before .before .if2 .left)) _ _ _ q _ (c .before .before .before .before .before .before .before .before .before .mark .ensures .1) _ (one-fewer _ _), counted-next _ _ _ _ (c .before .before .before .before .before .before .before .before .before .before .before .before .before .before .before .before .before .loop .inv .3) _ (omega (arith, c .before .before .before .before .before .before .before .before .before .before .if1 .left, c .before .before .before .before .before .before .before .before .before .before .before .before .before .before .before .before .before .before .before .second-at .ensures)) (omega (arith, c .before .before .before .before .before .before .before .before .before .before .if1 .left, c .before .before .before .before .before .before .before .before .before .before .before .before .before .before .before .before .before .before .before .second-at .ensures, at-few _ _ (c .before .before .before .before .before .before .before .before .before .before .before .before .before .before .before .before .before .before .before .before .before .before .before .before .before .pre .1 .0) (omega (arith, c .before .before .before .before .before .before .before .before .before .before .before .before .before .before .before .before .before .before .before .before .before .before .before .before .before .pre .1 .1)) (omega (arith, c .before .before .before .before .before .before .before .before .before .before .before .before .before .before .before .before .before .before .before .before .before .before .before .before .before .pre .1 .1)))) (sym (c .before .before .before .before .before .before .before .before .before .mark .ensures .0) ∙ c .before .before .before .before .before .before .before .before .if2 .left) _ (c .before .before .before .before .before .before .before .before .before .mark .ensures .1) _ (c .before .before .before .before .before .before .before .count-given .ensures))
+    let q = done-is _ _ _ _ (c .before .before .before .before .before .build-given .ensures) _ _ (c .before .built .given .1) in
+    (stood _ _ _ _ _ _ q .small, c .before .before .before .before .before .build-given .kept .1 .1 .1 .1 .1 .1 .1 .0 ∙ c .before .before .before .before .before .before .before .before .before .before .before .before .before .before .before .before .before .loop .inv .1, c .before .before .before .before .before .before .before .before .before .before .before .before .before .before .before .before .before .loop .inv .2 ∙ turn-go (sparseOrder (cardsAt (c .before .before .before .before .before .before .before .before .before .before .before .before .before .before .before .before .before .before .before .before .before .before .before .before .before .args .plan .now) (c .before .before .before .before .before .before .before .before .before .before .before .before .before .before .before .before .before .before .before .before .before .before .before .before .before .args .node))) _ _ (c .before .before .before .before .before .before .before .before .before .before .before .before .before .before .before .before .before .loop .seen .marks) _ _ _ _ (some-left _ _ (c .before .before .before .before .before .before .before .before .before .before .before .before .before .before .before .before .loop-test .taken)) _ _ (entry-at (c .before .before .before .before .before .before .before .before .before .before .before .before .before .before .before .before .before .before .before .before .before .before .before .before .before .args .list .now) (c .before .before .before .before .before .before .before .before .before .before .before .before .before .before .before .before .before .loop .word) _ (c .before .before .before .before .before .before .before .before .before .before .before .before .before .before .before .next-entry .ensures) _ (c .before .before .before .before .before .before .before .before .before .before .before .before .before .entry .given .1)) (new-index (c .before .before .before .before .before .before .before .before .before .before .before .before .before .before .before .before .before .before .before .before .before .before .before .before .before .args .plan .now) (c .before .before .before .before .before .before .before .before .before .before .before .before .before .before .before .before .before .before .before .before .before .before .before .before .before .args .node) (c .before .before .before .before .before .before .before .before .before .before .before .before .before .before .before .before .before .loop .seen .marks) _ _ (c .before .before .before .before .before .before .before .before .before .before .before .before .before .before .before .before .before .before .before .second-at .ensures) (c .before .before .before .before .before .before .before .before .before .before .if1 .left) (sym (c .before .before .before .before .before .before .before .before .before .mark .ensures .0) ∙ c .before .before .before .before .before .before .before .before .if2 .left)) _ _ _ q _ (c .before .before .before .before .before .before .before .before .before .mark .ensures .1) _ (one-fewer _ _), counted-next _ _ _ _ (c .before .before .before .before .before .before .before .before .before .before .before .before .before .before .before .before .before .loop .inv .3) _ (omega (arith, c .before .before .before .before .before .before .before .before .before .before .if1 .left, c .before .before .before .before .before .before .before .before .before .before .before .before .before .before .before .before .before .before .before .second-at .ensures)) (omega (arith, c .before .before .before .before .before .before .before .before .before .before .if1 .left, c .before .before .before .before .before .before .before .before .before .before .before .before .before .before .before .before .before .before .before .second-at .ensures, at-few _ _ (c .before .before .before .before .before .before .before .before .before .before .before .before .before .before .before .before .before .before .before .before .before .before .before .before .before .pre .1 .0) (omega (arith, c .before .before .before .before .before .before .before .before .before .before .before .before .before .before .before .before .before .before .before .before .before .before .before .before .before .pre .1 .1)) (omega (arith, c .before .before .before .before .before .before .before .before .before .before .before .before .before .before .before .before .before .before .before .before .before .before .before .before .before .pre .1 .1)))) (sym (c .before .before .before .before .before .before .before .before .before .mark .ensures .0) ∙ c .before .before .before .before .before .before .before .before .if2 .left) _ (c .before .before .before .before .before .before .before .before .before .mark .ensures .1) _ (c .before .before .before .before .before .before .before .count-given .ensures))
 
 build-sparse-needed-of-requires : (t : ℕ) → build-sparse-lts.Need-needed-of-requires (build-sparse-claims t) (build-sparse-at t) build-sparse.Post build-sparse-Inv-loop build-sparse-μ-loop
 build-sparse-needed-of-requires t c κs =
@@ -493,9 +541,19 @@ build-value-returns-5 t c =
     let k = inner-kind _ _ _ (c .before .before .before .before .before .before .before .before .before .before .before .before .before .before .before .kind-at .ensures) (sym (c .before .before .before .before .before .before .before .before .before .before .before .before .before .before .is-leaf .ensures) ∙ c .before .before .before .before .before .before .before .before .before .before .before .before .before .if2 .left) in
     c .before .before .build-row .ensures ∙ value-row _ _ _ (c .before .before .before .before .before .before .before .before .before .before .before .before .before .before .before .before .before .before .before .before .before .before .before .pre .1 .0) _ _ _ (c .before .before .before .before .before .before .before .before .before .before .before .before .before .before .before .before .before .before .before .before .before .before .before .pre .1 .1) (c .before .before .before .before .before .before .before .before .before .before .before .before .before .before .before .before .before .before .before .before .before .before .before .pre .1 .2) _ _ (c .before .before .before .before .before .before .before .before .before .before .before .before .before .before .before .before .if1 .left) _ k _ _ (c .before .before .before .before .before .before .before .before .before .before .before .put-front .ensures) _ _ (c .before .before .before .before .before .before .before .opened .given .1) (c .before .before .before .before .if3 .left)
 
-pub +build-member+build-row+build-sparse+build-value-spec : {M : Type 1} → statement M
-+build-member+build-row+build-sparse+build-value-spec =
-    close μ-build-member μ-build-row μ-build-sparse μ-build-value (λ t. build-member-lts.spec (build-member-claims t) (build-member-at t)
+pub +build-given+build-member+build-row+build-sparse+build-value-spec : {M : Type 1} → statement M
++build-given+build-member+build-row+build-sparse+build-value-spec =
+    close μ-build-given μ-build-member μ-build-row μ-build-sparse μ-build-value (λ t. build-given-lts.spec (build-given-claims t) (build-given-at t)
+    build-given.Post
+    (build-given-cast-i t)
+    (build-given-add-put-leaves t)
+    (build-given-put-leaves-requires t)
+    (build-given-build-member-requires t)
+    (build-given-same-length t)
+    (build-given-returns t)
+    (build-given-same-length-2 t)
+    (build-given-returns-2 t))
+    (λ t. build-member-lts.spec (build-member-claims t) (build-member-at t)
     build-member.Post
     (build-member-kind-at-requires t)
     (build-member-cast-ref-of t)
@@ -563,7 +621,7 @@ pub +build-member+build-row+build-sparse+build-value-spec : {M : Type 1} → sta
     (build-sparse-same-length-3 t)
     (build-sparse-returns-3 t)
     (build-sparse-count-given-requires t)
-    (build-sparse-build-member-requires t)
+    (build-sparse-build-given-requires t)
     (build-sparse-enum-known-built t)
     (build-sparse-enum-told-2 t)
     (build-sparse-same-length-4 t)
