@@ -153,18 +153,18 @@ fn write_large(plan: &[u32], needs: &[u32], list: &[u32], src: &[u8], out: &mut 
     write_value(plan, needs, list, src, &mut scratch, out)
 }
 
-// The same with the scratch room that is likely to be enough: most entries, of five words, make a head of at most 20 bytes, and most values
+// The same with the scratch room that is likely to be enough: most entries, of five words, make a head of at most ten bytes, and most values
 // use no byte of the source twice. Only the time depends on it.
 fn write_sized(plan: &[u32], needs: &[u32], list: &[u32], src: &[u8], out: &mut [u8]) -> Answer
     requires { ⌜ (planFormed (now plan) ≡ true) × (Memo (now plan) (now needs)) ⌝ }
     ensures { λ r. ⌜ Puts (writeOf (now (plan .entry)) (now (list .entry)) (now (src .entry)) (length (now (out .entry)))) r (now (out .entry)) (now (out .exit)) ⌝ }
 {
-    if list.len() <= 512 {
+    if list.len() <= 1024 {
         if src.len() <= 2048 {
             return write_small(plan, needs, list, src, out);
         }
     }
-    if list.len() <= 2048 {
+    if list.len() <= 4096 {
         if src.len() <= 8192 {
             return write_middle(plan, needs, list, src, out);
         }
