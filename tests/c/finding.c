@@ -187,6 +187,8 @@ static void large(void) {
     count("65,536 bytes", finds(31, 0, refused(28, 0)));
     deep_leaf(32, 65055);
     count("height 33", finds(31, 0, refused(33, 0)));
+    deep_record();
+    count("31 steps down input objects", finds(30, 0, answered(31 * 12, MOST_VALUE - 31 * 12)));
     deep_set(16267);
     count("the last of 16,267 elements", finds(30, 16266, answered(value_bytes, 0)));
     count("one after it", finds(30, 16267, refused(35, 0)));

@@ -42,15 +42,21 @@ static inline void expect_entry(uint32_t node, uint32_t index, uint32_t start, u
         put_word(expected + 4 * list_words++, entry[i]);
 }
 
+/* Whether all containers are input objects, with 40 more nodes of their kind in the plan: more than the
+ * short table of required elements holds, so that the calls make the long one. */
+static int records_only;
+
 /* The kinds of the containers above the lowest node, in turn: no set is over a set. */
 static inline uint32_t kind_at(uint32_t level) {
     static const uint32_t kinds[4] = {TUPLE, OUTPUT, INPUT, SET};
-    return kinds[level % 4];
+    return records_only ? INPUT : kinds[level % 4];
 }
 
 /* Puts so many containers of one element over a node, all of whose values then have this length. */
 static inline void wrap(uint32_t containers, uint32_t lowest, uint32_t length) {
     uint32_t nodes[33] = {lowest};
+    for (int i = 0; records_only && i < 40; i++)
+        add(INPUT, 0);
     for (uint32_t level = 0; level < containers; level++) {
         uint32_t kind = kind_at(level);
         nodes[level + 1] = add(kind, kind == SET ? nodes[level] : 1);
@@ -84,6 +90,13 @@ static inline void deep_leaf(uint32_t containers, uint32_t length) {
     expect_entry(2, 0, value_bytes, length, 0);
     memset(value + value_bytes, 0xff, length);
     value_bytes += length;
+}
+
+/* The same under 31 input objects, 65,535 bytes in all. */
+static inline void deep_record(void) {
+    records_only = 1;
+    deep_leaf(31, MOST_VALUE - 31 * 12);
+    records_only = 0;
 }
 
 /* A set of so many empty texts under 30 containers. */

@@ -197,6 +197,8 @@ static void large(void) {
     count("65,536 bytes", value_bytes == MOST_VALUE + 1 && refuses(34));
     deep_leaf(32, 65055);
     count("height 33", refuses(33));
+    deep_record();
+    count("height 32, input objects alone", value_bytes == MOST_VALUE && writes());
     deep_set(1600);
     count("height 32, 1,600 elements", writes());
     put_word(expected + 4 * list_words - 8, 1);

@@ -187,6 +187,8 @@ static void large(void) {
     count("the lowest element passes its end", refuses(20, MOST_VALUE - 65079 - 12));
     deep_leaf(32, 65055);
     count("height 33", value_bytes == MOST_VALUE && refuses(33, 0));
+    deep_record();
+    count("height 32, input objects alone", value_bytes == MOST_VALUE && accepts());
     deep_set(1600);
     count("height 32, 1,600 elements", accepts());
     value[value_bytes - 1] = 1;
