@@ -60,6 +60,16 @@ module _ (s t : List ℕ) (a b : ℕ) (bs : (i : ℕ) → getD s i 0 < 256) (bt 
   pub ids-high : idAt s a ≡ idAt t b → be (take 8 (drop a s)) ≡ be (take 8 (drop b t))
   ids-high e = omega (arith, halves s a bs ha, halves t b bt hb, low-fits s a bs ha, low-fits t b bt hb)
 
+  -- the last four bytes
+  pub ids-end : idAt s a ≡ idAt t b → be (take 4 (drop (a + 12) s)) ≡ be (take 4 (drop (b + 12) t))
+  unfolding idAt
+  ids-end e =
+      let p = be-split s a 12 4 (omega arith) in
+      let q = be-split t b 12 4 (omega arith) in
+      let x : be (take 4 (drop (a + 12) s)) < 4294967296 = be-below s (a + 12) 4 bs (omega arith) in
+      let y : be (take 4 (drop (b + 12) t)) < 4294967296 = be-below t (b + 12) 4 bt (omega arith) in
+      omega (arith, p, q, x, y)
+
   pub ids-eqb : be (take 8 (drop (a + 8) s)) ≡ be (take 8 (drop (b + 8) t)) → (u v : ℕ) → u ≡ be (take 8 (drop a s)) → v ≡ be (take 8 (drop b t)) → eqb u v ≡ eqb (idAt s a) (idAt t b)
   ids-eqb l u v p q =
       rw (p, q)

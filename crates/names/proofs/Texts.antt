@@ -1,6 +1,6 @@
 -- The content of texts, and runs of bytes that are the same. Assumes nothing.
 use mathlib.Core.Path.{_≡_, refl, ap, sym, _∙_}
-use mathlib.Core.Bool.{Bool, true, false}
+use mathlib.Core.Bool.{Bool, true, false, _&&_}
 use mathlib.Core.List.{List, [], _∷_}
 use Prim.Native.Nat.{ℕ, zero, suc, _+_, _-_, _≤_, _<_}
 use native.Mathlib.Omega.{arith}
@@ -51,12 +51,14 @@ module _ (a b : List ℕ) (i : ℕ) (h : i < length a) (g : i < length b) where
   unfolding sameBytes
   step = rw (add-one, drop-cons a i 0 h, drop-cons b i 0 g)
 
-  pub same-here : getD a i 0 ≡ getD b i 0 → sameBytes (drop i a) (drop i b) ≡ sameBytes (drop (i + 1) a) (drop (i + 1) b)
-  same-here e = step ∙ pick-yes _ _ _ (eq-eqb _ _ e)
+  -- one byte more, with whether all before it were the same
+  pub same-next : (t : Bool) → pick t (sameBytes (drop i a) (drop i b)) false ≡ pick (t && eqb (getD a i 0) (getD b i 0)) (sameBytes (drop (i + 1) a) (drop (i + 1) b)) false
+  unfolding pick
+  same-next true = step
+  same-next false = refl
 
-  pub unlike-here : (getD a i 0 ≡ getD b i 0 → ⊥) → sameBytes (drop i a) (drop i b) ≡ false
-  unlike-here e = step ∙ pick-no _ _ _ (ne-eqb _ _ e)
-
-pub same-end : (a b : List ℕ) (i : ℕ) → length a ≤ i → length b ≤ i → sameBytes (drop i a) (drop i b) ≡ true
-unfolding sameBytes
-same-end a b i h g = rw (drop-of-length-le a {i = i} h, drop-of-length-le b {i = i} g)
+-- no byte is left
+pub same-end : (a b : List ℕ) (i : ℕ) → length a ≤ i → length b ≤ i → (t : Bool) → pick t (sameBytes (drop i a) (drop i b)) false ≡ t
+unfolding sameBytes pick
+same-end a b i h g true = rw (drop-of-length-le a {i = i} h, drop-of-length-le b {i = i} g)
+same-end a b i h g false = refl

@@ -19,13 +19,25 @@ pub fn is_zero(s: &[u8], at: usize) -> bool
     false
 }
 
-// Whether two ids are the same. Their ends, which differ most often, are compared first.
-pub fn same(s: &[u8], a: usize, t: &[u8], b: usize) -> bool
+// Whether two ids are the same, by all of their bytes.
+fn same_whole(s: &[u8], a: usize, t: &[u8], b: usize) -> bool
     requires { ⌜ (a + 16 ≤ length (now s)) × (b + 16 ≤ length (now t)) ⌝ }
     ensures { λ r. ⌜ r ≡ eqb (idAt (now (s .entry)) a) (idAt (now (t .entry)) b) ⌝ }
 {
     if wire::be::uint_at(s, a + 8, 8) == wire::be::uint_at(t, b + 8, 8) {
         return wire::be::uint_at(s, a, 8) == wire::be::uint_at(t, b, 8);
+    }
+    false
+}
+
+// The same. The last four bytes tell most ids apart, and are one number; an id is compared with every earlier one, so most are compared
+// by these alone.
+pub fn same(s: &[u8], a: usize, t: &[u8], b: usize) -> bool
+    requires { ⌜ (a + 16 ≤ length (now s)) × (b + 16 ≤ length (now t)) ⌝ }
+    ensures { λ r. ⌜ r ≡ eqb (idAt (now (s .entry)) a) (idAt (now (t .entry)) b) ⌝ }
+{
+    if wire::be::u32_at(s, a + 12) == wire::be::u32_at(t, b + 12) {
+        return same_whole(s, a, t, b);
     }
     false
 }

@@ -24,21 +24,20 @@ pub fn content(d: &[u8], at: usize) -> &[u8]
     &d[from..end]
 }
 
-// Whether two runs of bytes are the same.
+// Whether two runs of bytes are the same. The loop has no early end, so that it becomes one over vectors.
 fn same_bytes(a: &[u8], b: &[u8]) -> bool
     ensures { λ r. ⌜ r ≡ sameBytes (now (a .entry)) (now (b .entry)) ⌝ }
 {
     if a.len() != b.len() {
         return false;
     }
+    let mut same = true;
     let mut i: usize = 0;
     while i < a.len() {
-        if a[i] != b[i] {
-            return false;
-        }
+        same = same & (a[i] == b[i]);
         i += 1;
     }
-    true
+    same
 }
 
 // Whether one of the n elements so far has the name at a place.

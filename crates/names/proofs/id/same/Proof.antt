@@ -1,47 +1,46 @@
--- `names::id::same` meets its contract. Assumes nothing.
-use mathlib.Core.Path.{sym, ap, _∙_}
+use mathlib.Core.Path.{sym, _∙_}
 use Prim.Native.Nat.{ℕ}
 use borrow.Author.Tests.{ne-eqb}
-use Rattle.names.proofs.Ids.{ids-low, ids-eqb}
+use Rattle.names.proofs.Ids.{ids-end}
+use borrow.Author.Needs.{needs}
 use borrow.Author.Needs.{needs}
 use Rattle.names.proofs.id.same.Statement.{statement}
 use Rattle.names.proofs.id.same.Tie as tie
+use Rattle.names.proofs.id.same.Reads as reads
+use Rattle.names.proofs.id.same.Lts as lts
+use Rattle.names.proofs.id.same_whole.Reads as same-whole-reads
+use Rattle.wire.proofs.be.u32_at.Reads as u32-at-reads
 
-add-uint-at : tie.Need-add-uint-at
-add-uint-at c = search needs
+add-u32-at : tie.Need-add-u32-at
+add-u32-at c = search needs
 
-uint-at-requires : tie.Need-uint-at-requires
-uint-at-requires c κs = search needs
+u32-at-requires : tie.Need-u32-at-requires
+u32-at-requires c κs = search needs
 
-add-uint-at-2 : tie.Need-add-uint-at-2
-add-uint-at-2 c = search needs
+add-u32-at-2 : tie.Need-add-u32-at-2
+add-u32-at-2 c = search needs
 
-uint-at-requires-2 : tie.Need-uint-at-requires-2
-uint-at-requires-2 c κs = search needs
+u32-at-requires-2 : tie.Need-u32-at-requires-2
+u32-at-requires-2 c κs = search needs
 
-uint-at-requires-3 : tie.Need-uint-at-requires-3
-uint-at-requires-3 c κs = search needs
-
-uint-at-requires-4 : tie.Need-uint-at-requires-4
-uint-at-requires-4 c κs = search needs
+same-whole-requires : tie.Need-same-whole-requires
+same-whole-requires c κs = search needs
 
 returns : tie.Need-returns
-returns c =
-    ids-eqb _ _ _ _ (λ (j : ℕ). c .before .before .before .before .before .before .shared-slice-known .given j .fits) (λ (j : ℕ). c .before .before .before .before .before .shared-slice-known2 .given j .fits) (c .before .before .before .before .before .before .before .pre .0) (c .before .before .before .before .before .before .before .pre .1) (sym (c .before .before .before .before .uint-at .ensures) ∙ c .before .before .if1 .taken ∙ c .before .before .before .uint-at2 .ensures) _ _ (c .before .uint-at3 .ensures) (c .uint-at4 .ensures)
+returns c = search needs
 
 returns-2 : tie.Need-returns-2
 returns-2 c =
-    sym (ne-eqb _ _ (λ e. c .if1 .left (c .before .before .uint-at .ensures ∙ ids-low _ _ _ _ (λ (j : ℕ). c .before .before .before .before .shared-slice-known .given j .fits) (λ (j : ℕ). c .before .before .before .shared-slice-known2 .given j .fits) (c .before .before .before .before .before .pre .0) (c .before .before .before .before .before .pre .1) e ∙ sym (c .before .uint-at2 .ensures))))
+    sym (ne-eqb _ _ (λ e. c .if1 .left (c .before .before .u32-at .ensures ∙ ids-end _ _ _ _ (λ (j : ℕ). c .before .before .before .before .shared-slice-known .given j .fits) (λ (j : ℕ). c .before .before .before .shared-slice-known2 .given j .fits) (c .before .before .before .before .before .pre .0) (c .before .before .before .before .before .pre .1) e ∙ sym (c .before .u32-at2 .ensures))))
 
 pub same-spec : {M : Type 1} → statement M
 same-spec =
     tie.close
     (tie.spec
-    add-uint-at
-    uint-at-requires
-    add-uint-at-2
-    uint-at-requires-2
-    uint-at-requires-3
-    uint-at-requires-4
+    add-u32-at
+    u32-at-requires
+    add-u32-at-2
+    u32-at-requires-2
+    same-whole-requires
     returns
     returns-2)

@@ -1,49 +1,50 @@
--- `names::text::same_bytes` meets its contract. Assumes nothing.
 use mathlib.Core.Path.{_≡_, refl, sym, _∙_}
+use mathlib.Core.Bool.{false}
 use Prim.Native.Nat.{_-_, _≤_}
 use native.Mathlib.Omega.{arith}
 use lib.ListN.{length, drop}
+use Rattle.wire.specs.Choice.{pick}
 use Rattle.fields.specs.Fields.{sameBytes}
-use Rattle.names.proofs.Texts.{unlike-lengths, same-here, unlike-here, same-end}
+use Rattle.names.proofs.Texts.{unlike-lengths, same-next, same-end}
 use borrow.Author.Needs.{needs}
 use Rattle.names.proofs.text.same_bytes.Statement.{statement}
 use Rattle.names.proofs.text.same_bytes.Tie as tie
+use Rattle.names.proofs.text.same_bytes.Reads as reads
+use Rattle.names.proofs.text.same_bytes.Lts as lts
 
 abbrev Inv-loop : tie.InvT-loop
-Inv-loop a b i₀ i = (i ≤ length a) × (length a ≡ length b) × (sameBytes a b ≡ sameBytes (drop i a) (drop i b))
+Inv-loop a b same₀ i₀ same i =
+    (i ≤ length a) × (length a ≡ length b) × (sameBytes a b ≡ pick same (sameBytes (drop i a) (drop i b)) false)
 
 abbrev μ-loop : tie.MeasureT-loop
-μ-loop a b i₀ i = length a - i
+μ-loop a b same₀ i₀ same i = length a - i
 
 returns : tie.Need-returns Inv-loop μ-loop
 returns c = sym (unlike-lengths _ _ (c .if1 .taken))
 
 loop-holds : tie.Need-loop-holds Inv-loop μ-loop
+unfolding pick
 loop-holds c = (omega arith, c .if1 .left, refl)
 
-shared-slice-read-if2 : tie.Need-shared-slice-read-if2 Inv-loop μ-loop
-shared-slice-read-if2 c = omega arith
+shared-slice-read-same : tie.Need-shared-slice-read-same Inv-loop μ-loop
+shared-slice-read-same c = search needs
 
-shared-slice-read-if2-2 : tie.Need-shared-slice-read-if2-2 Inv-loop μ-loop
-shared-slice-read-if2-2 c = omega (arith, c .before .before .before .loop .inv .1)
-
-returns-2 : tie.Need-returns-2 Inv-loop μ-loop
-returns-2 c =
-    sym (c .before .before .before .before .loop .inv .2 ∙ unlike-here _ _ _ (c .before .before .before .loop-test .taken) (omega (arith, c .before .before .before .before .loop .inv .1, c .before .before .before .loop-test .taken)) (c .if2 .taken))
+shared-slice-read-same-2 : tie.Need-shared-slice-read-same-2 Inv-loop μ-loop
+shared-slice-read-same-2 c = search needs
 
 add-i : tie.Need-add-i Inv-loop μ-loop
 add-i c = search needs
 
 loop-less : tie.Need-loop-less Inv-loop μ-loop
-loop-less c = omega arith
+loop-less c = search needs
 
 loop-again : tie.Need-loop-again Inv-loop μ-loop
 loop-again c =
-    (omega arith, c .before .before .before .before .loop .inv .1, c .before .before .before .before .loop .inv .2 ∙ same-here _ _ _ (c .before .before .before .loop-test .taken) (omega (arith, c .before .before .before .before .loop .inv .1, c .before .before .before .loop-test .taken)) (c .if2 .left))
+    (omega arith, c .before .before .before .loop .inv .1, c .before .before .before .loop .inv .2 ∙ same-next _ _ _ (c .before .before .loop-test .taken) (omega (arith, c .before .before .before .loop .inv .1, c .before .before .loop-test .taken)) (c .before .before .before .loop .same))
 
-returns-3 : tie.Need-returns-3 Inv-loop μ-loop
-returns-3 c =
-    sym (c .before .loop .inv .2 ∙ same-end _ _ _ (c .loop-test .left) (omega (arith, c .before .loop .inv .1, c .loop-test .left)))
+returns-2 : tie.Need-returns-2 Inv-loop μ-loop
+returns-2 c =
+    sym (c .before .loop .inv .2 ∙ same-end _ _ _ (c .loop-test .left) (omega (arith, c .before .loop .inv .1, c .loop-test .left)) (c .before .loop .same))
 
 pub same-bytes-spec : {M : Type 1} → statement M
 same-bytes-spec =
@@ -53,10 +54,9 @@ same-bytes-spec =
     μ-loop
     returns
     loop-holds
-    shared-slice-read-if2
-    shared-slice-read-if2-2
-    returns-2
+    shared-slice-read-same
+    shared-slice-read-same-2
     add-i
     loop-less
     loop-again
-    returns-3)
+    returns-2)
