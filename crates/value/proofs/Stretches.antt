@@ -2,38 +2,43 @@
 -- nothing.
 use mathlib.Core.Path.{_≡_, refl, ap, sym, _∙_}
 use mathlib.Core.Bool.{Bool, true, false}
-use mathlib.Core.List.{List}
+use mathlib.Core.List.{List, []}
 use mathlib.Core.Logic.{⊎-elim}
 use mathlib.Core.Option.{some}
 use Prim.Native.Nat.{ℕ, _+_, _-_, _*_, _^_, _<_, _≤_}
 use native.Mathlib.Omega.{arith}
 use native.Mathlib.Nat.{add-zero, add-sub-cancel-left}
 use lib.Dec.{eqb, ltb}
-use lib.ListN.{length, take, drop, getD, length-take, length-drop}
+use lib.ListN.{length, take, drop, getD, set as store, length-take, length-drop}
 use lib.Seq.{sets}
 use borrow.Author.Tests.{eqb-true, eqb-false, ltb-false, le-ltb, lt-leb, eq-eqb, ne-eqb}
 use Rattle.wire.specs.Choice.{pick}
 use Rattle.wire.proofs.Picks.{clash, same-or-not, pick-case}
 use Rattle.scalars.specs.Scalars.{sized as of-size}
 use Rattle.scalars.specs.Sizes.{Fixed}
-use Rattle.heads.specs.Heads.{word, negative, gone, sized, optional, plainHead, objectHead, requires, endOf}
+use Rattle.heads.specs.Heads.{word, negative, gone, sized, optional, plainHead, objectHead, requires, sparseIndex, endOf}
+use Rattle.heads.specs.Faults.{headFault}
+use Rattle.heads.specs.declared.Index.the-variants.{Known}
 use Rattle.heads.specs.declared.Head.{Head}
 use Rattle.heads.specs.declared.Head.the-variants.{Present, Absent, Fault}
-use Rattle.heads.proofs.Cases.{plain-cases}
+use Rattle.heads.proofs.Cases.{plain-cases, optional-cases}
 use Rattle.rules.specs.Node.{refAt}
 use Rattle.rules.specs.Forest.{entryWords}
-use Rattle.rules.specs.Values.{entryOf, elements, member, rowForm, rowHead, valueOf}
+use Rattle.rules.specs.Values.{entryOf, elements, member, rowForm, sparseForm, noMarks, rowHead, valueOf}
 use Rattle.plan.specs.Plan.{look, cardsAt, At}
 use Rattle.plan.specs.Readers.{Refers}
 use Rattle.plan.proofs.Looks.{look-row}
 use Rattle.plan.proofs.Nodes.{at-ref}
 use Rattle.value.specs.Walk.{walkOf, led, leafKind, leafGood}
-use Rattle.value.specs.Leaves.{FixedAt, Ordered, gapOf, stands, GoodLeaf, Stretched}
+use Rattle.value.specs.Leaves.{FixedAt, Ordered, gapOf, stands, GoodLeaf, Stretched, GivenLeaf, Gathers}
 use Rattle.value.specs.declared.Leaf.{Leaf}
 use Rattle.value.specs.declared.Leaf.the-variants.{Good, Other}
+use Rattle.value.specs.declared.Given.{Given}
+use Rattle.value.specs.declared.Given.the-variants.{Whole, Unknown}
 use Rattle.value.specs.declared.Step.the-variants.{Reached}
 use Rattle.value.proofs.Nodes.{good-scalar, head-tuple, head-object, head-plain}
-use Rattle.value.proofs.Members.{leaf-good, member-present}
+use Rattle.value.proofs.Members.{leaf-good, member-present, known-in, sparse-turn}
+use Rattle.value.proofs.Counted.{Counted, counted-none, counted-next}
 use Rattle.value.proofs.Walks.{single, turn-go}
 
 -- ---- a leaf's size
@@ -158,6 +163,23 @@ fixed-good p k size s start f z h =
     let e : length (take size (drop start s)) ≡ size = simp (length-take, length-drop) (omega arith) in
     f .rule z (take size (drop start s)) ∙ eq-eqb (length (take size (drop start s))) size e
 
+-- ---- a leaf that was read and put
+
+module _ (p : List ℕ) (k base : ℕ) (s : List ℕ) (i start size child : ℕ) (fits : start + size ≤ length s) (r : refAt (look p k) i ≡ some child) (a : At p child)
+    (x : leafKind (getD p child 0) ≡ true) (good : leafGood (look p child) (take size (drop start s)) ≡ true) (to : ℕ) (l l′ : List ℕ)
+    (e : l′ ≡ sets l to (entryWords (entryOf child i (base + start) size) 0)) where
+  part-is : take (start + size - start) (drop start s) ≡ take size (drop start s)
+  part-is = rw add-sub-cancel-left
+
+  size-is : length (take (start + size - start) (drop start s)) ≡ size
+  size-is = rw add-sub-cancel-left (simp (length-take, length-drop) (omega arith))
+
+  leaf-led : walkOf (Reached (to + 5)) l′ ≡ led (member (valueOf (look p)) (refAt (look p k)) base s (Present i start size)) to l
+  unfolding walkOf
+  leaf-led =
+      leaf-good p child a x i (base + start) (take (start + size - start) (drop start s)) to l true (sym good ∙ ap (leafGood (look p child)) (sym part-is)) refl l′ (rw size-is e)
+      ∙ member-present (valueOf (look p)) (refAt (look p k)) base s (Present i start size) to l i start child r size refl
+
 -- ---- the loop over leaves
 
 abbrev pub Going : List ℕ → ℕ → ℕ → List ℕ → ℕ → ℕ → ℕ → ℕ → List ℕ → ℕ → ℕ → ℕ → ℕ → List ℕ → Type 0
@@ -180,18 +202,6 @@ module _ (p : List ℕ) (k base : ℕ) (s : List ℕ) (n first from at : ℕ) (l
     module _ (z : 0 < left) (start size child : ℕ) (h : rowHead (look p k) s i pos ≡ Present i start size) (after : pos + 4 ≤ start) (fits : start + size ≤ length s)
         (r : refAt (look p k) i ≡ some child) (a : At p child) (x : leafKind (getD p child 0) ≡ true) (good : leafGood (look p child) (take size (drop start s)) ≡ true)
         (l″ : List ℕ) (e : l″ ≡ sets l′ to (entryWords (entryOf child i (base + start) size) 0)) (same : length l″ ≡ length l′) where
-      part-is : take (start + size - start) (drop start s) ≡ take size (drop start s)
-      part-is = rw add-sub-cancel-left
-
-      size-is : length (take (start + size - start) (drop start s)) ≡ size
-      size-is = rw add-sub-cancel-left (simp (length-take, length-drop) (omega arith))
-
-      leaf-led : walkOf (Reached (to + 5)) l″ ≡ led (member (valueOf (look p)) (refAt (look p k)) base s (Present i start size)) to l′
-      unfolding walkOf
-      leaf-led =
-          leaf-good p child a x i (base + start) (take (start + size - start) (drop start s)) to l′ true (sym good ∙ ap (leafGood (look p child)) (sym part-is)) refl l″ (rw size-is e)
-          ∙ member-present (valueOf (look p)) (refAt (look p k)) base s (Present i start size) to l′ i start child r size refl
-
       going-next : Going p k base s n first from at l (left - 1) (i + 1) (start + size) (to + 5) l″
       unfolding endOf
       going-next = (
@@ -202,7 +212,7 @@ module _ (p : List ℕ) (k base : ℕ) (s : List ℕ) (n first from at : ℕ) (l
         same ∙ g .4,
         g .5
             ∙ turn-go (valueOf (look p)) (single (look p)) (refAt (look p k)) base s (rowForm (look p k) s) i pos to left l′ z (Present i start size) (sym h)
-            (Reached (to + 5)) l″ leaf-led (to + 5) refl (i + 1) refl (start + size) refl,
+            (Reached (to + 5)) l″ (leaf-led p k base s i start size child fits r a x good to l′ l″ e) (to + 5) refl (i + 1) refl (start + size) refl,
       )
 
     -- the next element of a set or an array
@@ -252,3 +262,72 @@ module _ (p : List ℕ) (k base : ℕ) (s : List ℕ) (end n from at : ℕ) (l :
       let e : end - left + 1 + (left - 1) ≡ end = omega arith in
       let y = x .some in
       (omega arith, x .inside, x .few, kept ∙ same ∙ inv .3, inv .4 ∙ turn ∙ rw e at (x .leads))
+
+-- ---- the leaves of a sparse object
+
+optional-there : (s : List ℕ) (q : Bool) (i from size₀ j start size : ℕ) → from ≤ length s → optional s q i from size₀ ≡ Present j start size
+    → (optional s q i from size₀ ≡ Present i start size) × (from ≤ start) × (start + size ≤ length s)
+optional-there s q i from size₀ j start size inside =
+    optional-cases (λ h. h ≡ Present j start size → (h ≡ Present i start size) × (from ≤ start) × (start + size ≤ length s))
+    (λ _ _ e. let z : _≡_ {A = ℕ} 0 1 = cc in absurd (omega arith)) s q i from size₀
+    (λ _ e. let z : _≡_ {A = ℕ} 0 1 = cc in absurd (omega arith))
+    (λ few fits e.
+    let a : from ≡ start = cc in
+    let b : size₀ ≡ size = cc in
+    (rw (a, b), omega arith, omega arith))
+
+-- what a sparse object's leaf in hand says
+module _ (p : List ℕ) (k : ℕ) (s : List ℕ) (at : ℕ) where
+  pub head-there : (i : ℕ) → at + 8 ≤ length s → (h : Head) → h ≡ optional s (requires (getD (cardsAt p k) i 0)) i (at + 8) (word s (at + 4)) → (j start size : ℕ) → h ≡ Present j start size
+      → (optional s (requires (getD (cardsAt p k) i 0)) i (at + 8) (word s (at + 4)) ≡ Present i start size) × (at + 8 ≤ start) × (start + size ≤ length s)
+  head-there i whole h eh j start size e = optional-there s (requires (getD (cardsAt p k) i 0)) i (at + 8) (word s (at + 4)) j start size whole (sym eh ∙ e)
+
+  pub given-there : (i child : ℕ) → sparseIndex s (getD p (k + 1) 0) [] at ≡ Known i → refAt (look p k) i ≡ some child → at + 8 ≤ length s
+      → (h : Head) → h ≡ optional s (requires (getD (cardsAt p k) i 0)) i (at + 8) (word s (at + 4)) → (j start size : ℕ) → h ≡ Present j start size
+      → leafKind (getD p child 0) ≡ true → leafGood (look p child) (take (start + size - start) (drop start s)) ≡ true → GivenLeaf p k s at (Whole i child start size)
+  unfolding GivenLeaf
+  given-there i child known r whole h eh j start size e x good =
+      (known, r, head-there i whole h eh j start size e .0, x, rw add-sub-cancel-left at good)
+
+  pub given-in : (g : Given) (i child start size : ℕ) → GivenLeaf p k s at g → g ≡ Whole i child start size
+      → (sparseIndex s (getD p (k + 1) 0) [] at ≡ Known i) × (refAt (look p k) i ≡ some child)
+      × (optional s (requires (getD (cardsAt p k) i 0)) i (at + 8) (word s (at + 4)) ≡ Present i start size) × (leafKind (getD p child 0) ≡ true)
+      × (leafGood (look p child) (take size (drop start s)) ≡ true)
+  unfolding GivenLeaf
+  given-in g i child start size x e = rw e at x
+
+abbrev pub Gathering : List ℕ → ℕ → ℕ → List ℕ → ℕ → ℕ → ℕ → List ℕ → List Bool → ℕ → ℕ → ℕ → ℕ → List ℕ → Type 0
+Gathering p k base s n from at l marks count left pos to l′ =
+    (pos ≤ length s) × (4 * to ≤ 5 * (base + pos) + 20) × (length l′ ≡ length l) × Counted p k marks count
+    × (led (elements (sparseForm (cardsAt p k) s) (valueOf (look p)) (refAt (look p k)) base s n noMarks from) at l
+    ≡ led (elements (sparseForm (cardsAt p k) s) (valueOf (look p)) (refAt (look p k)) base s left marks pos) to l′)
+
+module _ (p : List ℕ) (k base : ℕ) (s : List ℕ) (n from at : ℕ) (l : List ℕ) where
+  pub gathering-start : (marks : List Bool) → marks ≡ noMarks → from ≤ length s → 4 * at ≤ 5 * (base + from) + 20 → Gathering p k base s n from at l marks 0 n from at l
+  gathering-start marks e inside few =
+      (inside, few, refl, counted-none p k marks e, ap (λ (m : List Bool). led (elements (sparseForm (cardsAt p k) s) (valueOf (look p)) (refAt (look p k)) base s n m from) at l) (sym e))
+
+  module _ (marks : List Bool) (count left pos to : ℕ) (l′ : List ℕ) (g : Gathering p k base s n from at l marks count left pos to l′) where
+    pub gathering-end : Gathers p k base s n from at l marks count left pos to l′
+    gathering-end = record { inside = g .0; few = g .1; room = g .3 .room; counts = g .3 .same; leads = g .4 }
+
+    -- the next element
+    pub gathering-next : 0 < left → At p k → getD p k 0 ≡ 6 → (x : Given) (i child start size : ℕ) → GivenLeaf p k s pos x → x ≡ Whole i child start size → getD marks i false ≡ false
+        → (marks′ : List Bool) → marks′ ≡ store marks i true → (count′ : ℕ) → count′ ≡ count + pick (requires (getD (cardsAt p k) i 0)) 1 0
+        → (l″ : List ℕ) → l″ ≡ sets l′ to (entryWords (entryOf child i (base + start) size) 0) → length l″ ≡ length l′
+        → Gathering p k base s n from at l marks′ count′ (left - 1) (start + size) (to + 5) l″
+    unfolding endOf headFault
+    gathering-next z a e x i child start size gx ex new marks′ em count′ ec l″ el same =
+        let t = given-in p k s pos x i child start size gx ex in
+        let w = known-in p k a e s pos (getD p (k + 1) 0) i refl (Known i) (sym (t .0)) refl (g .0) in
+        let h = head-there p k s pos i (w .2) (Present i start size) (sym (t .2)) i start size refl in
+        let u = sparse-turn p k a e s pos (getD p (k + 1) 0) i refl (Known i) (sym (t .0)) refl marks new (Present i start size) (sym (t .2)) (g .0) in
+        let b = h .1 in (
+          h .2,
+          omega (arith, g .1),
+          same ∙ g .2,
+          counted-next p k marks count (g .3) i (w .0) (w .1) new marks′ em count′ ec,
+          g .4 ∙ turn-go (valueOf (look p)) (single (look p)) (refAt (look p k)) base s (sparseForm (cardsAt p k) s) marks pos to left l′ z (Present i start size) (u .is)
+              (Reached (to + 5)) l″ (leaf-led p k base s i start size child (h .2) (t .1) (at-ref p k i child a (t .1) .0) (t .3) (t .4) to l′ l″ el)
+              (to + 5) refl marks′ (em ∙ u .next refl) (start + size) refl,
+        )

@@ -1,17 +1,20 @@
 // Elements that are leaves, as most are: a loop over them spares each the calls of the walk. It ends before the first element that is no
 // leaf, not there or not permitted, and there the walk goes on. So nothing is refused here, and how far a stretch goes is a matter of
 // time alone: what is left after it leads to the same place.
+use crate::Gathered;
+use crate::Given;
 use crate::Leaf;
 use crate::Stretch;
 use crate::entry;
 use crate::node;
 use heads::Head;
+use heads::Index;
 ghost use mathlib.Core.Path.{_≡_};
 ghost use Prim.Native.Nat.{_+_, _*_, _^_, _<_, _≤_};
 ghost use lib.ListN.{length, getD};
 ghost use Rattle.plan.specs.Plan.{look, At};
 ghost use Rattle.value.specs.Walk.{Holds, leafGood, leafKind};
-ghost use Rattle.value.specs.Leaves.{FixedAt, Ordered, Stretched, GoodLeaf, gapOf, stands};
+ghost use Rattle.value.specs.Leaves.{FixedAt, Ordered, Stretched, GoodLeaf, GivenLeaf, Gathers, gapOf, stands};
 ghost use mathlib.Core.Bool.{true};
 
 // The size of a leaf whose values are any bytes of that size, and 0 for every other node.
@@ -190,4 +193,96 @@ pub fn walk_leaves(
         }
     }
     other_leaves(plan, node, count, first, base, from, part, list, at)
+}
+
+// The element of a sparse object at `pos`, where its index is known, it is there, is a leaf and is permitted.
+fn given_leaf(plan: &[u32], node: usize, part: &[u8], pos: usize) -> Given
+    requires { ⌜ (At (now plan) node) × (getD (now plan) node 0 ≡ 6) × (pos ≤ length (now part)) ⌝ }
+    ensures { λ r. ⌜ GivenLeaf (now (plan .entry)) node (now (part .entry)) pos r ⌝ }
+{
+    let n = plan::node::second_at(plan, node);
+    let known = heads::sparse::sparse_index(part, n, pos);
+    let Index::Known(index) = known else {
+        return Given::Unknown;
+    };
+    let head = node::sparse_head(plan, node, part, index, pos);
+    let Head::Present {
+        index: _,
+        start,
+        size,
+    } = head
+    else {
+        return Given::Unknown;
+    };
+    let child = plan::node::ref_of(plan, node, index);
+    let kind = plan::node::kind_at(plan, child);
+    if !node::is_leaf(kind) {
+        return Given::Unknown;
+    }
+    let end = start + size;
+    if is_good(plan, child, kind, &part[start..end]) {
+        return Given::Whole {
+            index,
+            child,
+            start,
+            size,
+        };
+    }
+    Given::Unknown
+}
+
+// Where a stretch of a sparse object's elements ends.
+fn gathered(marks: [bool; 512], given: usize, left: usize, pos: usize, at: usize) -> Gathered
+    ensures { λ r. ⌜ (r .marks ≡ marks) × (r .given ≡ given) × (r .left ≡ left) × (r .pos ≡ pos) × (r .at ≡ at) ⌝ }
+{
+    Gathered {
+        marks,
+        given,
+        left,
+        pos,
+        at,
+    }
+}
+
+// The leaves that a sparse object starts with: in most such objects, all of its elements. The marks stay where they are while the loop goes.
+pub fn sparse_leaves(
+    plan: &[u32],
+    node: usize,
+    count: usize,
+    base: usize,
+    from: usize,
+    part: &[u8],
+    list: &mut [u32],
+    at: usize,
+) -> Gathered
+    requires { ⌜ (At (now plan) node) × (getD (now plan) node 0 ≡ 6) × (base + length (now part) ≤ 65535) × (from ≤ length (now part)) × (4 * at ≤ 5 * (base + from) + 20) ⌝ }
+    ensures { λ r. ⌜ Gathers (now (plan .entry)) node base (now (part .entry)) count from at (now (list .entry)) (r .marks) (r .given) (r .left) (r .pos) (r .at) (now (list .exit)) ⌝ }
+{
+    let mut marks = [false; 512];
+    let mut given: usize = 0;
+    let mut left = count;
+    let mut pos = from;
+    let mut to = at;
+    while 0 < left {
+        let leaf = given_leaf(plan, node, part, pos);
+        let Given::Whole {
+            index,
+            child,
+            start,
+            size,
+        } = leaf
+        else {
+            return gathered(marks, given, left, pos, to);
+        };
+        if marks[index] {
+            return gathered(marks, given, left, pos, to);
+        }
+        marks[index] = true;
+        given = node::count_given(plan, node, index, given);
+        entry::put_entry(list, to, child, index, base + start, size, 0);
+        to += entry::WORDS;
+        pos = start + size;
+        left -= 1;
+    }
+    gathered(marks, given, left, pos, to)
 }

@@ -24,3 +24,25 @@ pub struct Stretch {
     pub pos: usize,
     pub at: usize,
 }
+
+// An element of a sparse object that is a leaf, is there and is permitted: its index, its node, where its bytes start and how many they are.
+// Or another.
+pub enum Given {
+    Whole {
+        index: usize,
+        child: usize,
+        start: usize,
+        size: usize,
+    },
+    Unknown,
+}
+
+// Where a stretch of a sparse object's elements ends: the marks of their indexes and how many of those are required, and the rest as in
+// a stretch.
+pub struct Gathered {
+    pub marks: [bool; 512],
+    pub given: usize,
+    pub left: usize,
+    pub pos: usize,
+    pub at: usize,
+}

@@ -195,11 +195,16 @@ fn walk_sparse(
     ensures within { λ r. ⌜ Within (base + length (now (part .entry))) r ⌝ }
 {
     let n = plan::node::second_at(plan, node);
-    let mut seen = Seen::new();
-    let mut given: usize = 0;
-    let mut left = count;
-    let mut pos = from;
-    let mut to = at;
+    let run = leaves::sparse_leaves(plan, node, count, base, from, part, list, at);
+    let marks = run.marks;
+    let mut seen = Seen {
+        marks,
+        twice: false,
+    };
+    let mut given = run.given;
+    let mut left = run.left;
+    let mut pos = run.pos;
+    let mut to = run.at;
     while 0 < left {
         let index = heads::sparse::sparse_index(part, n, pos);
         let Index::Known(i) = index else {

@@ -14,7 +14,7 @@ use Rattle.value.specs.Walk.{led, walkOf}
 use Rattle.value.proofs.Nodes.{head-bad}
 use Rattle.value.proofs.Walks.{single, turn-stop, turn-go, turn-fault, done}
 use borrow.Author.Needs.{needs}
-use Rattle.value.proofs.Counted.{Counted, counted-none, counted-few, counted-next, counted-end}
+use Rattle.value.proofs.Counted.{Counted, counted-few, counted-next, counted-end}
 use Prim.Native.Nat.{ℕ, _+_, _*_, _≤_, _<_}
 use borrow.Fn.Kinds.{In}
 use borrow.Fn.PlainCycle.{Measures, is, falls, and}
@@ -37,13 +37,13 @@ use Rattle.heads.proofs.parts.end_of.Reads as end-of-reads
 use Rattle.heads.proofs.parts.index_fault.Reads as index-fault-reads
 use Rattle.heads.proofs.parts.opening_fault.Reads as opening-fault-reads
 use Rattle.heads.proofs.sparse.Seen.mark.Reads as mark-reads
-use Rattle.heads.proofs.sparse.Seen.new.Reads as new-reads
 use Rattle.heads.proofs.sparse.sparse_index.Reads as sparse-index-reads
 use Rattle.plan.proofs.needs.needed_of.Reads as needed-of-reads
 use Rattle.plan.proofs.node.kind_at.Reads as kind-at-reads
 use Rattle.plan.proofs.node.ref_of.Reads as ref-of-reads
 use Rattle.plan.proofs.node.second_at.Reads as second-at-reads
 use Rattle.value.proofs.entry.put_entry.Reads as put-entry-reads
+use Rattle.value.proofs.leaves.sparse_leaves.Reads as sparse-leaves-reads
 use Rattle.value.proofs.leaves.walk_leaves.Reads as walk-leaves-reads
 use Rattle.value.proofs.node.count_given.Reads as count-given-reads
 use Rattle.value.proofs.node.is_leaf.Reads as is-leaf-reads
@@ -137,7 +137,7 @@ walk-row-claims t =
 
 abbrev walk-sparse-claims : ℕ → walk-sparse-lts.Claims
 walk-sparse-claims t =
-    (second-at-reads.Asked, second-at-reads.Learnt, new-reads.Asked, new-reads.Learnt, sparse-index-reads.Asked, sparse-index-reads.Learnt, index-fault-reads.Asked, index-fault-reads.Learnt, refused-reads.Asked, refused-reads.Learnt, mark-reads.Asked, mark-reads.Learnt, count-given-reads.Asked, count-given-reads.Learnt, sparse-head-reads.Asked, sparse-head-reads.Learnt, walk-member-below t, walk-member.Post, end-of-reads.Asked, end-of-reads.Learnt, needed-of-reads.Asked, needed-of-reads.Learnt, end-elements-reads.Asked, end-elements-reads.Learnt)
+    (second-at-reads.Asked, second-at-reads.Learnt, sparse-leaves-reads.Asked, sparse-leaves-reads.Learnt, sparse-index-reads.Asked, sparse-index-reads.Learnt, index-fault-reads.Asked, index-fault-reads.Learnt, refused-reads.Asked, refused-reads.Learnt, mark-reads.Asked, mark-reads.Learnt, count-given-reads.Asked, count-given-reads.Learnt, sparse-head-reads.Asked, sparse-head-reads.Learnt, walk-member-below t, walk-member.Post, end-of-reads.Asked, end-of-reads.Learnt, needed-of-reads.Asked, needed-of-reads.Learnt, end-elements-reads.Asked, end-elements-reads.Learnt)
 
 abbrev walk-value-claims : ℕ → walk-value-lts.Claims
 walk-value-claims t =
@@ -387,7 +387,7 @@ walk-row-returns-2 t c =
 abbrev walk-sparse-Inv-loop : walk-sparse-lts.InvT-loop
 walk-sparse-Inv-loop plan needs node count base from part list₀ at n seen₀ given₀ left₀ pos₀ to₀ list seen given left pos to =
     (pos ≤ length part) × (4 * to ≤ 5 * (base + pos) + 20) × (length list ≡ length list₀)
-    × (led (elements (sparseForm (cardsAt plan node) part) (valueOf (look plan)) (refAt (look plan node)) base part left₀ noMarks pos₀) to₀ list₀
+    × (led (elements (sparseForm (cardsAt plan node) part) (valueOf (look plan)) (refAt (look plan node)) base part left₀ (seen₀ .marks) pos₀) to₀ list₀
     ≡ led (elements (sparseForm (cardsAt plan node) part) (valueOf (look plan)) (refAt (look plan node)) base part left (seen .marks) pos) to list)
     × Counted plan node (seen .marks) given
 
@@ -398,16 +398,17 @@ walk-sparse-second-at-requires : (t : ℕ) → walk-sparse-lts.Need-second-at-re
 walk-sparse-second-at-requires t c κs =
     (c .before .before .before .before .pre .1 .0, λ e. omega (arith, c .before .before .before .before .pre .1 .1))
 
-walk-sparse-new-requires : (t : ℕ) → walk-sparse-lts.Need-new-requires (walk-sparse-claims t) (walk-sparse-at t) walk-sparse.Post walk-sparse-Inv-loop walk-sparse-μ-loop
-walk-sparse-new-requires t c κs = search needs
+walk-sparse-sparse-leaves-requires : (t : ℕ) → walk-sparse-lts.Need-sparse-leaves-requires (walk-sparse-claims t) (walk-sparse-at t) walk-sparse.Post walk-sparse-Inv-loop walk-sparse-μ-loop
+walk-sparse-sparse-leaves-requires t c κs =
+    (c .before .before .before .before .before .before .pre .1 .0, c .before .before .before .before .before .before .pre .1 .1, c .before .before .before .before .before .before .pre .1 .2, c .before .before .before .before .before .before .pre .1 .3, c .before .before .before .before .before .before .pre .1 .4)
 
 walk-sparse-loop-holds : (t : ℕ) → walk-sparse-lts.Need-loop-holds (walk-sparse-claims t) (walk-sparse-at t) walk-sparse.Post walk-sparse-Inv-loop walk-sparse-μ-loop
 walk-sparse-loop-holds t c =
-    (c .before .before .before .before .before .before .pre .1 .3, c .before .before .before .before .before .before .pre .1 .4, refl, rw (c .new .ensures), counted-none _ _ _ (c .new .ensures))
+    (c .before .before .before .sparse-leaves .ensures .inside, c .before .before .before .sparse-leaves .ensures .few, refl, refl, record { room = c .before .before .before .sparse-leaves .ensures .room; same = c .before .before .before .sparse-leaves .ensures .counts })
 
 walk-sparse-sparse-index-requires : (t : ℕ) → walk-sparse-lts.Need-sparse-index-requires (walk-sparse-claims t) (walk-sparse-at t) walk-sparse.Post walk-sparse-Inv-loop walk-sparse-μ-loop
 walk-sparse-sparse-index-requires t c κs =
-    (c .before .loop .inv .0, rw (c .before .before .before .second-at .ensures) (at-few _ _ (c .before .before .before .before .before .before .before .before .pre .1 .0) (omega (arith, c .before .before .before .before .before .before .before .before .pre .1 .1)) (omega (arith, c .before .before .before .before .before .before .before .before .pre .1 .1))))
+    (c .before .loop .inv .0, rw (c .before .before .before .before .before .before .before .second-at .ensures) (at-few _ _ (c .before .before .before .before .before .before .before .before .before .before .before .before .pre .1 .0) (omega (arith, c .before .before .before .before .before .before .before .before .before .before .before .before .pre .1 .1)) (omega (arith, c .before .before .before .before .before .before .before .before .before .before .before .before .pre .1 .1))))
 
 walk-sparse-enum-known-index : (t : ℕ) → walk-sparse-lts.Need-enum-known-index (walk-sparse-claims t) (walk-sparse-at t) walk-sparse.Post walk-sparse-Inv-loop walk-sparse-μ-loop
 walk-sparse-enum-known-index t c = search needs
@@ -420,43 +421,45 @@ walk-sparse-index-fault-requires t c κs = search needs
 
 walk-sparse-refused-requires : (t : ℕ) → walk-sparse-lts.Need-refused-requires (walk-sparse-claims t) (walk-sparse-at t) walk-sparse.Post walk-sparse-Inv-loop walk-sparse-μ-loop
 walk-sparse-refused-requires t c κs =
-    omega (arith, c .before .before .before .before .before .before .before .before .before .before .before .before .pre .1 .2)
+    omega (arith, c .before .before .before .before .before .before .before .before .before .before .before .before .before .before .before .before .pre .1 .2)
 
 walk-sparse-same-length : (t : ℕ) → walk-sparse-lts.Need-same-length (walk-sparse-claims t) (walk-sparse-at t) walk-sparse.Post walk-sparse-Inv-loop walk-sparse-μ-loop
-walk-sparse-same-length t c = c .before .before .before .before .before .before .loop .inv .2
+walk-sparse-same-length t c =
+    c .before .before .before .before .before .before .loop .inv .2 ∙ c .before .before .before .before .before .before .before .before .before .before .sparse-leaves .kept .1 .1 .1 .1 .1 .1 .0
 
 walk-sparse-returns : (t : ℕ) → walk-sparse-lts.Need-returns (walk-sparse-claims t) (walk-sparse-at t) walk-sparse.Post walk-sparse-Inv-loop walk-sparse-μ-loop
 walk-sparse-returns t c =
-    (turn-fault _ (single (look (c .before .before .before .before .before .before .before .before .before .before .before .before .before .args .plan .now))) _ _ _ (sparseForm (cardsAt (c .before .before .before .before .before .before .before .before .before .before .before .before .before .args .plan .now) (c .before .before .before .before .before .before .before .before .before .before .before .before .before .args .node)) (c .before .before .before .before .before .before .before .before .before .before .before .before .before .args .part .now)) (c .before .before .before .before .before .before .loop .seen .marks) (c .before .before .before .before .before .before .loop .pos) _ _ _ (c .before .before .before .before .before .loop-test .taken) _ (head-bad _ _ _ _ _ (c .before .before .before .before .before .before .before .before .second-at .ensures ∙ sym (cards-length _ _)) _ _ _ (c .before .before .before .before .sparse-index .ensures) (c .before .before .enum-told .given .1) (c .before .index-fault .ensures)) _ (c .refused .ensures) ∙ sym (c .before .before .before .before .before .before .loop .inv .3), refused-within _ _ _ _ (c .refused .ensures))
+    (turn-fault _ (single (look (c .before .before .before .before .before .before .before .before .before .before .before .before .before .before .before .before .before .args .plan .now))) _ _ _ (sparseForm (cardsAt (c .before .before .before .before .before .before .before .before .before .before .before .before .before .before .before .before .before .args .plan .now) (c .before .before .before .before .before .before .before .before .before .before .before .before .before .before .before .before .before .args .node)) (c .before .before .before .before .before .before .before .before .before .before .before .before .before .before .before .before .before .args .part .now)) (c .before .before .before .before .before .before .loop .seen .marks) (c .before .before .before .before .before .before .loop .pos) _ _ _ (c .before .before .before .before .before .loop-test .taken) _ (head-bad _ _ _ _ _ (c .before .before .before .before .before .before .before .before .before .before .before .before .second-at .ensures ∙ sym (cards-length _ _)) _ _ _ (c .before .before .before .before .sparse-index .ensures) (c .before .before .enum-told .given .1) (c .before .index-fault .ensures)) _ (c .refused .ensures) ∙ sym (c .before .before .before .before .before .before .loop .inv .3) ∙ sym (c .before .before .before .before .before .before .before .before .before .before .sparse-leaves .ensures .leads), refused-within _ _ _ _ (c .refused .ensures))
 
 walk-sparse-mark-requires : (t : ℕ) → walk-sparse-lts.Need-mark-requires (walk-sparse-claims t) (walk-sparse-at t) walk-sparse.Post walk-sparse-Inv-loop walk-sparse-μ-loop
 walk-sparse-mark-requires t c κs =
-    known-in _ _ (c .before .before .before .before .before .before .before .before .before .before .before .before .pre .1 .0) (c .before .before .before .before .before .before .before .before .before .before .before .before .pre .1 .1) _ _ _ _ (c .before .before .before .before .before .before .before .second-at .ensures) _ (c .before .before .before .sparse-index .ensures) (c .before .index .given .1) (c .before .before .before .before .before .loop .inv .0) .1
+    known-in _ _ (c .before .before .before .before .before .before .before .before .before .before .before .before .before .before .before .before .pre .1 .0) (c .before .before .before .before .before .before .before .before .before .before .before .before .before .before .before .before .pre .1 .1) _ _ _ _ (c .before .before .before .before .before .before .before .before .before .before .before .second-at .ensures) _ (c .before .before .before .sparse-index .ensures) (c .before .index .given .1) (c .before .before .before .before .before .loop .inv .0) .1
 
 walk-sparse-refused-requires-2 : (t : ℕ) → walk-sparse-lts.Need-refused-requires-2 (walk-sparse-claims t) (walk-sparse-at t) walk-sparse.Post walk-sparse-Inv-loop walk-sparse-μ-loop
 walk-sparse-refused-requires-2 t c κs =
-    omega (arith, c .before .before .before .before .before .before .before .before .before .before .before .before .before .before .pre .1 .2)
+    omega (arith, c .before .before .before .before .before .before .before .before .before .before .before .before .before .before .before .before .before .before .pre .1 .2)
 
 walk-sparse-same-length-2 : (t : ℕ) → walk-sparse-lts.Need-same-length-2 (walk-sparse-claims t) (walk-sparse-at t) walk-sparse.Post walk-sparse-Inv-loop walk-sparse-μ-loop
-walk-sparse-same-length-2 t c = c .before .before .before .before .before .before .before .before .loop .inv .2
+walk-sparse-same-length-2 t c =
+    c .before .before .before .before .before .before .before .before .loop .inv .2 ∙ c .before .before .before .before .before .before .before .before .before .before .before .before .sparse-leaves .kept .1 .1 .1 .1 .1 .1 .0
 
 walk-sparse-returns-2 : (t : ℕ) → walk-sparse-lts.Need-returns-2 (walk-sparse-claims t) (walk-sparse-at t) walk-sparse.Post walk-sparse-Inv-loop walk-sparse-μ-loop
 walk-sparse-returns-2 t c =
-    (turn-fault _ (single (look (c .before .before .before .before .before .before .before .before .before .before .before .before .before .before .before .args .plan .now))) _ _ _ (sparseForm (cardsAt (c .before .before .before .before .before .before .before .before .before .before .before .before .before .before .before .args .plan .now) (c .before .before .before .before .before .before .before .before .before .before .before .before .before .before .before .args .node)) (c .before .before .before .before .before .before .before .before .before .before .before .before .before .before .before .args .part .now)) (c .before .before .before .before .before .before .before .before .loop .seen .marks) (c .before .before .before .before .before .before .before .before .loop .pos) _ _ _ (c .before .before .before .before .before .before .before .loop-test .taken) _ (sparse-twice _ _ (c .before .before .before .before .before .before .before .before .before .before .before .before .before .before .before .pre .1 .0) (c .before .before .before .before .before .before .before .before .before .before .before .before .before .before .before .pre .1 .1) _ _ _ _ (c .before .before .before .before .before .before .before .before .before .before .second-at .ensures) _ (c .before .before .before .before .before .before .sparse-index .ensures) (c .before .before .before .before .index .given .1) (c .before .before .before .before .before .before .before .before .loop .seen .marks) (sym (c .before .before .mark .ensures .0) ∙ c .before .if1 .taken)) _ (c .refused2 .ensures) ∙ sym (c .before .before .before .before .before .before .before .before .loop .inv .3), refused-within _ _ _ _ (c .refused2 .ensures))
+    (turn-fault _ (single (look (c .before .before .before .before .before .before .before .before .before .before .before .before .before .before .before .before .before .before .before .args .plan .now))) _ _ _ (sparseForm (cardsAt (c .before .before .before .before .before .before .before .before .before .before .before .before .before .before .before .before .before .before .before .args .plan .now) (c .before .before .before .before .before .before .before .before .before .before .before .before .before .before .before .before .before .before .before .args .node)) (c .before .before .before .before .before .before .before .before .before .before .before .before .before .before .before .before .before .before .before .args .part .now)) (c .before .before .before .before .before .before .before .before .loop .seen .marks) (c .before .before .before .before .before .before .before .before .loop .pos) _ _ _ (c .before .before .before .before .before .before .before .loop-test .taken) _ (sparse-twice _ _ (c .before .before .before .before .before .before .before .before .before .before .before .before .before .before .before .before .before .before .before .pre .1 .0) (c .before .before .before .before .before .before .before .before .before .before .before .before .before .before .before .before .before .before .before .pre .1 .1) _ _ _ _ (c .before .before .before .before .before .before .before .before .before .before .before .before .before .before .second-at .ensures) _ (c .before .before .before .before .before .before .sparse-index .ensures) (c .before .before .before .before .index .given .1) (c .before .before .before .before .before .before .before .before .loop .seen .marks) (sym (c .before .before .mark .ensures .0) ∙ c .before .if1 .taken)) _ (c .refused2 .ensures) ∙ sym (c .before .before .before .before .before .before .before .before .loop .inv .3) ∙ sym (c .before .before .before .before .before .before .before .before .before .before .before .before .sparse-leaves .ensures .leads), refused-within _ _ _ _ (c .refused2 .ensures))
 
 walk-sparse-count-given-requires : (t : ℕ) → walk-sparse-lts.Need-count-given-requires (walk-sparse-claims t) (walk-sparse-at t) walk-sparse.Post walk-sparse-Inv-loop walk-sparse-μ-loop
 walk-sparse-count-given-requires t c κs =
-    let i = known-in _ _ (c .before .before .before .before .before .before .before .before .before .before .before .before .before .before .pre .1 .0) (c .before .before .before .before .before .before .before .before .before .before .before .before .before .before .pre .1 .1) _ _ _ _ (c .before .before .before .before .before .before .before .before .before .second-at .ensures) _ (c .before .before .before .before .before .sparse-index .ensures) (c .before .before .before .index .given .1) (c .before .before .before .before .before .before .before .loop .inv .0) in
-    (c .before .before .before .before .before .before .before .before .before .before .before .before .before .before .pre .1 .0, c .before .before .before .before .before .before .before .before .before .before .before .before .before .before .pre .1 .1, i .0, counted-few _ _ _ _ (c .before .before .before .before .before .before .before .loop .inv .4) (c .before .before .before .before .before .before .before .before .before .before .before .before .before .before .pre .1 .0) (c .before .before .before .before .before .before .before .before .before .before .before .before .before .before .pre .1 .1))
+    let i = known-in _ _ (c .before .before .before .before .before .before .before .before .before .before .before .before .before .before .before .before .before .before .pre .1 .0) (c .before .before .before .before .before .before .before .before .before .before .before .before .before .before .before .before .before .before .pre .1 .1) _ _ _ _ (c .before .before .before .before .before .before .before .before .before .before .before .before .before .second-at .ensures) _ (c .before .before .before .before .before .sparse-index .ensures) (c .before .before .before .index .given .1) (c .before .before .before .before .before .before .before .loop .inv .0) in
+    (c .before .before .before .before .before .before .before .before .before .before .before .before .before .before .before .before .before .before .pre .1 .0, c .before .before .before .before .before .before .before .before .before .before .before .before .before .before .before .before .before .before .pre .1 .1, i .0, counted-few _ _ _ _ (c .before .before .before .before .before .before .before .loop .inv .4) (c .before .before .before .before .before .before .before .before .before .before .before .before .before .before .before .before .before .before .pre .1 .0) (c .before .before .before .before .before .before .before .before .before .before .before .before .before .before .before .before .before .before .pre .1 .1))
 
 walk-sparse-sparse-head-requires : (t : ℕ) → walk-sparse-lts.Need-sparse-head-requires (walk-sparse-claims t) (walk-sparse-at t) walk-sparse.Post walk-sparse-Inv-loop walk-sparse-μ-loop
 walk-sparse-sparse-head-requires t c κs =
-    let i = known-in _ _ (c .before .before .before .before .before .before .before .before .before .before .before .before .before .before .before .pre .1 .0) (c .before .before .before .before .before .before .before .before .before .before .before .before .before .before .before .pre .1 .1) _ _ _ _ (c .before .before .before .before .before .before .before .before .before .before .second-at .ensures) _ (c .before .before .before .before .before .before .sparse-index .ensures) (c .before .before .before .before .index .given .1) (c .before .before .before .before .before .before .before .before .loop .inv .0) in
-    (c .before .before .before .before .before .before .before .before .before .before .before .before .before .before .before .pre .1 .0, c .before .before .before .before .before .before .before .before .before .before .before .before .before .before .before .pre .1 .1, i .0, i .2)
+    let i = known-in _ _ (c .before .before .before .before .before .before .before .before .before .before .before .before .before .before .before .before .before .before .before .pre .1 .0) (c .before .before .before .before .before .before .before .before .before .before .before .before .before .before .before .before .before .before .before .pre .1 .1) _ _ _ _ (c .before .before .before .before .before .before .before .before .before .before .before .before .before .before .second-at .ensures) _ (c .before .before .before .before .before .before .sparse-index .ensures) (c .before .before .before .before .index .given .1) (c .before .before .before .before .before .before .before .before .loop .inv .0) in
+    (c .before .before .before .before .before .before .before .before .before .before .before .before .before .before .before .before .before .before .before .pre .1 .0, c .before .before .before .before .before .before .before .before .before .before .before .before .before .before .before .before .before .before .before .pre .1 .1, i .0, i .2)
 
 walk-sparse-walk-member-requires : (t : ℕ) → walk-sparse-lts.Need-walk-member-requires (walk-sparse-claims t) (walk-sparse-at t) walk-sparse.Post walk-sparse-Inv-loop walk-sparse-μ-loop
 walk-sparse-walk-member-requires t c κs =
-    (omega (arith, c .before .before .before .before .before .before .before .before .before .before .before .before .before .before .before .before .before .pre .0), (c .before .before .before .before .before .before .before .before .before .before .before .before .before .before .before .before .before .pre .1 .0, c .before .before .before .before .before .before .before .before .before .before .before .before .before .before .before .before .before .pre .1 .2, sparse-turn _ _ (c .before .before .before .before .before .before .before .before .before .before .before .before .before .before .before .before .before .pre .1 .0) (c .before .before .before .before .before .before .before .before .before .before .before .before .before .before .before .before .before .pre .1 .1) _ _ _ _ (c .before .before .before .before .before .before .before .before .before .before .before .before .second-at .ensures) _ (c .before .before .before .before .before .before .before .before .sparse-index .ensures) (c .before .before .before .before .before .before .index .given .1) (c .before .before .before .before .before .before .before .before .before .before .loop .seen .marks) (sym (c .before .before .before .before .mark .ensures .0) ∙ c .before .before .before .if1 .left) _ (c .before .sparse-head .ensures) (c .before .before .before .before .before .before .before .before .before .before .loop .inv .0) .inside, c .before .before .before .before .before .before .before .before .before .before .loop .inv .1, c .before .before .before .before .before .before .before .before .before .before .before .before .before .before .before .before .before .pre .1 .5))
+    (omega (arith, c .before .before .before .before .before .before .before .before .before .before .before .before .before .before .before .before .before .before .before .before .before .pre .0), (c .before .before .before .before .before .before .before .before .before .before .before .before .before .before .before .before .before .before .before .before .before .pre .1 .0, c .before .before .before .before .before .before .before .before .before .before .before .before .before .before .before .before .before .before .before .before .before .pre .1 .2, sparse-turn _ _ (c .before .before .before .before .before .before .before .before .before .before .before .before .before .before .before .before .before .before .before .before .before .pre .1 .0) (c .before .before .before .before .before .before .before .before .before .before .before .before .before .before .before .before .before .before .before .before .before .pre .1 .1) _ _ _ _ (c .before .before .before .before .before .before .before .before .before .before .before .before .before .before .before .before .second-at .ensures) _ (c .before .before .before .before .before .before .before .before .sparse-index .ensures) (c .before .before .before .before .before .before .index .given .1) (c .before .before .before .before .before .before .before .before .before .before .loop .seen .marks) (sym (c .before .before .before .before .mark .ensures .0) ∙ c .before .before .before .if1 .left) _ (c .before .sparse-head .ensures) (c .before .before .before .before .before .before .before .before .before .before .loop .inv .0) .inside, c .before .before .before .before .before .before .before .before .before .before .loop .inv .1, c .before .before .before .before .before .before .before .before .before .before .before .before .before .before .before .before .before .before .before .before .before .pre .1 .5))
 
 walk-sparse-enum-known-step : (t : ℕ) → walk-sparse-lts.Need-enum-known-step (walk-sparse-claims t) (walk-sparse-at t) walk-sparse.Post walk-sparse-Inv-loop walk-sparse-μ-loop
 walk-sparse-enum-known-step t c = search needs
@@ -466,20 +469,20 @@ walk-sparse-enum-told-2 t c = search needs
 
 walk-sparse-same-length-3 : (t : ℕ) → walk-sparse-lts.Need-same-length-3 (walk-sparse-claims t) (walk-sparse-at t) walk-sparse.Post walk-sparse-Inv-loop walk-sparse-μ-loop
 walk-sparse-same-length-3 t c =
-    c .before .before .before .before .walk-member .kept .1 .1 .1 .1 .1 .1 .1 .0 ∙ c .before .before .before .before .before .before .before .before .before .before .before .before .before .before .before .loop .inv .2
+    c .before .before .before .before .walk-member .kept .1 .1 .1 .1 .1 .1 .1 .0 ∙ c .before .before .before .before .before .before .before .before .before .before .before .before .before .before .before .loop .inv .2 ∙ c .before .before .before .before .before .before .before .before .before .before .before .before .before .before .before .before .before .before .before .sparse-leaves .kept .1 .1 .1 .1 .1 .1 .0
 
 walk-sparse-returns-3 : (t : ℕ) → walk-sparse-lts.Need-returns-3 (walk-sparse-claims t) (walk-sparse-at t) walk-sparse.Post walk-sparse-Inv-loop walk-sparse-μ-loop
 walk-sparse-returns-3 t c =
-    let r = sparse-turn _ _ (c .before .before .before .before .before .before .before .before .before .before .before .before .before .before .before .before .before .before .before .before .before .before .pre .1 .0) (c .before .before .before .before .before .before .before .before .before .before .before .before .before .before .before .before .before .before .before .before .before .before .pre .1 .1) _ _ _ _ (c .before .before .before .before .before .before .before .before .before .before .before .before .before .before .before .before .before .second-at .ensures) _ (c .before .before .before .before .before .before .before .before .before .before .before .before .before .sparse-index .ensures) (c .before .before .before .before .before .before .before .before .before .before .before .index .given .1) (c .before .before .before .before .before .before .before .before .before .before .before .before .before .before .before .loop .seen .marks) (sym (c .before .before .before .before .before .before .before .before .before .mark .ensures .0) ∙ c .before .before .before .before .before .before .before .before .if1 .left) _ (c .before .before .before .before .before .before .sparse-head .ensures) (c .before .before .before .before .before .before .before .before .before .before .before .before .before .before .before .loop .inv .0) in
-    (turn-stop _ (single (look (c .before .before .before .before .before .before .before .before .before .before .before .before .before .before .before .before .before .before .before .before .before .before .args .plan .now))) _ _ _ (sparseForm (cardsAt (c .before .before .before .before .before .before .before .before .before .before .before .before .before .before .before .before .before .before .before .before .before .before .args .plan .now) (c .before .before .before .before .before .before .before .before .before .before .before .before .before .before .before .before .before .before .before .before .before .before .args .node)) (c .before .before .before .before .before .before .before .before .before .before .before .before .before .before .before .before .before .before .before .before .before .before .args .part .now)) (c .before .before .before .before .before .before .before .before .before .before .before .before .before .before .before .loop .seen .marks) (c .before .before .before .before .before .before .before .before .before .before .before .before .before .before .before .loop .pos) _ _ _ (c .before .before .before .before .before .before .before .before .before .before .before .before .before .before .loop-test .taken) _ (r .is) _ _ (c .before .before .before .before .walk-member .ensures .0) _ _ (c .enum-told2 .given .1) ∙ sym (c .before .before .before .before .before .before .before .before .before .before .before .before .before .before .before .loop .inv .3), refused-within _ _ _ _ (c .enum-told2 .given .1))
+    let r = sparse-turn _ _ (c .before .before .before .before .before .before .before .before .before .before .before .before .before .before .before .before .before .before .before .before .before .before .before .before .before .before .pre .1 .0) (c .before .before .before .before .before .before .before .before .before .before .before .before .before .before .before .before .before .before .before .before .before .before .before .before .before .before .pre .1 .1) _ _ _ _ (c .before .before .before .before .before .before .before .before .before .before .before .before .before .before .before .before .before .before .before .before .before .second-at .ensures) _ (c .before .before .before .before .before .before .before .before .before .before .before .before .before .sparse-index .ensures) (c .before .before .before .before .before .before .before .before .before .before .before .index .given .1) (c .before .before .before .before .before .before .before .before .before .before .before .before .before .before .before .loop .seen .marks) (sym (c .before .before .before .before .before .before .before .before .before .mark .ensures .0) ∙ c .before .before .before .before .before .before .before .before .if1 .left) _ (c .before .before .before .before .before .before .sparse-head .ensures) (c .before .before .before .before .before .before .before .before .before .before .before .before .before .before .before .loop .inv .0) in
+    (turn-stop _ (single (look (c .before .before .before .before .before .before .before .before .before .before .before .before .before .before .before .before .before .before .before .before .before .before .before .before .before .before .args .plan .now))) _ _ _ (sparseForm (cardsAt (c .before .before .before .before .before .before .before .before .before .before .before .before .before .before .before .before .before .before .before .before .before .before .before .before .before .before .args .plan .now) (c .before .before .before .before .before .before .before .before .before .before .before .before .before .before .before .before .before .before .before .before .before .before .before .before .before .before .args .node)) (c .before .before .before .before .before .before .before .before .before .before .before .before .before .before .before .before .before .before .before .before .before .before .before .before .before .before .args .part .now)) (c .before .before .before .before .before .before .before .before .before .before .before .before .before .before .before .loop .seen .marks) (c .before .before .before .before .before .before .before .before .before .before .before .before .before .before .before .loop .pos) _ _ _ (c .before .before .before .before .before .before .before .before .before .before .before .before .before .before .loop-test .taken) _ (r .is) _ _ (c .before .before .before .before .walk-member .ensures .0) _ _ (c .enum-told2 .given .1) ∙ sym (c .before .before .before .before .before .before .before .before .before .before .before .before .before .before .before .loop .inv .3) ∙ sym (c .before .before .before .before .before .before .before .before .before .before .before .before .before .before .before .before .before .before .before .sparse-leaves .ensures .leads), refused-within _ _ _ _ (c .enum-told2 .given .1))
 
 walk-sparse-cast-to : (t : ℕ) → walk-sparse-lts.Need-cast-to (walk-sparse-claims t) (walk-sparse-at t) walk-sparse.Post walk-sparse-Inv-loop walk-sparse-μ-loop
 walk-sparse-cast-to t c = search needs
 
 walk-sparse-end-of-requires : (t : ℕ) → walk-sparse-lts.Need-end-of-requires (walk-sparse-claims t) (walk-sparse-at t) walk-sparse.Post walk-sparse-Inv-loop walk-sparse-μ-loop
 walk-sparse-end-of-requires t c κs =
-    let r = sparse-turn _ _ (c .before .before .before .before .before .before .before .before .before .before .before .before .before .before .before .before .before .before .before .before .before .before .before .pre .1 .0) (c .before .before .before .before .before .before .before .before .before .before .before .before .before .before .before .before .before .before .before .before .before .before .before .pre .1 .1) _ _ _ _ (c .before .before .before .before .before .before .before .before .before .before .before .before .before .before .before .before .before .before .second-at .ensures) _ (c .before .before .before .before .before .before .before .before .before .before .before .before .before .before .sparse-index .ensures) (c .before .before .before .before .before .before .before .before .before .before .before .before .index .given .1) (c .before .before .before .before .before .before .before .before .before .before .before .before .before .before .before .before .loop .seen .marks) (sym (c .before .before .before .before .before .before .before .before .before .before .mark .ensures .0) ∙ c .before .before .before .before .before .before .before .before .before .if1 .left) _ (c .before .before .before .before .before .before .before .sparse-head .ensures) (c .before .before .before .before .before .before .before .before .before .before .before .before .before .before .before .before .loop .inv .0) in
-    omega (arith, end-in _ _ _ _ (r .inside), c .before .before .before .before .before .before .before .before .before .before .before .before .before .before .before .before .before .before .before .before .before .before .before .pre .1 .2)
+    let r = sparse-turn _ _ (c .before .before .before .before .before .before .before .before .before .before .before .before .before .before .before .before .before .before .before .before .before .before .before .before .before .before .before .pre .1 .0) (c .before .before .before .before .before .before .before .before .before .before .before .before .before .before .before .before .before .before .before .before .before .before .before .before .before .before .before .pre .1 .1) _ _ _ _ (c .before .before .before .before .before .before .before .before .before .before .before .before .before .before .before .before .before .before .before .before .before .before .second-at .ensures) _ (c .before .before .before .before .before .before .before .before .before .before .before .before .before .before .sparse-index .ensures) (c .before .before .before .before .before .before .before .before .before .before .before .before .index .given .1) (c .before .before .before .before .before .before .before .before .before .before .before .before .before .before .before .before .loop .seen .marks) (sym (c .before .before .before .before .before .before .before .before .before .before .mark .ensures .0) ∙ c .before .before .before .before .before .before .before .before .before .if1 .left) _ (c .before .before .before .before .before .before .before .sparse-head .ensures) (c .before .before .before .before .before .before .before .before .before .before .before .before .before .before .before .before .loop .inv .0) in
+    omega (arith, end-in _ _ _ _ (r .inside), c .before .before .before .before .before .before .before .before .before .before .before .before .before .before .before .before .before .before .before .before .before .before .before .before .before .before .before .pre .1 .2)
 
 walk-sparse-sub-left : (t : ℕ) → walk-sparse-lts.Need-sub-left (walk-sparse-claims t) (walk-sparse-at t) walk-sparse.Post walk-sparse-Inv-loop walk-sparse-μ-loop
 walk-sparse-sub-left t c = search needs
@@ -489,25 +492,26 @@ walk-sparse-loop-less t c = omega arith
 
 walk-sparse-loop-again : (t : ℕ) → walk-sparse-lts.Need-loop-again (walk-sparse-claims t) (walk-sparse-at t) walk-sparse.Post walk-sparse-Inv-loop walk-sparse-μ-loop
 walk-sparse-loop-again t c =
-    let i = known-in _ _ (c .before .before .before .before .before .before .before .before .before .before .before .before .before .before .before .before .before .before .before .before .before .before .before .before .pre .1 .0) (c .before .before .before .before .before .before .before .before .before .before .before .before .before .before .before .before .before .before .before .before .before .before .before .before .pre .1 .1) _ _ _ _ (c .before .before .before .before .before .before .before .before .before .before .before .before .before .before .before .before .before .before .before .second-at .ensures) _ (c .before .before .before .before .before .before .before .before .before .before .before .before .before .before .before .sparse-index .ensures) (c .before .before .before .before .before .before .before .before .before .before .before .before .before .index .given .1) (c .before .before .before .before .before .before .before .before .before .before .before .before .before .before .before .before .before .loop .inv .0) in
+    let i = known-in _ _ (c .before .before .before .before .before .before .before .before .before .before .before .before .before .before .before .before .before .before .before .before .before .before .before .before .before .before .before .before .pre .1 .0) (c .before .before .before .before .before .before .before .before .before .before .before .before .before .before .before .before .before .before .before .before .before .before .before .before .before .before .before .before .pre .1 .1) _ _ _ _ (c .before .before .before .before .before .before .before .before .before .before .before .before .before .before .before .before .before .before .before .before .before .before .before .second-at .ensures) _ (c .before .before .before .before .before .before .before .before .before .before .before .before .before .before .before .sparse-index .ensures) (c .before .before .before .before .before .before .before .before .before .before .before .before .before .index .given .1) (c .before .before .before .before .before .before .before .before .before .before .before .before .before .before .before .before .before .loop .inv .0) in
     let w = reached-in _ _ _ _ (c .before .before .step .given .1) (c .before .before .before .before .before .before .walk-member .ensures .1) in
-    let r = sparse-turn _ _ (c .before .before .before .before .before .before .before .before .before .before .before .before .before .before .before .before .before .before .before .before .before .before .before .before .pre .1 .0) (c .before .before .before .before .before .before .before .before .before .before .before .before .before .before .before .before .before .before .before .before .before .before .before .before .pre .1 .1) _ _ _ _ (c .before .before .before .before .before .before .before .before .before .before .before .before .before .before .before .before .before .before .before .second-at .ensures) _ (c .before .before .before .before .before .before .before .before .before .before .before .before .before .before .before .sparse-index .ensures) (c .before .before .before .before .before .before .before .before .before .before .before .before .before .index .given .1) (c .before .before .before .before .before .before .before .before .before .before .before .before .before .before .before .before .before .loop .seen .marks) (sym (c .before .before .before .before .before .before .before .before .before .before .before .mark .ensures .0) ∙ c .before .before .before .before .before .before .before .before .before .before .if1 .left) _ (c .before .before .before .before .before .before .before .before .sparse-head .ensures) (c .before .before .before .before .before .before .before .before .before .before .before .before .before .before .before .before .before .loop .inv .0) in
-    (rw (c .end-of .ensures) (end-in _ _ _ _ (r .inside)), rw (c .end-of .ensures) (w .1), c .before .before .before .before .before .before .walk-member .kept .1 .1 .1 .1 .1 .1 .1 .0 ∙ c .before .before .before .before .before .before .before .before .before .before .before .before .before .before .before .before .before .loop .inv .2, c .before .before .before .before .before .before .before .before .before .before .before .before .before .before .before .before .before .loop .inv .3 ∙ turn-go _ (single (look (c .before .before .before .before .before .before .before .before .before .before .before .before .before .before .before .before .before .before .before .before .before .before .before .before .args .plan .now))) _ _ _ (sparseForm (cardsAt (c .before .before .before .before .before .before .before .before .before .before .before .before .before .before .before .before .before .before .before .before .before .before .before .before .args .plan .now) (c .before .before .before .before .before .before .before .before .before .before .before .before .before .before .before .before .before .before .before .before .before .before .before .before .args .node)) (c .before .before .before .before .before .before .before .before .before .before .before .before .before .before .before .before .before .before .before .before .before .before .before .before .args .part .now)) (c .before .before .before .before .before .before .before .before .before .before .before .before .before .before .before .before .before .loop .seen .marks) (c .before .before .before .before .before .before .before .before .before .before .before .before .before .before .before .before .before .loop .pos) _ _ _ (c .before .before .before .before .before .before .before .before .before .before .before .before .before .before .before .before .loop-test .taken) _ (r .is) _ _ (c .before .before .before .before .before .before .walk-member .ensures .0) _ (c .before .before .step .given .1) _ (c .before .before .before .before .before .before .before .before .before .before .before .mark .ensures .1 ∙ r .next (w .0)) _ (c .end-of .ensures), counted-next _ _ _ _ (c .before .before .before .before .before .before .before .before .before .before .before .before .before .before .before .before .before .loop .inv .4) _ (i .0) (i .1) (sym (c .before .before .before .before .before .before .before .before .before .before .before .mark .ensures .0) ∙ c .before .before .before .before .before .before .before .before .before .before .if1 .left) _ (c .before .before .before .before .before .before .before .before .before .before .before .mark .ensures .1) _ (c .before .before .before .before .before .before .before .before .before .count-given .ensures))
+    let r = sparse-turn _ _ (c .before .before .before .before .before .before .before .before .before .before .before .before .before .before .before .before .before .before .before .before .before .before .before .before .before .before .before .before .pre .1 .0) (c .before .before .before .before .before .before .before .before .before .before .before .before .before .before .before .before .before .before .before .before .before .before .before .before .before .before .before .before .pre .1 .1) _ _ _ _ (c .before .before .before .before .before .before .before .before .before .before .before .before .before .before .before .before .before .before .before .before .before .before .before .second-at .ensures) _ (c .before .before .before .before .before .before .before .before .before .before .before .before .before .before .before .sparse-index .ensures) (c .before .before .before .before .before .before .before .before .before .before .before .before .before .index .given .1) (c .before .before .before .before .before .before .before .before .before .before .before .before .before .before .before .before .before .loop .seen .marks) (sym (c .before .before .before .before .before .before .before .before .before .before .before .mark .ensures .0) ∙ c .before .before .before .before .before .before .before .before .before .before .if1 .left) _ (c .before .before .before .before .before .before .before .before .sparse-head .ensures) (c .before .before .before .before .before .before .before .before .before .before .before .before .before .before .before .before .before .loop .inv .0) in
+    (rw (c .end-of .ensures) (end-in _ _ _ _ (r .inside)), rw (c .end-of .ensures) (w .1), c .before .before .before .before .before .before .walk-member .kept .1 .1 .1 .1 .1 .1 .1 .0 ∙ c .before .before .before .before .before .before .before .before .before .before .before .before .before .before .before .before .before .loop .inv .2, c .before .before .before .before .before .before .before .before .before .before .before .before .before .before .before .before .before .loop .inv .3 ∙ turn-go _ (single (look (c .before .before .before .before .before .before .before .before .before .before .before .before .before .before .before .before .before .before .before .before .before .before .before .before .before .before .before .before .args .plan .now))) _ _ _ (sparseForm (cardsAt (c .before .before .before .before .before .before .before .before .before .before .before .before .before .before .before .before .before .before .before .before .before .before .before .before .before .before .before .before .args .plan .now) (c .before .before .before .before .before .before .before .before .before .before .before .before .before .before .before .before .before .before .before .before .before .before .before .before .before .before .before .before .args .node)) (c .before .before .before .before .before .before .before .before .before .before .before .before .before .before .before .before .before .before .before .before .before .before .before .before .before .before .before .before .args .part .now)) (c .before .before .before .before .before .before .before .before .before .before .before .before .before .before .before .before .before .loop .seen .marks) (c .before .before .before .before .before .before .before .before .before .before .before .before .before .before .before .before .before .loop .pos) _ _ _ (c .before .before .before .before .before .before .before .before .before .before .before .before .before .before .before .before .loop-test .taken) _ (r .is) _ _ (c .before .before .before .before .before .before .walk-member .ensures .0) _ (c .before .before .step .given .1) _ (c .before .before .before .before .before .before .before .before .before .before .before .mark .ensures .1 ∙ r .next (w .0)) _ (c .end-of .ensures), counted-next _ _ _ _ (c .before .before .before .before .before .before .before .before .before .before .before .before .before .before .before .before .before .loop .inv .4) _ (i .0) (i .1) (sym (c .before .before .before .before .before .before .before .before .before .before .before .mark .ensures .0) ∙ c .before .before .before .before .before .before .before .before .before .before .if1 .left) _ (c .before .before .before .before .before .before .before .before .before .before .before .mark .ensures .1) _ (c .before .before .before .before .before .before .before .before .before .count-given .ensures))
 
 walk-sparse-needed-of-requires : (t : ℕ) → walk-sparse-lts.Need-needed-of-requires (walk-sparse-claims t) (walk-sparse-at t) walk-sparse.Post walk-sparse-Inv-loop walk-sparse-μ-loop
 walk-sparse-needed-of-requires t c κs =
-    (c .before .before .before .before .before .before .before .before .pre .1 .0, c .before .before .before .before .before .before .before .before .pre .1 .1, c .before .before .before .before .before .before .before .before .pre .1 .5)
+    (c .before .before .before .before .before .before .before .before .before .before .before .before .pre .1 .0, c .before .before .before .before .before .before .before .before .before .before .before .before .pre .1 .1, c .before .before .before .before .before .before .before .before .before .before .before .before .pre .1 .5)
 
 walk-sparse-end-elements-requires : (t : ℕ) → walk-sparse-lts.Need-end-elements-requires (walk-sparse-claims t) (walk-sparse-at t) walk-sparse.Post walk-sparse-Inv-loop walk-sparse-μ-loop
 walk-sparse-end-elements-requires t c κs =
-    (omega (arith, c .before .before .before .before .before .before .before .before .before .pre .1 .2), omega (arith, c .before .before .loop .inv .0, c .before .before .loop .inv .1, c .before .before .before .before .before .before .before .before .before .pre .1 .2))
+    (omega (arith, c .before .before .before .before .before .before .before .before .before .before .before .before .before .pre .1 .2), omega (arith, c .before .before .loop .inv .0, c .before .before .loop .inv .1, c .before .before .before .before .before .before .before .before .before .before .before .before .before .pre .1 .2))
 
 walk-sparse-same-length-4 : (t : ℕ) → walk-sparse-lts.Need-same-length-4 (walk-sparse-claims t) (walk-sparse-at t) walk-sparse.Post walk-sparse-Inv-loop walk-sparse-μ-loop
-walk-sparse-same-length-4 t c = c .before .before .before .loop .inv .2
+walk-sparse-same-length-4 t c =
+    c .before .before .before .loop .inv .2 ∙ c .before .before .before .before .before .before .before .sparse-leaves .kept .1 .1 .1 .1 .1 .1 .0
 
 walk-sparse-returns-4 : (t : ℕ) → walk-sparse-lts.Need-returns-4 (walk-sparse-claims t) (walk-sparse-at t) walk-sparse.Post walk-sparse-Inv-loop walk-sparse-μ-loop
 walk-sparse-returns-4 t c =
-    (done _ (single (look (c .before .before .before .before .before .before .before .before .before .before .args .plan .now))) _ _ _ (sparseForm (cardsAt (c .before .before .before .before .before .before .before .before .before .before .args .plan .now) (c .before .before .before .before .before .before .before .before .before .before .args .node)) (c .before .before .before .before .before .before .before .before .before .before .args .part .now)) (c .before .before .before .loop .seen .marks) (c .before .before .before .loop .pos) _ _ _ (c .before .before .loop-test .left) _ _ refl (counted-end _ _ _ _ (c .before .before .before .loop .inv .4) _ (c .before .needed-of .ensures)) _ (c .end-elements .ensures) ∙ sym (c .before .before .before .loop .inv .3), end-within _ _ _ _ _ _ (c .end-elements .ensures) (omega (arith, c .before .before .before .loop .inv .0, c .before .before .before .loop .inv .1)))
+    (done _ (single (look (c .before .before .before .before .before .before .before .before .before .before .before .before .before .before .args .plan .now))) _ _ _ (sparseForm (cardsAt (c .before .before .before .before .before .before .before .before .before .before .before .before .before .before .args .plan .now) (c .before .before .before .before .before .before .before .before .before .before .before .before .before .before .args .node)) (c .before .before .before .before .before .before .before .before .before .before .before .before .before .before .args .part .now)) (c .before .before .before .loop .seen .marks) (c .before .before .before .loop .pos) _ _ _ (c .before .before .loop-test .left) _ _ refl (counted-end _ _ _ _ (c .before .before .before .loop .inv .4) _ (c .before .needed-of .ensures)) _ (c .end-elements .ensures) ∙ sym (c .before .before .before .loop .inv .3) ∙ sym (c .before .before .before .before .before .before .before .sparse-leaves .ensures .leads), end-within _ _ _ _ _ _ (c .end-elements .ensures) (omega (arith, c .before .before .before .loop .inv .0, c .before .before .before .loop .inv .1)))
 
 walk-value-kind-at-requires : (t : ℕ) → walk-value-lts.Need-kind-at-requires (walk-value-claims t) (walk-value-at t) walk-value.Post
 walk-value-kind-at-requires t c κs = c .before .before .before .before .pre .1 .0
@@ -615,7 +619,7 @@ pub +walk-container+walk-member+walk-row+walk-sparse+walk-value-spec : {M : Type
     walk-sparse-Inv-loop
     walk-sparse-μ-loop
     (walk-sparse-second-at-requires t)
-    (walk-sparse-new-requires t)
+    (walk-sparse-sparse-leaves-requires t)
     (walk-sparse-loop-holds t)
     (walk-sparse-sparse-index-requires t)
     (walk-sparse-enum-known-index t)
