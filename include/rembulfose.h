@@ -16,8 +16,8 @@
  * ancestors, components or members in a block, and height 32.
  *
  * Stack: use does not grow with the number of elements, only with nesting, which is at most 32. It is measured and not
- * proved: give a thread that makes these calls REMBULFOSE_STACK bytes or more, of which the largest test cases used about
- * half (docs/MEASURED.md has it call by call).
+ * proved: give a thread that makes these calls REMBULFOSE_STACK bytes or more, of which the largest test cases used four
+ * fifths in writing a value, and less in the other calls (docs/MEASURED.md has it call by call).
  *
  * Outside the promises of every call: a null pointer with a length above 0, a pointer to fewer bytes than its length
  * says, lent runs that overlap each other, and a stack that is too small.
