@@ -15,6 +15,7 @@ use Rattle.plan.specs.Plan.{cardsAt, At}
 use Rattle.plan.specs.Memo.{neededAt}
 use Rattle.plan.proofs.Looks.{cards-length}
 use Rattle.plan.proofs.Nodes.{at-few}
+use Rattle.value.specs.Leaves.{Counted}
 
 -- one more where it is required
 pub one-yes : (n : ℕ) (r : Bool) → r ≡ true → n + 1 ≡ n + pick r 1 0
@@ -24,10 +25,6 @@ one-yes n r e = rw e
 pub one-no : (n : ℕ) (r : Bool) → r ≡ false → n ≡ n + pick r 1 0
 unfolding pick
 one-no n r e = rw e (omega arith)
-
-pub record Counted (p : List ℕ) (k : ℕ) (marks : List Bool) (n : ℕ) : Type 0 where
-  pub room : length marks ≡ 512
-  pub same : n ≡ given (cardsAt p k) marks (length (cardsAt p k))
 
 module _ (p : List ℕ) (k : ℕ) where
   pub counted-none : (marks : List Bool) → marks ≡ noMarks → Counted p k marks 0

@@ -30,7 +30,7 @@ use Rattle.plan.specs.Readers.{Refers}
 use Rattle.plan.proofs.Looks.{look-row}
 use Rattle.plan.proofs.Nodes.{at-ref}
 use Rattle.value.specs.Walk.{walkOf, led, leafKind, leafGood}
-use Rattle.value.specs.Leaves.{FixedAt, Ordered, gapOf, stands, GoodLeaf, Stretched, GivenLeaf, Gathers}
+use Rattle.value.specs.Leaves.{FixedAt, Ordered, gapOf, stands, GoodLeaf, Stretched, GivenLeaf, Counted, Gathers}
 use Rattle.value.specs.declared.Leaf.{Leaf}
 use Rattle.value.specs.declared.Leaf.the-variants.{Good, Other}
 use Rattle.value.specs.declared.Given.{Given}
@@ -38,7 +38,7 @@ use Rattle.value.specs.declared.Given.the-variants.{Whole, Unknown}
 use Rattle.value.specs.declared.Step.the-variants.{Reached}
 use Rattle.value.proofs.Nodes.{good-scalar, head-tuple, head-object, head-plain}
 use Rattle.value.proofs.Members.{leaf-good, member-present, known-in, sparse-turn}
-use Rattle.value.proofs.Counted.{Counted, counted-none, counted-next}
+use Rattle.value.proofs.Counted.{counted-none, counted-next}
 use Rattle.value.proofs.Walks.{single, turn-go}
 
 -- ---- a leaf's size
@@ -296,38 +296,44 @@ module _ (p : List ℕ) (k : ℕ) (s : List ℕ) (at : ℕ) where
   unfolding GivenLeaf
   given-in g i child start size x e = rw e at x
 
-abbrev pub Gathering : List ℕ → ℕ → ℕ → List ℕ → ℕ → ℕ → ℕ → List ℕ → List Bool → ℕ → ℕ → ℕ → ℕ → List ℕ → Type 0
-Gathering p k base s n from at l marks count left pos to l′ =
-    (pos ≤ length s) × (4 * to ≤ 5 * (base + pos) + 20) × (length l′ ≡ length l) × Counted p k marks count
-    × (led (elements (sparseForm (cardsAt p k) s) (valueOf (look p)) (refAt (look p k)) base s n noMarks from) at l
-    ≡ led (elements (sparseForm (cardsAt p k) s) (valueOf (look p)) (refAt (look p k)) base s left marks pos) to l′)
+  -- its index, its node and its bytes are in their bounds
+  pub given-few : At p k → getD p k 0 ≡ 6 → at ≤ length s → (g : Given) (i child start size : ℕ) → GivenLeaf p k s at g → g ≡ Whole i child start size
+      → (i < getD p (k + 1) 0) × (i < 512) × (child < 2 ^ 32) × (start + size ≤ length s)
+  given-few a e b g i child start size x eg =
+      let t = given-in g i child start size x eg in
+      let w = known-in p k a e s at (getD p (k + 1) 0) i refl (Known i) (sym (t .0)) refl b in
+      let h = head-there i (w .2) (Present i start size) (sym (t .2)) i start size refl in
+      let r = at-ref p k i child a (t .1) .0 in
+      (w .0, w .1, r .small, h .2)
 
+-- a stretch from its first element on, and with the next
 module _ (p : List ℕ) (k base : ℕ) (s : List ℕ) (n from at : ℕ) (l : List ℕ) where
-  pub gathering-start : (marks : List Bool) → marks ≡ noMarks → from ≤ length s → 4 * at ≤ 5 * (base + from) + 20 → Gathering p k base s n from at l marks 0 n from at l
-  gathering-start marks e inside few =
-      (inside, few, refl, counted-none p k marks e, ap (λ (m : List Bool). led (elements (sparseForm (cardsAt p k) s) (valueOf (look p)) (refAt (look p k)) base s n m from) at l) (sym e))
+  pub gathers-start : (marks : List Bool) → marks ≡ noMarks → from ≤ length s → 4 * at ≤ 5 * (base + from) + 20 → Gathers p k base s n from at l marks 0 n from at l
+  gathers-start marks e inside few =
+      record {
+        inside = inside;
+        few = few;
+        counted = counted-none p k marks e;
+        leads = ap (λ (m : List Bool). led (elements (sparseForm (cardsAt p k) s) (valueOf (look p)) (refAt (look p k)) base s n m from) at l) (sym e);
+      }
 
-  module _ (marks : List Bool) (count left pos to : ℕ) (l′ : List ℕ) (g : Gathering p k base s n from at l marks count left pos to l′) where
-    pub gathering-end : Gathers p k base s n from at l marks count left pos to l′
-    gathering-end = record { inside = g .0; few = g .1; room = g .3 .room; counts = g .3 .same; leads = g .4 }
-
-    -- the next element
-    pub gathering-next : 0 < left → At p k → getD p k 0 ≡ 6 → (x : Given) (i child start size : ℕ) → GivenLeaf p k s pos x → x ≡ Whole i child start size → getD marks i false ≡ false
-        → (marks′ : List Bool) → marks′ ≡ store marks i true → (count′ : ℕ) → count′ ≡ count + pick (requires (getD (cardsAt p k) i 0)) 1 0
-        → (l″ : List ℕ) → l″ ≡ sets l′ to (entryWords (entryOf child i (base + start) size) 0) → length l″ ≡ length l′
-        → Gathering p k base s n from at l marks′ count′ (left - 1) (start + size) (to + 5) l″
-    unfolding endOf headFault
-    gathering-next z a e x i child start size gx ex new marks′ em count′ ec l″ el same =
-        let t = given-in p k s pos x i child start size gx ex in
-        let w = known-in p k a e s pos (getD p (k + 1) 0) i refl (Known i) (sym (t .0)) refl (g .0) in
-        let h = head-there p k s pos i (w .2) (Present i start size) (sym (t .2)) i start size refl in
-        let u = sparse-turn p k a e s pos (getD p (k + 1) 0) i refl (Known i) (sym (t .0)) refl marks new (Present i start size) (sym (t .2)) (g .0) in
-        let b = h .1 in (
-          h .2,
-          omega (arith, g .1),
-          same ∙ g .2,
-          counted-next p k marks count (g .3) i (w .0) (w .1) new marks′ em count′ ec,
-          g .4 ∙ turn-go (valueOf (look p)) (single (look p)) (refAt (look p k)) base s (sparseForm (cardsAt p k) s) marks pos to left l′ z (Present i start size) (u .is)
-              (Reached (to + 5)) l″ (leaf-led p k base s i start size child (h .2) (t .1) (at-ref p k i child a (t .1) .0) (t .3) (t .4) to l′ l″ el)
-              (to + 5) refl marks′ (em ∙ u .next refl) (start + size) refl,
-        )
+  pub gathers-next : (marks : List Bool) (count left pos to : ℕ) (l′ : List ℕ) → Gathers p k base s n from at l marks count left pos to l′
+      → 0 < left → At p k → getD p k 0 ≡ 6 → (x : Given) (i child start size : ℕ) → GivenLeaf p k s pos x → x ≡ Whole i child start size → getD marks i false ≡ false
+      → (marks′ : List Bool) → marks′ ≡ store marks i true → (count′ : ℕ) → count′ ≡ count + pick (requires (getD (cardsAt p k) i 0)) 1 0
+      → (l″ : List ℕ) → l″ ≡ sets l′ to (entryWords (entryOf child i (base + start) size) 0)
+      → Gathers p k base s n from at l marks′ count′ (left - 1) (start + size) (to + 5) l″
+  unfolding endOf headFault
+  gathers-next marks count left pos to l′ g z a e x i child start size gx ex new marks′ em count′ ec l″ el =
+      let t = given-in p k s pos x i child start size gx ex in
+      let w = known-in p k a e s pos (getD p (k + 1) 0) i refl (Known i) (sym (t .0)) refl (g .inside) in
+      let h = head-there p k s pos i (w .2) (Present i start size) (sym (t .2)) i start size refl in
+      let u = sparse-turn p k a e s pos (getD p (k + 1) 0) i refl (Known i) (sym (t .0)) refl marks new (Present i start size) (sym (t .2)) (g .inside) in
+      let b = h .1 in
+      record {
+        inside = h .2;
+        few = omega (arith, g .few);
+        counted = counted-next p k marks count (g .counted) i (w .0) (w .1) new marks′ em count′ ec;
+        leads = g .leads ∙ turn-go (valueOf (look p)) (single (look p)) (refAt (look p k)) base s (sparseForm (cardsAt p k) s) marks pos to left l′ z (Present i start size) (u .is)
+            (Reached (to + 5)) l″ (leaf-led p k base s i start size child (h .2) (t .1) (at-ref p k i child a (t .1) .0) (t .3) (t .4) to l′ l″ el)
+            (to + 5) refl marks′ (em ∙ u .next refl) (start + size) refl;
+      }

@@ -62,12 +62,16 @@ GivenLeaf p k s at (Whole i child start size) =
     × (optional s (requires (getD (cardsAt p k) i 0)) i (at + 8) (word s (at + 4)) ≡ Present i start size) × (leafKind (getD p child 0) ≡ true)
     × (leafGood (look p child) (take size (drop start s)) ≡ true)
 
+-- the marks of a sparse object's indexes, and how many of those are required
+pub record Counted (p : List ℕ) (k : ℕ) (marks : List Bool) (n : ℕ) : Type 0 where
+  pub room : length marks ≡ 512
+  pub same : n ≡ given (cardsAt p k) marks (length (cardsAt p k))
+
 -- The same as `Stretched` of a sparse object, from its first element on: those that were passed are marked, and how many of them are
 -- required is counted.
 pub record Gathers (p : List ℕ) (k base : ℕ) (s : List ℕ) (n from at : ℕ) (l : List ℕ) (marks : List Bool) (count left pos to : ℕ) (l′ : List ℕ) : Type 0 where
   pub inside : pos ≤ length s
   pub few : 4 * to ≤ 5 * (base + pos) + 20
-  pub room : length marks ≡ 512
-  pub counts : count ≡ given (cardsAt p k) marks (length (cardsAt p k))
+  pub counted : Counted p k marks count
   pub leads : led (elements (sparseForm (cardsAt p k) s) (valueOf (look p)) (refAt (look p k)) base s n noMarks from) at l
       ≡ led (elements (sparseForm (cardsAt p k) s) (valueOf (look p)) (refAt (look p k)) base s left marks pos) to l′

@@ -9,6 +9,7 @@ use crate::entry;
 use crate::node;
 use heads::Head;
 use heads::Index;
+use heads::sparse::Seen;
 ghost use mathlib.Core.Path.{_≡_};
 ghost use Prim.Native.Nat.{_+_, _*_, _^_, _<_, _≤_};
 ghost use lib.ListN.{length, getD};
@@ -200,8 +201,7 @@ fn given_leaf(plan: &[u32], node: usize, part: &[u8], pos: usize) -> Given
     requires { ⌜ (At (now plan) node) × (getD (now plan) node 0 ≡ 6) × (pos ≤ length (now part)) ⌝ }
     ensures { λ r. ⌜ GivenLeaf (now (plan .entry)) node (now (part .entry)) pos r ⌝ }
 {
-    let n = plan::node::second_at(plan, node);
-    let known = heads::sparse::sparse_index(part, n, pos);
+    let known = node::index_at(plan, node, part, pos);
     let Index::Known(index) = known else {
         return Given::Unknown;
     };
@@ -221,22 +221,17 @@ fn given_leaf(plan: &[u32], node: usize, part: &[u8], pos: usize) -> Given
     }
     let end = start + size;
     if is_good(plan, child, kind, &part[start..end]) {
-        return Given::Whole {
-            index,
-            child,
-            start,
-            size,
-        };
+        return Given::Whole(index, child, start, size);
     }
     Given::Unknown
 }
 
 // Where a stretch of a sparse object's elements ends.
-fn gathered(marks: [bool; 512], given: usize, left: usize, pos: usize, at: usize) -> Gathered
-    ensures { λ r. ⌜ (r .marks ≡ marks) × (r .given ≡ given) × (r .left ≡ left) × (r .pos ≡ pos) × (r .at ≡ at) ⌝ }
+pub fn gathered(seen: Seen, given: usize, left: usize, pos: usize, at: usize) -> Gathered
+    ensures { λ r. ⌜ (r .seen ≡ seen) × (r .given ≡ given) × (r .left ≡ left) × (r .pos ≡ pos) × (r .at ≡ at) ⌝ }
 {
     Gathered {
-        marks,
+        seen,
         given,
         left,
         pos,
@@ -244,7 +239,8 @@ fn gathered(marks: [bool; 512], given: usize, left: usize, pos: usize, at: usize
     }
 }
 
-// The leaves that a sparse object starts with: in most such objects, all of its elements. The marks stay where they are while the loop goes.
+// The leaves that a sparse object starts with: in most such objects, all of its elements. The set of seen indexes is marked in place here,
+// since its method copies it for each index.
 pub fn sparse_leaves(
     plan: &[u32],
     node: usize,
@@ -256,33 +252,27 @@ pub fn sparse_leaves(
     at: usize,
 ) -> Gathered
     requires { ⌜ (At (now plan) node) × (getD (now plan) node 0 ≡ 6) × (base + length (now part) ≤ 65535) × (from ≤ length (now part)) × (4 * at ≤ 5 * (base + from) + 20) ⌝ }
-    ensures { λ r. ⌜ Gathers (now (plan .entry)) node base (now (part .entry)) count from at (now (list .entry)) (r .marks) (r .given) (r .left) (r .pos) (r .at) (now (list .exit)) ⌝ }
+    ensures { λ r. ⌜ Gathers (now (plan .entry)) node base (now (part .entry)) count from at (now (list .entry)) (r .seen .marks) (r .given) (r .left) (r .pos) (r .at) (now (list .exit)) ⌝ }
 {
-    let mut marks = [false; 512];
+    let mut seen = Seen::new();
     let mut given: usize = 0;
     let mut left = count;
     let mut pos = from;
     let mut to = at;
     while 0 < left {
         let leaf = given_leaf(plan, node, part, pos);
-        let Given::Whole {
-            index,
-            child,
-            start,
-            size,
-        } = leaf
-        else {
-            return gathered(marks, given, left, pos, to);
+        let Given::Whole(index, child, start, size) = leaf else {
+            break;
         };
-        if marks[index] {
-            return gathered(marks, given, left, pos, to);
+        if seen.marks[index] {
+            break;
         }
-        marks[index] = true;
+        seen.marks[index] = true;
         given = node::count_given(plan, node, index, given);
         entry::put_entry(list, to, child, index, base + start, size, 0);
         to += entry::WORDS;
         pos = start + size;
         left -= 1;
     }
-    gathered(marks, given, left, pos, to)
+    gathered(seen, given, left, pos, to)
 }

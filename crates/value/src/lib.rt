@@ -5,6 +5,8 @@ pub mod leaves;
 pub mod node;
 pub mod walk;
 
+use heads::sparse::Seen;
+
 // Where a walk over a value ends: refused, with number and place; or past the last word of its entries.
 pub enum Step {
     Refused { no: u32, place: u32 },
@@ -28,19 +30,14 @@ pub struct Stretch {
 // An element of a sparse object that is a leaf, is there and is permitted: its index, its node, where its bytes start and how many they are.
 // Or another.
 pub enum Given {
-    Whole {
-        index: usize,
-        child: usize,
-        start: usize,
-        size: usize,
-    },
+    Whole(usize, usize, usize, usize),
     Unknown,
 }
 
-// Where a stretch of a sparse object's elements ends: the marks of their indexes and how many of those are required, and the rest as in
+// Where a stretch of a sparse object's elements ends: the set of their indexes and how many of those are required, and the rest as in
 // a stretch.
 pub struct Gathered {
-    pub marks: [bool; 512],
+    pub seen: Seen,
     pub given: usize,
     pub left: usize,
     pub pos: usize,

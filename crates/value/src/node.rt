@@ -1,12 +1,14 @@
 // The heads of a node's values, by the node's kind.
 use heads::Head;
+use heads::Index;
 use heads::Opening;
 ghost use mathlib.Core.Path.{_≡_};
 ghost use mathlib.Core.Bool.{true};
+ghost use mathlib.Core.List.{[]};
 ghost use Prim.Native.Nat.{ℕ, _+_, _<_, _≤_};
 ghost use lib.ListN.{length, getD};
 ghost use Rattle.wire.specs.Choice.{pick};
-ghost use Rattle.heads.specs.Heads.{optional, requires, word};
+ghost use Rattle.heads.specs.Heads.{optional, requires, sparseIndex, word};
 ghost use Rattle.rules.specs.Values.{openingOf, rowHead};
 ghost use Rattle.plan.specs.Plan.{look, cardsAt, At};
 ghost use Rattle.value.specs.Walk.{Container, leafKind, leafGood};
@@ -65,6 +67,14 @@ pub fn row_head(plan: &[u32], node: usize, kind: u32, part: &[u8], i: usize, at:
         return heads::element::object_head(part, required, i, at);
     }
     heads::element::plain_head(part, 0, i, at)
+}
+
+// The index of an element of a sparse object, before it is looked for among those seen.
+pub fn index_at(plan: &[u32], node: usize, part: &[u8], at: usize) -> Index
+    requires { ⌜ (At (now plan) node) × (getD (now plan) node 0 ≡ 6) × (at ≤ length (now part)) ⌝ }
+    ensures { λ r. ⌜ r ≡ sparseIndex (now (part .entry)) (getD (now (plan .entry)) (node + 1) 0) [] at ⌝ }
+{
+    heads::sparse::sparse_index(part, plan::node::second_at(plan, node), at)
 }
 
 // The head of an element of a sparse object, after its index.

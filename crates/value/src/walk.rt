@@ -1,5 +1,6 @@
 // The walk over a value: checking a value and checking a container's remaining elements call each other. The elements of a container
 // are a loop, so that the stack grows with nesting only.
+use crate::Gathered;
 use crate::Step;
 use crate::entry;
 use crate::leaves;
@@ -7,18 +8,18 @@ use crate::node;
 use heads::Head;
 use heads::Index;
 use heads::Opening;
-use heads::sparse::Seen;
 ghost use mathlib.Core.Path.{_≡_};
 ghost use mathlib.Core.Bool.{true};
 ghost use mathlib.Core.Option.{some};
 ghost use Prim.Native.Nat.{ℕ, _+_, _*_, _^_, _<_, _≤_};
 ghost use lib.ListN.{length, getD};
 ghost use Rattle.rules.specs.Node.{refAt};
-ghost use Rattle.rules.specs.Values.{absent, member, elements, rowForm, sparseForm, noMarks, valueOf};
+ghost use Rattle.rules.specs.Values.{absent, member, elements, rowForm, sparseForm, valueOf};
 ghost use Rattle.plan.specs.Plan.{look, cardsAt, At};
 ghost use Rattle.plan.specs.Memo.{Memo};
 ghost use Rattle.value.specs.declared.Step.the-variants.{Refused, Reached};
 ghost use Rattle.value.specs.Walk.{walkOf, led, leafKind, endStep, Within, WithinHead, Container, Holds, HeadIn};
+ghost use Rattle.value.specs.Leaves.{Counted};
 
 // A refusal of what stands at a place.
 fn refused(no: u32, place: usize) -> Step
@@ -57,8 +58,7 @@ fn walk_leaf(
     at: usize,
 ) -> Step
     requires { ⌜ (At (now plan) node) × (kind ≡ getD (now plan) node 0) × (leafKind kind ≡ true) × (index < 2 ^ 32) × (base + length (now part) ≤ 65535) × (4 * at ≤ 5 * base) ⌝ }
-    ensures { λ r. ⌜ walkOf r (now (list .exit)) ≡ led (valueOf (look (now (plan .entry))) node index base (now (part .entry))) at (now (list .entry)) ⌝ }
-    ensures within { λ r. ⌜ Within (base + length (now (part .entry))) r ⌝ }
+    ensures { λ r. ⌜ (walkOf r (now (list .exit)) ≡ led (valueOf (look (now (plan .entry))) node index base (now (part .entry))) at (now (list .entry))) × (Within (base + length (now (part .entry))) r) ⌝ }
 {
     if node::leaf_ok(plan, node, kind, part) {
         entry::put_entry(list, at, node, index, base, part.len(), 0);
@@ -94,8 +94,7 @@ pub fn walk_value(
     at: usize,
 ) -> Step
     requires { ⌜ (At (now plan) node) × (index < 2 ^ 32) × (base + length (now part) ≤ 65535) × (4 * at ≤ 5 * base) × (Memo (now plan) (now needs)) ⌝ }
-    ensures { λ r. ⌜ walkOf r (now (list .exit)) ≡ led (valueOf (look (now (plan .entry))) node index base (now (part .entry))) at (now (list .entry)) ⌝ }
-    ensures within { λ r. ⌜ Within (base + length (now (part .entry))) r ⌝ }
+    ensures { λ r. ⌜ (walkOf r (now (list .exit)) ≡ led (valueOf (look (now (plan .entry))) node index base (now (part .entry))) at (now (list .entry))) × (Within (base + length (now (part .entry))) r) ⌝ }
 {
     let kind = plan::node::kind_at(plan, node);
     if node::is_leaf(kind) {
@@ -118,8 +117,7 @@ fn walk_container(
     at: usize,
 ) -> Step
     requires { ⌜ (At (now plan) node) × (index < 2 ^ 32) × (base + length (now part) ≤ 65535) × (4 * at ≤ 5 * base) × (Memo (now plan) (now needs)) × (Container (now plan) node kind) ⌝ }
-    ensures { λ r. ⌜ walkOf r (now (list .exit)) ≡ led (valueOf (look (now (plan .entry))) node index base (now (part .entry))) at (now (list .entry)) ⌝ }
-    ensures within { λ r. ⌜ Within (base + length (now (part .entry))) r ⌝ }
+    ensures { λ r. ⌜ (walkOf r (now (list .exit)) ≡ led (valueOf (look (now (plan .entry))) node index base (now (part .entry))) at (now (list .entry))) × (Within (base + length (now (part .entry))) r) ⌝ }
 {
     let opening = node::open_node(plan, node, kind, part);
     let Opening::Elements {
@@ -133,7 +131,8 @@ fn walk_container(
     entry::put_entry(list, at, node, index, base, part.len(), count);
     let to = at + entry::WORDS;
     if kind == 6 {
-        return walk_sparse(plan, needs, node, count, base, from, part, list, to);
+        let run = leaves::sparse_leaves(plan, node, count, base, from, part, list, to);
+        return walk_sparse(plan, needs, node, base, part, run, list);
     }
     walk_row(plan, needs, node, count, first, base, from, part, list, to)
 }
@@ -152,8 +151,7 @@ fn walk_row(
     at: usize,
 ) -> Step
     requires { ⌜ (At (now plan) node) × (Container (now plan) node (getD (now plan) node 0)) × (getD (now plan) node 0 ≡ 6 → ⊥) × (Holds (look (now plan) node) (first + count)) × (first + count < 2 ^ 32) × (base + length (now part) ≤ 65535) × (from ≤ length (now part)) × (4 * at ≤ 5 * (base + from) + 20) × (Memo (now plan) (now needs)) ⌝ }
-    ensures { λ r. ⌜ walkOf r (now (list .exit)) ≡ led (elements (rowForm (look (now (plan .entry)) node) (now (part .entry))) (valueOf (look (now (plan .entry)))) (refAt (look (now (plan .entry)) node)) base (now (part .entry)) count first from) at (now (list .entry)) ⌝ }
-    ensures within { λ r. ⌜ Within (base + length (now (part .entry))) r ⌝ }
+    ensures { λ r. ⌜ (walkOf r (now (list .exit)) ≡ led (elements (rowForm (look (now (plan .entry)) node) (now (part .entry))) (valueOf (look (now (plan .entry)))) (refAt (look (now (plan .entry)) node)) base (now (part .entry)) count first from) at (now (list .entry))) × (Within (base + length (now (part .entry))) r) ⌝ }
 {
     let kind = plan::node::kind_at(plan, node);
     let end = first + count;
@@ -178,35 +176,27 @@ fn walk_row(
     end_elements(pos == part.len(), false, base, to)
 }
 
-// Elements in any order, each with its index; none is given twice, and none that is required is left out.
+// The elements that are left after the leaves that a sparse object starts with, in any order, each with its index; none is given twice, and
+// none that is required is left out.
 fn walk_sparse(
     plan: &[u32],
     needs: &[u32],
     node: usize,
-    count: usize,
     base: usize,
-    from: usize,
     part: &[u8],
+    run: Gathered,
     list: &mut [u32],
-    at: usize,
 ) -> Step
-    requires { ⌜ (At (now plan) node) × (getD (now plan) node 0 ≡ 6) × (base + length (now part) ≤ 65535) × (from ≤ length (now part)) × (4 * at ≤ 5 * (base + from) + 20) × (Memo (now plan) (now needs)) ⌝ }
-    ensures { λ r. ⌜ walkOf r (now (list .exit)) ≡ led (elements (sparseForm (cardsAt (now (plan .entry)) node) (now (part .entry))) (valueOf (look (now (plan .entry)))) (refAt (look (now (plan .entry)) node)) base (now (part .entry)) count noMarks from) at (now (list .entry)) ⌝ }
-    ensures within { λ r. ⌜ Within (base + length (now (part .entry))) r ⌝ }
+    requires { ⌜ (At (now plan) node) × (getD (now plan) node 0 ≡ 6) × (base + length (now part) ≤ 65535) × (run .pos ≤ length (now part)) × (4 * run .at ≤ 5 * (base + run .pos) + 20) × (Memo (now plan) (now needs)) × (Counted (now plan) node (run .seen .marks) (run .given)) ⌝ }
+    ensures { λ r. ⌜ (walkOf r (now (list .exit)) ≡ led (elements (sparseForm (cardsAt (now (plan .entry)) node) (now (part .entry))) (valueOf (look (now (plan .entry)))) (refAt (look (now (plan .entry)) node)) base (now (part .entry)) (run .left) (run .seen .marks) (run .pos)) (run .at) (now (list .entry))) × (Within (base + length (now (part .entry))) r) ⌝ }
 {
-    let n = plan::node::second_at(plan, node);
-    let run = leaves::sparse_leaves(plan, node, count, base, from, part, list, at);
-    let marks = run.marks;
-    let mut seen = Seen {
-        marks,
-        twice: false,
-    };
+    let mut seen = run.seen;
     let mut given = run.given;
     let mut left = run.left;
     let mut pos = run.pos;
     let mut to = run.at;
     while 0 < left {
-        let index = heads::sparse::sparse_index(part, n, pos);
+        let index = node::index_at(plan, node, part, pos);
         let Index::Known(i) = index else {
             return refused(heads::parts::index_fault(index), base);
         };
@@ -241,8 +231,7 @@ fn walk_member(
     at: usize,
 ) -> Step
     requires { ⌜ (At (now plan) node) × (base + length (now part) ≤ 65535) × (HeadIn (look (now plan) node) (length (now part)) pos head) × (4 * at ≤ 5 * (base + pos) + 20) × (Memo (now plan) (now needs)) ⌝ }
-    ensures { λ r. ⌜ walkOf r (now (list .exit)) ≡ led (member (valueOf (look (now (plan .entry)))) (refAt (look (now (plan .entry)) node)) base (now (part .entry)) head) at (now (list .entry)) ⌝ }
-    ensures within { λ r. ⌜ WithinHead base head r ⌝ }
+    ensures { λ r. ⌜ (walkOf r (now (list .exit)) ≡ led (member (valueOf (look (now (plan .entry)))) (refAt (look (now (plan .entry)) node)) base (now (part .entry)) head) at (now (list .entry))) × (WithinHead base head r) ⌝ }
 {
     match head {
         Head::Fault(n) => refused(n, base),
