@@ -1,21 +1,28 @@
 -- The laws of a container's elements, one after the other. Assumes nothing.
-use mathlib.Core.Path.{_≡_, ap, sym, _∙_}
+use mathlib.Core.Path.{_≡_, refl, ap, sym, _∙_}
 use mathlib.Core.Bool.{Bool, true, false}
 use mathlib.Core.List.{List, []}
 use Prim.Native.Nat.{ℕ, zero, suc, _+_, _-_, _<_, _≤_}
 use native.Mathlib.Omega.{arith}
 use native.Mathlib.Nat.{add-zero, not-suc-le-zero}
 use native.Mathlib.Numerals.{sub-one}
-use lib.ListN.{length, getD}
-use borrow.Author.Tests.{lt-ltb, le-ltb}
+use lib.Dec.{ltb}
+use lib.ListN.{length, getD, set as store}
+use borrow.Author.Tests.{lt-ltb, le-ltb, ltb-false}
 use Rattle.wire.specs.Choice.{pick}
 use Rattle.rules.specs.Node.{Node, refAt}
-use Rattle.plan.specs.Plan.{cardsAt}
+use Rattle.heads.specs.Heads.{requires}
+use Rattle.plan.specs.Plan.{look, cardsAt, At}
 use Rattle.plan.proofs.Looks.{cards-length}
-use Rattle.supply.specs.Supply.{Claim, short, next, nextOf}
-use Rattle.supply.specs.Build.{Made, wrong, made, andThen, Builder, Order, sparseOrder, partMade, memberMade, stateAfter, elementsMade}
-use Rattle.supply.specs.Emitting.{broken, stands, put-at}
-use Rattle.supply.proofs.Stands.{put-small, stop, go}
+use Rattle.plan.proofs.Nodes.{at-few}
+use Rattle.value.specs.Leaves.{Counted}
+use Rattle.value.proofs.Counted.{counted-next}
+use Rattle.supply.specs.Supply.{Claim, Next, short, next, nextOf}
+use Rattle.supply.specs.Build.{Made, wrong, made, andThen, Builder, Order, sparseOrder, partMade, memberMade, stateAfter, elementsMade, buildOf}
+use Rattle.supply.specs.Emitting.{broken, stands, put-at, readOf, known, Gathers}
+use Rattle.supply.specs.declared.Read.{Read}
+use Rattle.supply.specs.declared.Read.the-variants.{Short}
+use Rattle.supply.proofs.Stands.{put-small, stood, stop, go}
 
 module _ {S : Type 0} (order : Order S) (rule : Builder) (v : Node) (st : S) (ws : List ℕ) (at : ℕ) (out : List ℕ) (n : ℕ) where
   -- ---- a turn of the loop
@@ -104,3 +111,42 @@ module _ (p : List ℕ) (k : ℕ) (marks : List Bool) (n i : ℕ) (en : n ≡ ge
     pub new-index : getD marks i false ≡ false → sparseOrder (cardsAt p k) .admits marks i ≡ true
     unfolding pick
     new-index e = rw (count-is, lt-ltb i n h, e)
+
+-- ---- the next element of a sparse object
+
+-- one with no entry, or with an index that the object does not have
+module _ (p : List ℕ) (k : ℕ) (rule : Builder) (v : Node) (marks : List Bool) (ws : List ℕ) (at : ℕ) (out : List ℕ) (m n : ℕ) where
+  pub turn-unknown : 0 < m → n ≡ getD p (k + 1) 0 → (r : Read) → r ≡ readOf (known n (nextOf ws)) → r ≡ Short
+      → broken ≡ put-at (elementsMade (sparseOrder (cardsAt p k)) rule v m marks ws) at out
+  unfolding readOf known pick
+  turn-unknown z en r q e = go (nextOf ws) refl (sym e ∙ q)
+    where
+      go : (x : Next) → nextOf ws ≡ x → Short ≡ readOf (known n x) → broken ≡ put-at (elementsMade (sparseOrder (cardsAt p k)) rule v m marks ws) at out
+      go short is g = turn-short (sparseOrder (cardsAt p k)) rule v marks ws at out m z is
+      go (next c rest) is g = index (ltb (c .index) n) refl g
+        where
+          index : (b : Bool) → ltb (c .index) n ≡ b → Short ≡ readOf (pick b (next c rest) short)
+              → broken ≡ put-at (elementsMade (sparseOrder (cardsAt p k)) rule v m marks ws) at out
+          index true f h = let y : _≡_ {A = ℕ} 0 1 = cc in absurd (omega arith)
+          index false f h =
+              turn-barred (sparseOrder (cardsAt p k)) rule v marks ws at out m z c rest is
+              (unknown-index p k marks n (c .index) en (ltb-false (c .index) n f))
+
+module _ (src p : List ℕ) (k n : ℕ) (from : List Bool) (ws : List ℕ) (at : ℕ) (out : List ℕ) where
+  pub gathers-start : (count : ℕ) → at ≤ 65535 → Counted p k from count → Gathers src p k n from ws at out from count n ws at out
+  gathers-start count h c = record { small = h; counted = c; leads = refl }
+
+  pub gathers-next : (marks : List Bool) (count left : ℕ) (us : List ℕ) (at′ : ℕ) (out′ : List ℕ) → Gathers src p k n from ws at out marks count left us at′ out′
+      → 0 < left → At p k → getD p k 0 ≡ 6 → (c : Claim) (rest : List ℕ) → nextOf us ≡ next c rest → c .index < getD p (k + 1) 0 → getD marks (c .index) false ≡ false
+      → (us″ : List ℕ) (at″ : ℕ) (out″ : List ℕ)
+      → stands us″ at″ out″ ≡ put-at (partMade (buildOf src (look p)) (look p k) (refAt (look p k) (c .index)) c rest us) at′ out′
+      → (marks′ : List Bool) → marks′ ≡ store marks (c .index) true → (count′ : ℕ) → count′ ≡ count + pick (requires (getD (cardsAt p k) (c .index) 0)) 1 0
+      → (left′ : ℕ) → left′ ≡ left - 1 → Gathers src p k n from ws at out marks′ count′ left′ us″ at″ out″
+  gathers-next marks count left us at′ out′ g z a six c rest e known new us″ at″ out″ q marks′ em count′ ec left′ el =
+      let few = at-few p k a (omega arith) (omega arith) in
+      record {
+        small = stood (partMade (buildOf src (look p)) (look p k) (refAt (look p k) (c .index)) c rest us) at′ out′ us″ at″ out″ q .small;
+        counted = counted-next p k marks count (g .counted) (c .index) known (omega arith) new marks′ em count′ ec;
+        leads = g .leads ∙ turn-go (sparseOrder (cardsAt p k)) (buildOf src (look p)) (look p k) marks us at′ out′ left z c rest e
+            (new-index p k marks (getD p (k + 1) 0) (c .index) refl known new) us″ at″ out″ q marks′ em left′ el;
+      }

@@ -1,5 +1,5 @@
 -- The laws of the next entry of a list. Assumes nothing.
-use mathlib.Core.Path.{_≡_, refl, sym, _∙_}
+use mathlib.Core.Path.{_≡_, refl, ap, sym, _∙_}
 use mathlib.Core.Bool.{Bool, true, false}
 use mathlib.Core.List.{List}
 use Prim.Native.Nat.{ℕ, _+_, _<_, _≤_}
@@ -8,13 +8,17 @@ use native.Mathlib.Nat.{add-zero}
 use lib.Dec.{ltb}
 use lib.ListN.{length, drop, getD, length-drop}
 use lib.Seq.{getD-drop, drop-drop}
-use borrow.Author.Tests.{lt-ltb, le-ltb, ltb-false}
+use borrow.Author.Tests.{lt-ltb, le-ltb, ltb-true, ltb-false}
 use Rattle.wire.specs.Choice.{pick}
-use Rattle.supply.specs.Supply.{short, next, nextOf}
-use Rattle.supply.specs.Emitting.{claim, readOf}
+use Rattle.supply.specs.Supply.{Next, short, next, nextOf}
+use Rattle.supply.specs.Emitting.{claim, readOf, known}
 use Rattle.supply.specs.declared.Entry.{Entry}
 use Rattle.supply.specs.declared.Read.{Read}
 use Rattle.supply.specs.declared.Read.the-variants.{Short, Whole}
+
+abbrev index-of : Read → ℕ
+index-of Short = 0
+index-of (Whole e) = e .index
 
 module _ (l : List ℕ) (w : ℕ) where
   -- how the entry at a word is read
@@ -58,3 +62,38 @@ module _ (l : List ℕ) (w : ℕ) where
           let g = rw (le-ltb (length (drop w l)) 5 k) at (sym is ∙ q) in
           let f : e ≡ record { node = getD (drop w l) 0 0; index = getD (drop w l) 1 0; start = getD (drop w l) 2 0; size = getD (drop w l) 3 0; count = getD (drop w l) 4 0 } = cc in
           rw (le-ltb (length (drop w l)) 5 k, f, drop-drop)
+
+-- ---- the entry of a sparse object, whose index is one of n
+
+module _ (n : ℕ) where
+  pub known-short : (x : Next) (r : Read) → r ≡ readOf x → r ≡ Short → Short ≡ readOf (known n x)
+  unfolding readOf known
+  known-short short r q e = refl
+  known-short (next c ws) r q e = let z : _≡_ {A = ℕ} 0 1 = cc in absurd (omega arith)
+
+  module _ (e : Entry) where
+    pub known-past : (x : Next) (r : Read) → r ≡ readOf x → r ≡ Whole e → n ≤ e .index → Short ≡ readOf (known n x)
+    unfolding readOf known pick
+    known-past short r q is h = refl
+    known-past (next c ws) r q is h =
+        let i : c .index ≡ e .index = ap index-of (sym q ∙ is) in
+        rw (le-ltb (c .index) n (omega arith))
+
+    pub known-whole : (x : Next) (r : Read) → r ≡ readOf x → r ≡ Whole e → e .index < n → r ≡ readOf (known n x)
+    unfolding readOf known pick
+    known-whole short r q is h = q
+    known-whole (next c ws) r q is h =
+        let i : c .index ≡ e .index = ap index-of (sym q ∙ is) in
+        rw (lt-ltb (c .index) n (omega arith)) q
+
+    -- what such an entry says
+    pub known-is : (x : Next) (r : Read) → r ≡ readOf (known n x) → r ≡ Whole e → (r ≡ readOf x) × (e .index < n)
+    unfolding readOf known pick
+    known-is short r q is = let z : _≡_ {A = ℕ} 0 1 = cc in absurd (omega arith)
+    known-is (next c ws) r q is = go (ltb (c .index) n) refl q
+      where
+        go : (b : Bool) → ltb (c .index) n ≡ b → r ≡ readOf (pick b (next c ws) short) → (r ≡ readOf (next c ws)) × (e .index < n)
+        go true f g =
+            let i : c .index ≡ e .index = ap index-of (sym g ∙ is) in
+            (g, omega (arith, ltb-true (c .index) n f))
+        go false f g = let z : _≡_ {A = ℕ} 0 1 = cc in absurd (omega arith)

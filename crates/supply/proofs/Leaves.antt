@@ -78,26 +78,3 @@ module _ (src p : List ℕ) (k kind : ℕ) (is : Container p k kind) (c : Claim)
 -- the same output
 pub same-out : (w : Stand) (m : Made) (at : ℕ) (x y : List ℕ) → w ≡ put-at m at x → y ≡ x → w ≡ put-at m at y
 same-out w m at x y q e = rw e q
-
--- ---- a row of one element
-
-one-alone : (m : Made) → andThen m (made []) ≡ m
-unfolding andThen before
-one-alone wrong = refl
-one-alone (made b ws) = ap (λ (x : List ℕ). made x ws) (append-nil b)
-
-module _ (rule : Builder) (v : Node) (c : Claim) (rest ws : List ℕ) (e : nextOf ws ≡ next c rest) where
-  one-is : elementsMade rowOrder rule v 1 (c .index) ws ≡ partMade rule v (refAt v (c .index)) c rest ws
-  unfolding elementsMade memberMade stateAfter pick
-  one-is = rw (e, eq-eqb (c .index) (c .index) refl) (one-alone (partMade rule v (refAt v (c .index)) c rest ws))
-
-  -- where it was put out
-  pub one-put : (at : ℕ) (out : List ℕ) (i at′ : ℕ) (us out′ : List ℕ)
-      → put-at (elementsMade rowOrder rule v (c .index + 1 - c .index) (c .index) ws) at out ≡ put-at (elementsMade rowOrder rule v (c .index + 1 - i) i us) at′ out′
-      → c .index ≤ i → (i ≡ c .index → ⊥) → at′ ≤ 65535 → stands us at′ out′ ≡ put-at (partMade rule v (refAt v (c .index)) c rest ws) at out
-  one-put at out i at′ us out′ q low other small =
-      let n : c .index + 1 - c .index ≡ 1 = add-sub-cancel-left (c .index) 1 in
-      done rowOrder rule v i us at′ out′ (c .index + 1 - i) (omega (arith, other)) refl small
-      ∙ sym q
-      ∙ ap (λ (m : ℕ). put-at (elementsMade rowOrder rule v m (c .index) ws) at out) n
-      ∙ ap (λ (m : Made). put-at m at out) one-is

@@ -1,12 +1,16 @@
 -- The building as the code does it: the list by the next word's index, the output by the next byte's. What would pass 65,535 bytes stops
 -- at once, so that a supply costs no more than its own words and the bytes of the largest value. Assumes nothing: these are definitions.
-use Prim.Native.Nat.{ℕ, _+_}
+use mathlib.Core.Path.{_≡_}
+use Prim.Native.Nat.{ℕ, _+_, _≤_}
+use mathlib.Core.Bool.{Bool}
 use mathlib.Core.List.{List, _++_}
-use lib.Dec.{eqb, leb}
+use lib.Dec.{eqb, leb, ltb}
 use lib.ListN.{length, drop}
 use lib.Seq.{sets}
 use Rattle.wire.specs.Choice.{pick}
 use Rattle.wire.specs.Be.{bytesBe}
+use Rattle.plan.specs.Plan.{look, cardsAt}
+use Rattle.value.specs.Leaves.{Counted}
 use Rattle.supply.specs.Supply.{zeros, Claim, Next, short, next}
 use Rattle.supply.specs.Build as Spec
 use Rattle.supply.specs.declared.Entry.{Entry}
@@ -26,6 +30,11 @@ claim e = record { node = e .node; index = e .index; start = e .start; size = e 
 unfoldable pub readOf : Next → Read
 readOf short = Short
 readOf (next c ws) = Whole (record { node = c .node; index = c .index; start = c .start; size = c .size; count = c .count })
+
+-- the next entry, if its index is one of n; one with another is as good as none
+unfoldable pub known : ℕ → Next → Next
+known n short = short
+known n (next c ws) = pick (ltb (c .index) n) (next c ws) short
 
 -- ---- heads
 
@@ -67,3 +76,14 @@ put-at (Spec.made b ws) at out = pick (leb (at + length b) 65535) (stands ws (at
 unfoldable pub standOf : Built → List ℕ → List ℕ → Stand
 standOf Failed ws out = broken
 standOf (Done word at) ws out = stands (drop word ws) at out
+
+-- ---- a stretch of leaves
+
+-- Of n elements of the sparse object at k, whose entries are ws and before which the indexes `from` were given, `left` are left, whose
+-- entries are us: from there on they lead to the same place. The indexes given by then are marked, and those of them that are required
+-- counted. How many are left is free.
+pub record Gathers (src p : List ℕ) (k n : ℕ) (from : List Bool) (ws : List ℕ) (at : ℕ) (out : List ℕ) (marks : List Bool) (count left : ℕ) (us : List ℕ) (at′ : ℕ) (out′ : List ℕ) : Type 0 where
+  pub small : at′ ≤ 65535
+  pub counted : Counted p k marks count
+  pub leads : put-at (Spec.elementsMade (Spec.sparseOrder (cardsAt p k)) (Spec.buildOf src (look p)) (look p k) n from ws) at out
+      ≡ put-at (Spec.elementsMade (Spec.sparseOrder (cardsAt p k)) (Spec.buildOf src (look p)) (look p k) left marks us) at′ out′

@@ -4,7 +4,7 @@ use crate::Read;
 ghost use mathlib.Core.Path.{_≡_};
 ghost use lib.ListN.{drop};
 ghost use Rattle.supply.specs.Supply.{nextOf};
-ghost use Rattle.supply.specs.Emitting.{readOf};
+ghost use Rattle.supply.specs.Emitting.{readOf, known};
 
 // How many words an entry has.
 pub const WORDS: usize = 5;
@@ -29,4 +29,18 @@ pub fn next_entry(list: &[u32], word: usize) -> Read
         size: list[word + 3],
         count: list[word + 4],
     })
+}
+
+// The same of a sparse object with n elements, whose entries say their index: one that the object does not have is as good as none.
+pub fn known_entry(list: &[u32], word: usize, n: usize) -> Read
+    ensures { λ r. ⌜ r ≡ readOf (known n (nextOf (drop word (now (list .entry))))) ⌝ }
+{
+    let read = next_entry(list, word);
+    let Read::Whole(entry) = read else {
+        return Read::Short;
+    };
+    if n <= entry.index as usize {
+        return Read::Short;
+    }
+    read
 }

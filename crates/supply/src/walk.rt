@@ -8,7 +8,7 @@ use crate::front;
 use crate::head;
 use crate::leaf;
 use crate::list;
-use heads::sparse::Seen;
+use value::Gathered;
 ghost use mathlib.Core.Path.{_≡_};
 ghost use mathlib.Core.Bool.{true};
 ghost use mathlib.Core.List.{List};
@@ -16,11 +16,11 @@ ghost use Prim.Native.Nat.{ℕ, _+_, _^_, _<_, _≤_};
 ghost use lib.ListN.{length, getD, drop};
 ghost use Rattle.heads.specs.Heads.{gone};
 ghost use Rattle.rules.specs.Node.{refAt};
-ghost use Rattle.rules.specs.Values.{noMarks};
 ghost use Rattle.plan.specs.Plan.{look, cardsAt, At};
 ghost use Rattle.plan.specs.Memo.{Memo};
 ghost use Rattle.plan.specs.Readers.{Refers};
 ghost use Rattle.value.specs.Walk.{leafKind, leafGood, Container, Holds};
+ghost use Rattle.value.specs.Leaves.{Counted};
 ghost use Rattle.supply.specs.Supply.{nextOf, next};
 ghost use Rattle.supply.specs.Build.{leafMade, mayLack, absentMade, partMade, rowOrder, sparseOrder, elementsMade, buildOf};
 ghost use Rattle.supply.specs.Emitting.{claim, put-at, standOf};
@@ -134,7 +134,8 @@ pub fn build_value(
     };
     let count = entry.count as usize;
     if kind == 6 {
-        return build_sparse(plan, needs, node, src, list, count, below, out, from);
+        let run = leaf::put_given(plan, node, src, list, count, below, out, from);
+        return build_sparse(plan, needs, node, src, list, run, out);
     }
     build_row(plan, needs, node, src, list, count, first, below, out, from)
 }
@@ -148,73 +149,66 @@ fn build_row(
     list: &[u32],
     count: usize,
     first: usize,
-    mut word: usize,
+    word: usize,
     out: &mut [u8],
-    mut at: usize,
+    at: usize,
 ) -> Built
     requires { ⌜ (At (now plan) node) × (Holds (look (now plan) node) (first + count)) × (first + count < 2 ^ 33) × (at ≤ 65535) × (Memo (now plan) (now needs)) ⌝ }
     ensures { λ r. ⌜ standOf r (now (list .entry)) (now (out .exit)) ≡ put-at (elementsMade rowOrder (buildOf (now (src .entry)) (look (now (plan .entry)))) (look (now (plan .entry)) node) count first (drop word (now (list .entry)))) at (now (out .entry)) ⌝ }
 {
     let kind = plan::node::kind_at(plan, node);
     let end = first + count;
-    let mut i = first;
-    while i < end {
-        let place = leaf::put_leaves(plan, node, kind, src, list, i, end, word, out, at);
-        i = place.index;
-        word = place.word;
-        at = place.at;
-        if end <= i {
-            return Built::Done { word, at };
-        }
-        let Read::Whole(entry) = list::next_entry(list, word) else {
+    let mut p = leaf::put_leaves(plan, node, kind, src, list, first, end, word, out, at);
+    while p.index < end {
+        let i = p.index;
+        let Read::Whole(entry) = list::next_entry(list, p.word) else {
             return Built::Failed;
         };
         if entry.index as usize != i {
             return Built::Failed;
         }
-        let built = build_member(plan, needs, node, src, list, entry, word, out, at);
+        let built = build_member(plan, needs, node, src, list, entry, p.word, out, p.at);
         let Built::Done { word: w, at: a } = built else {
             return Built::Failed;
         };
-        word = w;
-        at = a;
-        i += 1;
+        p = leaf::put_leaves(plan, node, kind, src, list, i + 1, end, w, out, a);
     }
-    Built::Done { word, at }
+    Built::Done {
+        word: p.word,
+        at: p.at,
+    }
 }
 
-// Elements in any order, each with its index; none is given twice, and none that is required is left out.
+// The elements that are left after the leaves that a sparse object starts with, in any order, each with its index; none is given twice, and
+// none that is required is left out.
 fn build_sparse(
     plan: &[u32],
     needs: &[u32],
     node: usize,
     src: &[u8],
     list: &[u32],
-    count: usize,
-    mut word: usize,
+    run: Gathered,
     out: &mut [u8],
-    mut at: usize,
 ) -> Built
-    requires { ⌜ (At (now plan) node) × (getD (now plan) node 0 ≡ 6) × (at ≤ 65535) × (Memo (now plan) (now needs)) ⌝ }
-    ensures { λ r. ⌜ standOf r (now (list .entry)) (now (out .exit)) ≡ put-at (elementsMade (sparseOrder (cardsAt (now (plan .entry)) node)) (buildOf (now (src .entry)) (look (now (plan .entry)))) (look (now (plan .entry)) node) count noMarks (drop word (now (list .entry)))) at (now (out .entry)) ⌝ }
+    requires { ⌜ (At (now plan) node) × (getD (now plan) node 0 ≡ 6) × (run .at ≤ 65535) × (Memo (now plan) (now needs)) × (Counted (now plan) node (run .seen .marks) (run .given)) ⌝ }
+    ensures { λ r. ⌜ standOf r (now (list .entry)) (now (out .exit)) ≡ put-at (elementsMade (sparseOrder (cardsAt (now (plan .entry)) node)) (buildOf (now (src .entry)) (look (now (plan .entry)))) (look (now (plan .entry)) node) (run .left) (run .seen .marks) (drop (run .pos) (now (list .entry)))) (run .at) (now (out .entry)) ⌝ }
 {
     let n = plan::node::second_at(plan, node);
-    let mut seen = Seen::new();
-    let mut given: usize = 0;
-    for _ in 0..count {
-        let Read::Whole(entry) = list::next_entry(list, word) else {
+    let mut seen = run.seen;
+    let mut given = run.given;
+    let mut word = run.pos;
+    let mut at = run.at;
+    for _ in 0..run.left {
+        let Read::Whole(entry) = list::known_entry(list, word, n) else {
             return Built::Failed;
         };
         let i = entry.index as usize;
-        if n <= i {
-            return Built::Failed;
-        }
         seen = seen.mark(i);
         if seen.twice {
             return Built::Failed;
         }
         given = value::node::count_given(plan, node, i, given);
-        let built = build_given(plan, needs, node, src, list, entry, word, out, at);
+        let built = build_member(plan, needs, node, src, list, entry, word, out, at);
         let Built::Done { word: w, at: a } = built else {
             return Built::Failed;
         };
@@ -225,32 +219,6 @@ fn build_sparse(
         return Built::Failed;
     }
     Built::Done { word, at }
-}
-
-// The element of a sparse object whose entry is at a word of the list: a leaf by the loop that is theirs, as a row of one.
-fn build_given(
-    plan: &[u32],
-    needs: &[u32],
-    node: usize,
-    src: &[u8],
-    list: &[u32],
-    entry: Entry,
-    word: usize,
-    out: &mut [u8],
-    at: usize,
-) -> Built
-    requires { ⌜ (At (now plan) node) × (getD (now plan) node 0 ≡ 6) × (Refers (look (now plan) node) (entry .index)) × (Holds (look (now plan) node) (entry .index + 1)) × (nextOf (drop word (now list)) ≡ next (claim entry) (drop (word + 5) (now list))) × (word + 5 ≤ length (now list)) × (at ≤ 65535) × (Memo (now plan) (now needs)) ⌝ }
-    ensures { λ r. ⌜ standOf r (now (list .entry)) (now (out .exit)) ≡ put-at (partMade (buildOf (now (src .entry)) (look (now (plan .entry)))) (look (now (plan .entry)) node) (refAt (look (now (plan .entry)) node) (entry .index)) (claim entry) (drop (word + 5) (now (list .entry))) (drop word (now (list .entry)))) at (now (out .entry)) ⌝ }
-{
-    let i = entry.index as usize;
-    let place = leaf::put_leaves(plan, node, 6, src, list, i, i + 1, word, out, at);
-    if place.index == i {
-        return build_member(plan, needs, node, src, list, entry, word, out, at);
-    }
-    Built::Done {
-        word: place.word,
-        at: place.at,
-    }
 }
 
 // The element whose entry is at a word of the list. Its head has the length of its data, which is known once that was built, so the head is

@@ -1,5 +1,7 @@
 -- `supply::leaf::put_leaves` meets its contract: what is left of the row leads to the same place. Assumes nothing.
-use mathlib.Core.Path.{_≡_, refl, sym, _∙_}
+use Rattle.supply.proofs.Leaves.{same-out}
+use mathlib.Core.Path.{_≡_, refl, ap, sym, _∙_}
+use mathlib.Core.Logic.{⊎-elim}
 use native.Mathlib.Omega.{arith}
 use Prim.Native.Nat.{_-_, _≤_}
 use lib.ListN.{length, drop}
@@ -11,24 +13,20 @@ use Rattle.supply.proofs.Containers.{refers-inner}
 use Rattle.supply.proofs.Entries.{entry-at, entry-inside}
 use Rattle.supply.proofs.Stands.{stood}
 use Rattle.supply.proofs.Elements.{turn-go, some-left, one-fewer}
-use Rattle.supply.proofs.Leaves.{same-out}
 use borrow.Author.Needs.{needs}
 use Rattle.supply.proofs.leaf.put_leaves.Statement.{statement}
 use Rattle.supply.proofs.leaf.put_leaves.Tie as tie
 
 abbrev Inv-loop : tie.InvT-loop
 Inv-loop plan node kind src list first end word₀ out₀ at₀ index₀ word out at index =
-    (first ≤ index) × (index ≤ end) × (at ≤ 65535) × (length out ≡ length out₀)
-    × (put-at (elementsMade rowOrder (buildOf src (look plan)) (look plan node) (end - first) first (drop word₀ list)) at₀ out₀
-    ≡ put-at (elementsMade rowOrder (buildOf src (look plan)) (look plan node) (end - index) index (drop word list)) at out)
-    × (index ≡ first → (word ≡ word₀) × (at ≡ at₀) × (out ≡ out₀))
+    (length out ≡ length out₀) × (first ≤ index) × (index ≤ end) × (at ≤ 65535) × (put-at (elementsMade rowOrder (buildOf src (look plan)) (look plan node) (end - first) first (drop word₀ list)) at₀ out₀ ≡ put-at (elementsMade rowOrder (buildOf src (look plan)) (look plan node) (end - index) index (drop word list)) at out)
 
 abbrev μ-loop : tie.MeasureT-loop
 μ-loop plan node kind src list first end word₀ out₀ at₀ index₀ word out at index = end - index
 
 loop-holds : tie.Need-loop-holds Inv-loop μ-loop
 loop-holds c =
-    (omega arith, c .before .before .before .before .pre .3, c .before .before .before .before .pre .5, refl, refl, λ e. (refl, refl, refl))
+    (refl, omega arith, c .before .before .before .before .pre .3, c .before .before .before .before .pre .5, refl)
 
 next-entry-requires : tie.Need-next-entry-requires Inv-loop μ-loop
 next-entry-requires c κs = search needs
@@ -39,34 +37,12 @@ enum-known-entry c = search needs
 enum-told : tie.Need-enum-told Inv-loop μ-loop
 enum-told c = search needs
 
-same-length : tie.Need-same-length Inv-loop μ-loop
-same-length c = c .before .before .before .before .loop .inv .3
-
-returns : tie.Need-returns Inv-loop μ-loop
-returns c =
-    (c .before .before .before .before .loop .inv .5, (c .before .before .before .before .loop .inv .0, c .before .before .before .before .loop .inv .1, c .before .before .before .before .loop .inv .2, c .before .before .before .before .loop .inv .4))
-
 cast-if1 : tie.Need-cast-if1 Inv-loop μ-loop
 cast-if1 c = search needs
 
-same-length-2 : tie.Need-same-length-2 Inv-loop μ-loop
-same-length-2 c = c .before .before .before .before .before .before .before .loop .inv .3
-
-returns-2 : tie.Need-returns-2 Inv-loop μ-loop
-returns-2 c =
-    (c .before .before .before .before .before .before .before .loop .inv .5, (c .before .before .before .before .before .before .before .loop .inv .0, c .before .before .before .before .before .before .before .loop .inv .1, c .before .before .before .before .before .before .before .loop .inv .2, c .before .before .before .before .before .before .before .loop .inv .4))
-
 put-leaf-requires : tie.Need-put-leaf-requires Inv-loop μ-loop
 put-leaf-requires c κs =
-    (c .before .before .before .before .before .before .before .before .before .before .before .before .before .pre .0, refers-inner _ _ _ (c .before .before .before .before .before .before .before .before .loop .index) (c .before .before .before .before .before .before .before .before .before .before .before .before .before .pre .1) (c .before .before .before .before .before .before .before .before .before .before .before .before .before .pre .2 (c .before .before .before .before .before .before .before .before .loop .index) (c .before .before .before .before .before .before .before .loop-test .taken)), c .before .before .before .before .before .before .before .before .before .before .before .before .before .pre .2 _ (omega (arith, c .before .if1 .left, c .before .before .before .before .before .before .before .loop-test .taken)), c .before .before .before .before .before .before .before .before .loop .inv .2)
-
-same-length-3 : tie.Need-same-length-3 Inv-loop μ-loop
-same-length-3 c =
-    c .before .before .before .put-leaf .kept .1 .1 .1 .1 .1 .0 ∙ c .before .before .before .before .before .before .before .before .before .before .before .before .loop .inv .3
-
-returns-3 : tie.Need-returns-3 Inv-loop μ-loop
-returns-3 c =
-    (λ e. (c .before .before .before .before .before .before .before .before .before .before .before .before .loop .inv .5 e .0, c .before .before .before .before .before .before .before .before .before .before .before .before .loop .inv .5 e .1, c .before .before .before .put-leaf .ensures .0 (c .if2 .taken) ∙ c .before .before .before .before .before .before .before .before .before .before .before .before .loop .inv .5 e .2), (c .before .before .before .before .before .before .before .before .before .before .before .before .loop .inv .0, c .before .before .before .before .before .before .before .before .before .before .before .before .loop .inv .1, c .before .before .before .before .before .before .before .before .before .before .before .before .loop .inv .2, same-out _ _ _ _ _ (c .before .before .before .before .before .before .before .before .before .before .before .before .loop .inv .4) (c .before .before .before .put-leaf .ensures .0 (c .if2 .taken))))
+    (c .before .before .before .before .before .before .before .before .before .before .before .before .before .pre .0, refers-inner _ _ _ (c .before .before .before .before .before .before .before .before .loop .index) (c .before .before .before .before .before .before .before .before .before .before .before .before .before .pre .1) (c .before .before .before .before .before .before .before .before .before .before .before .before .before .pre .2 (c .before .before .before .before .before .before .before .before .loop .index) (c .before .before .before .before .before .before .before .loop-test .taken)), c .before .before .before .before .before .before .before .before .before .before .before .before .before .pre .2 _ (omega (arith, c .before .if1 .left, c .before .before .before .before .before .before .before .loop-test .taken)), c .before .before .before .before .before .before .before .before .loop .inv .3)
 
 add-word : tie.Need-add-word Inv-loop μ-loop
 add-word c =
@@ -82,16 +58,32 @@ loop-less c =
 
 loop-again : tie.Need-loop-again Inv-loop μ-loop
 loop-again c =
-    let e = entry-at (c .before .before .before .before .before .before .before .before .before .before .before .before .before .before .before .before .before .args .list .now) (c .before .before .before .before .before .before .before .before .before .before .before .before .loop .word) _ (c .before .before .before .before .before .before .before .before .before .before .next-entry .ensures) _ (c .before .before .before .before .before .before .before .before .entry .given .1) in
-    let q = c .before .before .before .put-leaf .ensures .1 (omega (arith, c .if2 .left)) _ _ e in
-    (omega (arith, c .before .before .before .before .before .before .before .before .before .before .before .before .loop .inv .0), omega (arith, c .before .before .before .before .before .before .before .before .before .before .before .loop-test .taken), stood _ _ _ _ _ _ q .small, c .before .before .before .put-leaf .kept .1 .1 .1 .1 .1 .0 ∙ c .before .before .before .before .before .before .before .before .before .before .before .before .loop .inv .3, c .before .before .before .before .before .before .before .before .before .before .before .before .loop .inv .4 ∙ turn-go rowOrder _ _ (c .before .before .before .before .before .before .before .before .before .before .before .before .loop .index) _ _ _ _ (some-left _ _ (c .before .before .before .before .before .before .before .before .before .before .before .loop-test .taken)) _ _ e (eq-eqb _ _ (sym (c .before .before .before .before .before .if1 .left))) _ _ _ q _ refl _ (one-fewer _ _), λ f. absurd (omega (arith, c .before .before .before .before .before .before .before .before .before .before .before .before .loop .inv .0)))
+    let e = entry-at (c .before .before .before .before .before .before .before .before .before .before .before .before .before .before .before .before .before .args .list .now) (c .before .before .before .before .before .before .before .before .before .before .before .before .loop .word) _ (c .before .before .before .before .before .before .before .before .before .before .next-entry .ensures) _ (c .before .before .before .before .before .before .before .before .entry .given .1) in let q = c .before .before .before .put-leaf .ensures .1 (omega (arith, c .if2 .left)) _ _ e in (c .before .before .before .put-leaf .kept .1 .1 .1 .1 .1 .0 ∙ c .before .before .before .before .before .before .before .before .before .before .before .before .loop .inv .0, omega (arith, c .before .before .before .before .before .before .before .before .before .before .before .before .loop .inv .1), omega (arith, c .before .before .before .before .before .before .before .before .before .before .before .loop-test .taken), stood _ _ _ _ _ _ q .small, c .before .before .before .before .before .before .before .before .before .before .before .before .loop .inv .4 ∙ turn-go rowOrder _ _ (c .before .before .before .before .before .before .before .before .before .before .before .before .loop .index) _ _ _ _ (some-left _ _ (c .before .before .before .before .before .before .before .before .before .before .before .loop-test .taken)) _ _ e (eq-eqb _ _ (sym (c .before .before .before .before .before .if1 .left))) _ _ _ q _ refl _ (one-fewer _ _))
+
+same-length : tie.Need-same-length Inv-loop μ-loop
+same-length c = search needs
+
+returns : tie.Need-returns Inv-loop μ-loop
+returns c = search needs
+
+same-length-2 : tie.Need-same-length-2 Inv-loop μ-loop
+same-length-2 c = search needs
+
+returns-2 : tie.Need-returns-2 Inv-loop μ-loop
+returns-2 c = search needs
+
+same-length-3 : tie.Need-same-length-3 Inv-loop μ-loop
+same-length-3 c = search needs
+
+returns-3 : tie.Need-returns-3 Inv-loop μ-loop
+returns-3 c = search needs
 
 same-length-4 : tie.Need-same-length-4 Inv-loop μ-loop
-same-length-4 c = c .before .loop .inv .3
+same-length-4 c = search needs
 
 returns-4 : tie.Need-returns-4 Inv-loop μ-loop
 returns-4 c =
-    (c .before .loop .inv .5, (c .before .loop .inv .0, c .before .loop .inv .1, c .before .loop .inv .2, c .before .loop .inv .4))
+    (c .before .before .before .before .before .before .before .before .before .before .before .before .loop .inv .1, c .before .before .before .before .before .before .before .before .before .before .before .before .loop .inv .2, c .before .before .before .before .before .before .before .before .before .before .before .before .loop .inv .3, same-out _ _ _ _ _ (c .before .before .before .before .before .before .before .before .before .before .before .before .loop .inv .4) (c .before .before .before .put-leaf .ensures .0 (c .if2 .taken)))
 
 pub put-leaves-spec : {M : Type 1} → statement M
 put-leaves-spec =
@@ -103,17 +95,17 @@ put-leaves-spec =
     next-entry-requires
     enum-known-entry
     enum-told
-    same-length
-    returns
     cast-if1
-    same-length-2
-    returns-2
     put-leaf-requires
-    same-length-3
-    returns-3
     add-word
     add-index
     loop-less
     loop-again
+    same-length
+    returns
+    same-length-2
+    returns-2
+    same-length-3
+    returns-3
     same-length-4
     returns-4)
