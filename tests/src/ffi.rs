@@ -111,97 +111,47 @@ impl From<RawAnswer> for Answer {
     }
 }
 
-pub fn read_message(side: u32, src: &[u8], list: &mut [u8]) -> Answer {
-    // SAFETY: each pointer and length come from one slice, and `list` overlaps nothing.
-    unsafe { rembulfose_read_message(side, src.as_ptr(), src.len(), list.as_mut_ptr(), list.len()) }
+/// Makes a C call: first its numbers, then each slice that it reads and the room that it writes, as
+/// pointer and length.
+macro_rules! call {
+    ($function:ident($($number:ident),*); reads $($read:ident),+ $(; writes $room:ident)?) => {
+        // SAFETY: each pointer and length come from one slice, and the room, which is borrowed to be
+        // written, overlaps nothing.
+        unsafe {
+            $function(
+                $($number,)*
+                $($read.as_ptr(), $read.len(),)+
+                $($room.as_mut_ptr(), $room.len(),)?
+            )
+        }
         .into()
+    };
+}
+
+pub fn read_message(side: u32, src: &[u8], list: &mut [u8]) -> Answer {
+    call!(rembulfose_read_message(side); reads src; writes list)
 }
 
 pub fn write_message(side: u32, type_byte: u8, list: &[u8], src: &[u8], out: &mut [u8]) -> Answer {
-    // SAFETY: each pointer and length come from one slice, and `out` overlaps nothing.
-    unsafe {
-        rembulfose_write_message(
-            side,
-            type_byte,
-            list.as_ptr(),
-            list.len(),
-            src.as_ptr(),
-            src.len(),
-            out.as_mut_ptr(),
-            out.len(),
-        )
-    }
-    .into()
+    call!(rembulfose_write_message(side, type_byte); reads list, src; writes out)
 }
 
 pub fn compile(descriptor: &[u8], root: &[u8], plan: &mut [u8]) -> Answer {
-    // SAFETY: each pointer and length come from one slice, and `plan` overlaps nothing.
-    unsafe {
-        rembulfose_compile(
-            descriptor.as_ptr(),
-            descriptor.len(),
-            root.as_ptr(),
-            root.len(),
-            plan.as_mut_ptr(),
-            plan.len(),
-        )
-    }
-    .into()
+    call!(rembulfose_compile(); reads descriptor, root; writes plan)
 }
 
 pub fn run(plan: &[u8], value: &[u8], list: &mut [u8]) -> Answer {
-    // SAFETY: each pointer and length come from one slice, and `list` overlaps nothing.
-    unsafe {
-        rembulfose_run(
-            plan.as_ptr(),
-            plan.len(),
-            value.as_ptr(),
-            value.len(),
-            list.as_mut_ptr(),
-            list.len(),
-        )
-    }
-    .into()
+    call!(rembulfose_run(); reads plan, value; writes list)
 }
 
 pub fn write_value(plan: &[u8], list: &[u8], src: &[u8], out: &mut [u8]) -> Answer {
-    // SAFETY: each pointer and length come from one slice, and `out` overlaps nothing.
-    unsafe {
-        rembulfose_write_value(
-            plan.as_ptr(),
-            plan.len(),
-            list.as_ptr(),
-            list.len(),
-            src.as_ptr(),
-            src.len(),
-            out.as_mut_ptr(),
-            out.len(),
-        )
-    }
-    .into()
-}
-
-/// A call that reads plan, value and path.
-type Finds<A> = unsafe extern "C" fn(*const u8, usize, *const u8, usize, *const u8, usize) -> A;
-
-fn finds<A>(call: Finds<A>, plan: &[u8], value: &[u8], path: &[u8]) -> A {
-    // SAFETY: each pointer and length come from one slice, and all are only read.
-    unsafe {
-        call(
-            plan.as_ptr(),
-            plan.len(),
-            value.as_ptr(),
-            value.len(),
-            path.as_ptr(),
-            path.len(),
-        )
-    }
+    call!(rembulfose_write_value(); reads plan, list, src; writes out)
 }
 
 pub fn find(plan: &[u8], value: &[u8], path: &[u8]) -> Answer {
-    finds(rembulfose_find, plan, value, path).into()
+    call!(rembulfose_find(); reads plan, value, path)
 }
 
 pub fn find_number(plan: &[u8], value: &[u8], path: &[u8]) -> NumberAnswer {
-    finds(rembulfose_find_number, plan, value, path).into()
+    call!(rembulfose_find_number(); reads plan, value, path)
 }
