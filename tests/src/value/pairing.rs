@@ -44,6 +44,17 @@ fn pair_with(rng: &mut Rng, spoil: Spoiling) -> Pair {
     }
 }
 
+/// A plan with a value of this size, spoilt before it is put together.
+fn drafted(rng: &mut Rng, plan: PlanDraft, size: Size, spoil: Spoiling) -> Pair {
+    let mut draft = drafting::make(rng, &plan, size);
+    let known = spoil(rng, &mut draft);
+    Pair {
+        plan,
+        laid: draft.lay(),
+        known,
+    }
+}
+
 /// A plan and value of ordinary size.
 fn ordinary(rng: &mut Rng, spoil: Spoiling) -> Pair {
     let plan = planning::make(rng);
@@ -60,13 +71,7 @@ fn ordinary(rng: &mut Rng, spoil: Spoiling) -> Pair {
         many: None,
         full,
     };
-    let mut draft = drafting::make(rng, &plan, size);
-    let known = spoil(rng, &mut draft);
-    Pair {
-        plan,
-        laid: draft.lay(),
-        known,
-    }
+    drafted(rng, plan, size, spoil)
 }
 
 /// "No type" and no bytes, or some.
@@ -130,13 +135,7 @@ fn long_list(rng: &mut Rng, spoil: Spoiling) -> Pair {
         many: Some(many),
         full: false,
     };
-    let mut draft = drafting::make(rng, &plan, size);
-    let known = spoil(rng, &mut draft);
-    Pair {
-        plan,
-        laid: draft.lay(),
-        known,
-    }
+    drafted(rng, plan, size, spoil)
 }
 
 /// A value of about 65,535 bytes, or more: good but for its size where it has a leaf that can grow,
