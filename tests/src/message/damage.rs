@@ -1,13 +1,27 @@
-//! Damage that both calls can meet: to a draft's contents, and to the side and type byte.
+//! Drafts for both calls, and damage that both can meet: to a draft's contents, and to the side and
+//! type byte.
 
 use super::draft::{Draft, KINDS};
 use crate::rng::Rng;
 use crate::text;
 use second::message::Field;
 
+/// A draft, damaged once in four times. Of 1,024 about four are long and so many large.
+pub fn drafted(rng: &mut Rng, large: usize) -> Draft {
+    let mut made = match rng.below(1_024) {
+        0..4 => Draft::make_long(rng),
+        number if number < 4 + large => Draft::make_large(rng),
+        _ => Draft::make(rng),
+    };
+    if rng.once_in(4) {
+        draft(rng, &mut made);
+    }
+    made
+}
+
 /// Damages the contents of some field, or which fields there are. The message that is put together
 /// after it has true lengths everywhere. Where the draft has no such field nothing is done.
-pub fn draft(rng: &mut Rng, draft: &mut Draft) {
+fn draft(rng: &mut Rng, draft: &mut Draft) {
     match rng.below(9) {
         0 => choice(rng, draft),
         1 | 2 => spoil_text(rng, draft),

@@ -9,14 +9,7 @@ use second::message;
 
 /// A call of the reader on a message that is good or damaged in one or more ways.
 pub fn make(rng: &mut Rng) -> ReadCall {
-    let mut draft = match rng.below(1_024) {
-        0..4 => Draft::make_long(rng),
-        4..8 => Draft::make_large(rng),
-        _ => Draft::make(rng),
-    };
-    if rng.once_in(4) {
-        damage::draft(rng, &mut draft);
-    }
+    let draft = damage::drafted(rng, 4);
     let mut src = draft.message();
     let mut side = draft.side;
     if rng.once_in(3) {

@@ -16,14 +16,7 @@ struct Supply {
 
 /// A call of the writer on a list that is good or damaged in one or more ways.
 pub fn make(rng: &mut Rng) -> WriteCall {
-    let mut draft = match rng.below(1_024) {
-        0..4 => Draft::make_long(rng),
-        4..24 => Draft::make_large(rng),
-        _ => Draft::make(rng),
-    };
-    if rng.once_in(4) {
-        damage::draft(rng, &mut draft);
-    }
+    let draft = damage::drafted(rng, 20);
     let mut supply = supply(rng, &draft);
     if rng.once_in(3) {
         damage_words(rng, &mut supply);
