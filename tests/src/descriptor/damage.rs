@@ -82,6 +82,19 @@ pub fn fault(number: u32, spot: Spot) -> Option<Fault> {
     })
 }
 
+/// One of the texts, and the length that it is given if that is not its own.
+fn pick_text<'a>(
+    rng: &mut Rng,
+    draft: &'a mut DescriptorDraft,
+) -> Option<(&'a mut Vec<u8>, &'a mut Option<u32>)> {
+    let is_text = |field: &Field| matches!(field.role, Role::Text | Role::Name);
+    let spot = pick(rng, draft, is_text)?;
+    match &mut draft.blocks[spot.block].fields[spot.field].content {
+        Content::Text(text, length) => Some((text, length)),
+        _ => None,
+    }
+}
+
 /// A tag to another known one.
 fn other_tag(rng: &mut Rng, draft: &mut DescriptorDraft) -> Option<Fault> {
     let spot = pick_role(rng, draft, Role::Tag)?;
@@ -115,19 +128,15 @@ fn near_reference(rng: &mut Rng, draft: &mut DescriptorDraft) -> Option<Fault> {
 
 /// A text's length to another than its own.
 fn text_length(rng: &mut Rng, draft: &mut DescriptorDraft) -> Option<Fault> {
-    let spot = pick(rng, draft, |field| {
-        matches!(field.role, Role::Text | Role::Name)
-    })?;
-    if let Content::Text(text, length) = &mut draft.blocks[spot.block].fields[spot.field].content {
-        let own = text.len() as u32;
-        *length = Some(match rng.below(5) {
-            0 => own + 1,
-            1 => own.saturating_sub(1),
-            2 => rng.below(60) as u32,
-            3 => own | rng.pick(&[0x1_0000, 0x0100_0000, 0x8000_0000]),
-            _ => rng.pick(&[0xffff_ffff, 0x7fff_ffff, 0x8000_0000, 0xffff_fffc]),
-        });
-    }
+    let (text, length) = pick_text(rng, draft)?;
+    let own = text.len() as u32;
+    *length = Some(match rng.below(5) {
+        0 => own + 1,
+        1 => own.saturating_sub(1),
+        2 => rng.below(60) as u32,
+        3 => own | rng.pick(&[0x1_0000, 0x0100_0000, 0x8000_0000]),
+        _ => rng.pick(&[0xffff_ffff, 0x7fff_ffff, 0x8000_0000, 0xffff_fffc]),
+    });
     None
 }
 
@@ -163,11 +172,7 @@ fn near_id(rng: &mut Rng, draft: &mut DescriptorDraft) -> Option<Fault> {
 
 /// A text at the edges of what is well formed.
 fn brush(rng: &mut Rng, draft: &mut DescriptorDraft) -> Option<Fault> {
-    let spot = pick(rng, draft, |field| {
-        matches!(field.role, Role::Text | Role::Name)
-    })?;
-    if let Content::Text(text, _) = &mut draft.blocks[spot.block].fields[spot.field].content {
-        text::brush(rng, text);
-    }
+    let (text, _) = pick_text(rng, draft)?;
+    text::brush(rng, text);
     None
 }
