@@ -9,8 +9,8 @@
 use crate::race::race;
 use crate::table;
 use compare::descriptor::bytes::{
-    array, block, compound, derived, enumeration, id, input, named_tuple, object, output, range,
-    scalar, set, shorts, text, tuple, In, Out, AT_MOST_ONE, INT64, ONE, STR,
+    array, block, compound, derived, enumeration, id, input_of_names, named_tuple, object, output,
+    range, scalar, set, shorts, text, tuple, Out, INT64, ONE, STR,
 };
 use compare::ffi;
 use second::crossing;
@@ -160,17 +160,6 @@ fn names(count: usize, letters: usize) -> Vec<Vec<u8>> {
     (0..count).map(name).collect()
 }
 
-fn input_shape(number: u16, names: &[Vec<u8>]) -> Vec<u8> {
-    let field = |name| In {
-        flags: 0,
-        cardinality: AT_MOST_ONE,
-        name,
-        element: 0,
-    };
-    let elements: Vec<In> = names.iter().map(|name| field(&name[..])).collect();
-    input(id(number), &elements)
-}
-
 fn output_shape(number: u16, names: &[Vec<u8>]) -> Vec<u8> {
     let field = |name| Out {
         flags: 1,
@@ -191,9 +180,9 @@ fn wide_shapes() -> Subject {
         scalar(STR),
         object(id(2)),
         output_shape(3, &names),
-        input_shape(4, &names),
+        input_of_names(id(4), &names),
         output_shape(5, &names),
-        input_shape(6, &names),
+        input_of_names(id(6), &names),
         output_shape(7, &names),
     ]
     .concat();
@@ -218,7 +207,7 @@ fn small() -> Subject {
             range(id(16), 5),
             small_shape(),
             set(id(18), 17),
-            input_shape(19, &names(6, 8)),
+            input_of_names(id(19), &names(6, 8)),
         ]
         .concat(),
     );
@@ -249,7 +238,7 @@ fn alike_ids(count: u16) -> Subject {
 
 /// An input shape of so many names that are alike but for their last four letters.
 fn alike_names(count: usize, letters: usize) -> Subject {
-    let shape = input_shape(1, &names(count, letters));
+    let shape = input_of_names(id(1), &names(count, letters));
     let name = format!("{count} names of {letters} letters");
     subject(name, [scalar(INT64), shape].concat(), id(1))
 }

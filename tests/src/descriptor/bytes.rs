@@ -158,3 +158,16 @@ pub fn input(id: Id, elements: &[In]) -> Vec<u8> {
     let bytes: Vec<u8> = elements.iter().flat_map(In::bytes).collect();
     block(8, id, &[&count(elements.len()), &bytes])
 }
+
+/// An input shape with elements of these names, all of them of the first block's type and none
+/// required.
+pub fn input_of_names(id: Id, names: &[Vec<u8>]) -> Vec<u8> {
+    let element = |name| In {
+        flags: 0,
+        cardinality: AT_MOST_ONE,
+        name,
+        element: 0,
+    };
+    let elements: Vec<In> = names.iter().map(|name| element(&name[..])).collect();
+    input(id, &elements)
+}

@@ -147,16 +147,8 @@ fn elements(cases: &mut Cases) {
         (output(id(1), 1, 0, &vec![out; count]), node)
     });
     counted(cases, |count| {
-        let names = names(count);
-        let field = |name| In {
-            flags: 0,
-            cardinality: AT_MOST_ONE,
-            name,
-            element: 0,
-        };
-        let elements: Vec<In> = names.iter().map(|name| field(&name[..])).collect();
         let node = [vec![6, count as u32], [2, 111].repeat(count)].concat();
-        (input(id(1), &elements), node)
+        (input_of_names(id(1), &names(count)), node)
     });
     counted(cases, |count| {
         let elements: Vec<(&[u8], u16)> = vec![(b"", 0); count];
