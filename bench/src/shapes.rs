@@ -31,6 +31,12 @@ fn object_node(kind: u32, pairs: &[[u32; 2]]) -> Vec<u32> {
     [&[kind, pairs.len() as u32], pairs.as_flattened()].concat()
 }
 
+/// The plan of a set of objects of this kind, each of so many elements of one format, none required.
+fn set_of_objects(kind: u32, elements: usize, format: u32) -> Vec<u32> {
+    let object = object_node(kind, &vec![[2, AT_MOST_ONE]; elements]);
+    plan(&[vec![1, format], object, vec![2, 4]])
+}
+
 fn set(elements: &[Vec<u8>]) -> Vec<u8> {
     let mut bytes = list(&[1, 0, 0, elements.len() as u32, 1]);
     for element in elements {
@@ -105,14 +111,9 @@ pub fn mixed_object(count: usize) -> Subject {
 /// A set of so many objects of eight int16. (1,000 such rows would pass 65,535 bytes, even empty.)
 pub fn rows(count: usize) -> Subject {
     let row = object(&vec![(0, vec![1, 2]); 8]);
-    let nodes = [
-        vec![1, INT16],
-        object_node(5, &[[2, AT_MOST_ONE]; 8]),
-        vec![2, 4],
-    ];
     Subject {
         name: format!("set of {count} rows of 8 fields"),
-        plan: plan(&nodes),
+        plan: set_of_objects(5, 8, INT16),
         value: set(&vec![row; count]),
     }
 }
@@ -131,14 +132,9 @@ pub fn sparse_object(count: u32) -> Subject {
 /// A set of so many empty input objects of a shape of 512: whatever an object costs beside its own
 /// eight bytes shows here the most. (One more would pass 65,535 bytes.)
 pub fn empty_objects(count: usize) -> Subject {
-    let nodes = [
-        vec![1, INT64],
-        object_node(6, &[[2, AT_MOST_ONE]; 512]),
-        vec![2, 4],
-    ];
     Subject {
         name: format!("set of {count} empty objects"),
-        plan: plan(&nodes),
+        plan: set_of_objects(6, 512, INT64),
         value: set(&vec![object(&[]); count]),
     }
 }
