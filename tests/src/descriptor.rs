@@ -33,13 +33,10 @@ mod sweep;
 use crate::ffi;
 use crate::program::Comparison;
 use crate::rng::Rng;
-use crate::tally::Tally;
 use case::Case;
 use fixed::Cases;
-pub use judge::Calls;
-use judge::Judge;
-use second::crossing::{self, Answer};
-use std::marker::PhantomData;
+pub use judge::{Calls, Descriptors};
+use second::crossing;
 
 /// A program whose compile and run are compared with the second program's.
 pub trait Tested {
@@ -72,26 +69,8 @@ impl Tested for Second {
     };
 }
 
-/// The comparison of a program's calls.
-pub struct Descriptors<T> {
-    judge: Judge,
-    tallies: [Tally; 2],
-    tested: PhantomData<T>,
-}
-
 impl<T: Tested> Comparison for Descriptors<T> {
     const NAME: &'static str = T::NAME;
-    type Case = Case;
-
-    fn new(seed: u64) -> Descriptors<T> {
-        let compile = &[10, 11, 12, 13, 14, 15, 16, 17, 18, 30];
-        let run = &[20, 21, 22, 23, 24, 25, 26, 27, 28, 31];
-        Descriptors {
-            judge: Judge::new(seed, T::CALLS),
-            tallies: [Tally::new("compile", compile), Tally::new("run", run)],
-            tested: PhantomData,
-        }
-    }
 
     fn fixed() -> Vec<Case> {
         let mut cases = Cases::default();
@@ -106,21 +85,7 @@ impl<T: Tested> Comparison for Descriptors<T> {
         cases.0
     }
 
-    fn random(seed: u64, number: u64) -> Case {
-        making::make(&mut Rng::of_case(seed, number))
-    }
-
-    /// The answer of the run, if there is one, else that of compile.
-    fn judge(&mut self, case: &Case) -> Result<Answer, String> {
-        let judged = self.judge.judge(case)?;
-        self.tallies[0].count(judged.compiled.number);
-        if let Some(answer) = judged.run {
-            self.tallies[1].count(answer.number);
-        }
-        Ok(judged.run.unwrap_or(judged.compiled))
-    }
-
-    fn tallies(&self) -> &[Tally] {
-        &self.tallies
+    fn random(rng: &mut Rng) -> Case {
+        making::make(rng)
     }
 }

@@ -19,31 +19,11 @@ mod writing;
 use crate::lending::Lending;
 use crate::program::Comparison;
 use crate::rng::Rng;
-use crate::tally::Tally;
 use case::{Call, Case};
-use judge::Judge;
-use second::crossing::Answer;
-
-/// The comparison of the message calls.
-pub struct Messages {
-    judge: Judge,
-    /// Of the reader and of the writer.
-    tallies: [Tally; 2],
-}
+pub use judge::Messages;
 
 impl Comparison for Messages {
     const NAME: &'static str = "messages";
-    type Case = Case;
-
-    fn new(seed: u64) -> Messages {
-        Messages {
-            judge: Judge::new(seed),
-            tallies: [
-                Tally::new("reader", &[1, 2, 3, 4, 5, 6, 31]),
-                Tally::new("writer", &[2, 3, 6, 32]),
-            ],
-        }
-    }
 
     fn fixed() -> Vec<Case> {
         let mut cases = exact::cases();
@@ -51,31 +31,16 @@ impl Comparison for Messages {
         cases
     }
 
-    fn random(seed: u64, number: u64) -> Case {
-        let mut rng = Rng::of_case(seed, number);
+    fn random(rng: &mut Rng) -> Case {
         let call = if rng.once_in(2) {
-            Call::Read(reading::make(&mut rng))
+            Call::Read(reading::make(rng))
         } else {
-            Call::Write(writing::make(&mut rng))
+            Call::Write(writing::make(rng))
         };
         Case {
             call,
-            lending: Lending::random(&mut rng),
+            lending: Lending::random(rng),
             expected: None,
         }
-    }
-
-    fn judge(&mut self, case: &Case) -> Result<Answer, String> {
-        let answer = self.judge.judge(case)?;
-        let [reader, writer] = &mut self.tallies;
-        match case.call {
-            Call::Read(_) => reader.count(answer.number),
-            Call::Write(_) => writer.count(answer.number),
-        }
-        Ok(answer)
-    }
-
-    fn tallies(&self) -> &[Tally] {
-        &self.tallies
     }
 }

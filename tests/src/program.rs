@@ -3,30 +3,36 @@
 //! case of that number and runs no other.
 
 use crate::fault;
-use crate::tally::{demand, Tally};
+use crate::rng::Rng;
+use crate::tally::{demand, Counted, Tally};
 use second::crossing::Answer;
 use std::fmt::Display;
 use std::process::ExitCode;
 use std::time::Instant;
 
-/// What a program compares.
-pub trait Comparison {
-    const NAME: &'static str;
+/// What makes the calls of a case and compares.
+pub trait Judge {
     type Case: Display;
 
+    /// The calls whose answers are counted.
+    const COUNTED: &'static [Counted];
+
     fn new(seed: u64) -> Self;
+
+    /// The answer of a case in which nothing differs, or else a report of what differs. What each
+    /// call answers is counted in its tally, which has the place that the call has in `COUNTED`.
+    fn judge(&mut self, case: &Self::Case, tallies: &mut [Tally]) -> Result<Answer, String>;
+}
+
+/// What a program compares: the cases of a judge.
+pub trait Comparison: Judge {
+    const NAME: &'static str;
 
     /// The cases of every run: they have the first numbers.
     fn fixed() -> Vec<Self::Case>;
 
-    /// The case of this number, made at random.
-    fn random(seed: u64, number: u64) -> Self::Case;
-
-    /// The answer of a case in which nothing differs, after it was counted, or else a report of
-    /// what differs.
-    fn judge(&mut self, case: &Self::Case) -> Result<Answer, String>;
-
-    fn tallies(&self) -> &[Tally];
+    /// A case made at random.
+    fn random(rng: &mut Rng) -> Self::Case;
 }
 
 pub fn main<C: Comparison>() -> ExitCode {
@@ -46,26 +52,35 @@ pub fn main<C: Comparison>() -> ExitCode {
     }
 }
 
+/// The random case of this number.
+fn random<C: Comparison>(seed: u64, number: u64) -> C::Case {
+    C::random(&mut Rng::of_case(seed, number))
+}
+
+fn tallies<C: Comparison>() -> Vec<Tally> {
+    C::COUNTED.iter().map(Tally::new).collect()
+}
+
 fn run<C: Comparison>(cases: u64, seed: u64) -> ExitCode {
     let began = Instant::now();
     let fixed = C::fixed();
     let total = fixed.len() as u64 + cases;
-    let made = (fixed.len() as u64..total).map(|number| C::random(seed, number));
-    let mut comparison = C::new(seed);
+    let made = (fixed.len() as u64..total).map(|number| random::<C>(seed, number));
+    let (mut judge, mut tallies) = (C::new(seed), tallies::<C>());
     for (number, case) in (0..).zip(fixed.into_iter().chain(made)) {
         fault::starting(number, number);
-        if let Err(report) = comparison.judge(&case) {
+        if let Err(report) = judge.judge(&case, &mut tallies) {
             println!("case {number} of seed {seed}: {report}");
             println!("to see it alone: {} 0 {seed} {number}", C::NAME);
             println!("{number} passed, 1 failed");
             return ExitCode::FAILURE;
         }
     }
-    for tally in comparison.tallies() {
+    for tally in &tallies {
         print!("{tally}");
     }
     println!("seed {seed}, {:.1} s", began.elapsed().as_secs_f64());
-    finish(total, demand(cases), comparison.tallies())
+    finish(total, demand(cases), &tallies)
 }
 
 /// Shows a case before it is run, since the call may fault.
@@ -73,10 +88,10 @@ fn run_only<C: Comparison>(seed: u64, only: u64) -> ExitCode {
     let case = C::fixed()
         .into_iter()
         .nth(only as usize)
-        .unwrap_or_else(|| C::random(seed, only));
+        .unwrap_or_else(|| random::<C>(seed, only));
     println!("case {only} of seed {seed}, {case}");
     fault::starting(only, 0);
-    match C::new(seed).judge(&case) {
+    match C::new(seed).judge(&case, &mut tallies::<C>()) {
         Ok(answer) => {
             println!("  both: {answer:?}");
             println!("1 passed, 0 failed");

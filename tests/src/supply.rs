@@ -23,28 +23,12 @@ mod sweep;
 
 use crate::program::Comparison;
 use crate::rng::Rng;
-use crate::tally::Tally;
 use case::Case;
 use fixed::Cases;
-use judge::Judge;
-use second::crossing::Answer;
-
-/// The comparison of `rembulfose_write_value`.
-pub struct Supplies {
-    judge: Judge,
-    tallies: [Tally; 1],
-}
+pub use judge::Supplies;
 
 impl Comparison for Supplies {
     const NAME: &'static str = "supplies";
-    type Case = Case;
-
-    fn new(seed: u64) -> Supplies {
-        Supplies {
-            judge: Judge::new(seed),
-            tallies: [Tally::new("write_value", &[32, 33, 34])],
-        }
-    }
 
     fn fixed() -> Vec<Case> {
         let mut cases = Cases::default();
@@ -55,17 +39,7 @@ impl Comparison for Supplies {
         cases.0
     }
 
-    fn random(seed: u64, number: u64) -> Case {
-        making::make(&mut Rng::of_case(seed, number))
-    }
-
-    fn judge(&mut self, case: &Case) -> Result<Answer, String> {
-        let answer = self.judge.judge(case)?;
-        self.tallies[0].count(answer.number);
-        Ok(answer)
-    }
-
-    fn tallies(&self) -> &[Tally] {
-        &self.tallies
+    fn random(rng: &mut Rng) -> Case {
+        making::make(rng)
     }
 }

@@ -3,16 +3,18 @@
 use std::collections::BTreeMap;
 use std::fmt;
 
+/// The name of a call, and the refusals that it can give, each of which a run must have seen often.
+pub type Counted = (&'static str, &'static [u32]);
+
 /// The answers of one call, by number.
 pub struct Tally {
     call: &'static str,
-    /// The refusals that this call can give, each of which a run must have seen often.
     refusals: &'static [u32],
     counts: BTreeMap<u32, u64>,
 }
 
 impl Tally {
-    pub fn new(call: &'static str, refusals: &'static [u32]) -> Tally {
+    pub fn new(&(call, refusals): &Counted) -> Tally {
         let mut counts: BTreeMap<u32, u64> = refusals.iter().map(|&number| (number, 0)).collect();
         counts.insert(0, 0);
         Tally {

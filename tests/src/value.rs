@@ -29,32 +29,14 @@ mod plans;
 pub(crate) mod scalar;
 pub(crate) mod sweep;
 
-use crate::lending::Lending;
 use crate::program::Comparison;
 use crate::rng::Rng;
-use crate::tally::Tally;
 use case::Case;
 use fixed::Cases;
-use judge::Judge;
-use second::crossing::Answer;
-
-/// The comparison of `rembulfose_run`.
-pub struct Values {
-    judge: Judge,
-    tallies: [Tally; 1],
-}
+pub use judge::Values;
 
 impl Comparison for Values {
     const NAME: &'static str = "values";
-    type Case = Case;
-
-    fn new(seed: u64) -> Values {
-        let refusals = &[20, 21, 22, 23, 24, 25, 26, 27, 28, 31, 33];
-        Values {
-            judge: Judge::new(seed),
-            tallies: [Tally::new("run", refusals)],
-        }
-    }
 
     fn fixed() -> Vec<Case> {
         let mut cases = Cases::default();
@@ -68,23 +50,7 @@ impl Comparison for Values {
         cases.0
     }
 
-    fn random(seed: u64, number: u64) -> Case {
-        let mut rng = Rng::of_case(seed, number);
-        let (call, expected) = making::make(&mut rng);
-        Case {
-            call,
-            lending: Lending::random(&mut rng),
-            expected,
-        }
-    }
-
-    fn judge(&mut self, case: &Case) -> Result<Answer, String> {
-        let answer = self.judge.judge(case)?;
-        self.tallies[0].count(answer.number);
-        Ok(answer)
-    }
-
-    fn tallies(&self) -> &[Tally] {
-        &self.tallies
+    fn random(rng: &mut Rng) -> Case {
+        making::make(rng)
     }
 }

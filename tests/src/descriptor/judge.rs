@@ -7,9 +7,13 @@
 //! must come to what the rules read off the descriptor come to, which see no plan.
 
 use super::case::{Case, CompileCall, Running};
+use super::Tested;
 use crate::lending::Lending;
 use crate::memory::{Lent, Memory};
+use crate::program::Judge;
+use crate::tally::{Counted, Tally};
 use second::crossing::{self, Answer};
+use std::marker::PhantomData;
 
 /// A call that reads two runs of bytes and writes to a room.
 type Call = fn(&[u8], &[u8], &mut [u8]) -> Answer;
@@ -25,47 +29,52 @@ pub struct Calls {
     pub run: Call,
 }
 
-pub struct Judge {
-    calls: Calls,
+/// The comparison of a program's calls.
+pub struct Descriptors<T> {
     memory: Memory<2>,
+    tested: PhantomData<T>,
 }
 
-/// The answers of a case in which nothing differs.
-pub struct Judged {
-    pub compiled: Answer,
-    pub run: Option<Answer>,
-}
+impl<T: Tested> Judge for Descriptors<T> {
+    type Case = Case;
+    const COUNTED: &'static [Counted] = &[
+        ("compile", &[10, 11, 12, 13, 14, 15, 16, 17, 18, 30]),
+        ("run", &[20, 21, 22, 23, 24, 25, 26, 27, 28, 31]),
+    ];
 
-impl Judge {
-    pub fn new(seed: u64, calls: Calls) -> Judge {
-        Judge {
-            calls,
+    fn new(seed: u64) -> Descriptors<T> {
+        Descriptors {
             memory: Memory::new(seed),
+            tested: PhantomData,
         }
     }
 
-    /// The answers of a case in which nothing differs, or else a report of what does.
-    pub fn judge(&mut self, case: &Case) -> Result<Judged, String> {
+    /// The answer of the run, if there is one, else that of compile.
+    fn judge(&mut self, case: &Case, tallies: &mut [Tally]) -> Result<Answer, String> {
         let compiled = self.compile(&case.call, case.lending)?;
         case.expected
             .hold(&case.call, compiled, self.memory.left())?;
-        let run = match &case.running {
+        tallies[0].count(compiled.number);
+        match &case.running {
             Some(running) if compiled.number == 0 => {
                 let plan = self.memory.left()[..4 * compiled.first as usize].to_vec();
-                Some(self.run(case, &plan, running)?)
+                let answer = self.run(case, &plan, running)?;
+                tallies[1].count(answer.number);
+                Ok(answer)
             }
-            _ => None,
-        };
-        Ok(Judged { compiled, run })
+            _ => Ok(compiled),
+        }
     }
+}
 
+impl<T: Tested> Descriptors<T> {
     fn compile(&mut self, call: &CompileCall, lending: Lending) -> Result<Answer, String> {
         let lent = Lent {
             inputs: [&call.descriptor, &call.root],
             room: call.room,
             lending,
         };
-        let tested = (self.calls.name, on_inputs(self.calls.compile));
+        let tested = (T::CALLS.name, on_inputs(T::CALLS.compile));
         let second = ("second program", on_inputs(crossing::compile));
         self.memory.compare_named(call, lent, tested, second)
     }
@@ -80,7 +89,7 @@ impl Judge {
             room: running.room,
             lending: case.lending,
         };
-        let tested = (self.calls.name, on_inputs(self.calls.run));
+        let tested = (T::CALLS.name, on_inputs(T::CALLS.run));
         let rules = (
             "rules off the descriptor",
             |[_, value]: [&[u8]; 2], list: &mut [u8]| {

@@ -7,8 +7,10 @@ use crate::crossed::{accepted, refused, words};
 use crate::entries::entries;
 use crate::ffi;
 use crate::memory::{Lent, Memory};
+use crate::program::Judge;
 use crate::report::report;
-use second::crossing::{self, Answer, NumberAnswer};
+use crate::tally::{Counted, Tally};
+use second::crossing::{self, Answer};
 use std::fmt::Debug;
 
 /// Bytes of the largest list that can cross.
@@ -17,27 +19,31 @@ const LIST: usize = 32_768;
 /// A call that reads plan, value and path.
 type Call<A> = fn(&[u8], &[u8], &[u8]) -> A;
 
-pub struct Judge {
+/// The comparison of `rembulfose_find` and `rembulfose_find_number`.
+pub struct Finding {
     memory: Memory<3>,
     running: Memory<2>,
 }
 
-/// The answers of a case in which nothing differs.
-pub struct Judged {
-    pub found: Answer,
-    pub number: NumberAnswer,
-}
+impl Judge for Finding {
+    type Case = Case;
+    const COUNTED: &'static [Counted] = &[
+        ("find", &[20, 21, 22, 23, 24, 25, 26, 27, 28, 33, 35, 36]),
+        (
+            "find_number",
+            &[20, 21, 22, 23, 24, 25, 26, 27, 28, 33, 35, 36, 37],
+        ),
+    ];
 
-impl Judge {
-    pub fn new(seed: u64) -> Judge {
-        Judge {
+    fn new(seed: u64) -> Finding {
+        Finding {
             memory: Memory::new(seed),
             running: Memory::new(seed),
         }
     }
 
-    /// The answers of a case in which nothing differs, or else a report of what does.
-    pub fn judge(&mut self, case: &Case) -> Result<Judged, String> {
+    /// The answer of find.
+    fn judge(&mut self, case: &Case, tallies: &mut [Tally]) -> Result<Answer, String> {
         let found = self.compare(case, ffi::find, crossing::find)?;
         case.expected.hold(&case.call, found, &[])?;
         let number = self.compare(case, ffi::find_number, crossing::find_number)?;
@@ -49,9 +55,13 @@ impl Judge {
         if let Some(entry) = case.entry {
             self.hold_against_run(case, entry, found)?;
         }
-        Ok(Judged { found, number })
+        tallies[0].count(found.number);
+        tallies[1].count(number.number);
+        Ok(found)
     }
+}
 
+impl Finding {
     fn compare<A: Copy + PartialEq + Debug>(
         &mut self,
         case: &Case,

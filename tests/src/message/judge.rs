@@ -6,38 +6,47 @@ use super::case::{Call, Case, ReadCall, WriteCall};
 use crate::ffi;
 use crate::lending::Lending;
 use crate::memory::{Lent, Memory};
+use crate::program::Judge;
 use crate::report::report;
+use crate::tally::{Counted, Tally};
 use second::crossing::{self, Answer};
 
-pub struct Judge {
+/// The comparison of the message calls.
+pub struct Messages {
     reading: Memory<1>,
     writing: Memory<2>,
 }
 
-impl Judge {
-    pub fn new(seed: u64) -> Judge {
-        Judge {
+impl Judge for Messages {
+    type Case = Case;
+    const COUNTED: &'static [Counted] = &[
+        ("reader", &[1, 2, 3, 4, 5, 6, 31]),
+        ("writer", &[2, 3, 6, 32]),
+    ];
+
+    fn new(seed: u64) -> Messages {
+        Messages {
             reading: Memory::new(seed),
             writing: Memory::new(seed),
         }
     }
 
-    /// The answer of a case in which nothing differs, or else a report of what does.
-    pub fn judge(&mut self, case: &Case) -> Result<Answer, String> {
-        let answer = match &case.call {
-            Call::Read(call) => self.read(call, case.lending)?,
-            Call::Write(call) => self.write(call, case.lending)?,
+    fn judge(&mut self, case: &Case, tallies: &mut [Tally]) -> Result<Answer, String> {
+        let (answer, place) = match &case.call {
+            Call::Read(call) => (self.read(call, case.lending)?, 0),
+            Call::Write(call) => (self.write(call, case.lending)?, 1),
         };
-        match case.expected {
-            Some(expected) if answer != expected => {
-                let what = "both programs differ from the answer worked out by hand";
-                let answers = [("both", answer), ("by hand", expected)];
-                Err(report(what, &case.call, &answers))
-            }
-            _ => Ok(answer),
+        if let Some(expected) = case.expected.filter(|expected| *expected != answer) {
+            let what = "both programs differ from the answer worked out by hand";
+            let answers = [("both", answer), ("by hand", expected)];
+            return Err(report(what, &case.call, &answers));
         }
+        tallies[place].count(answer.number);
+        Ok(answer)
     }
+}
 
+impl Messages {
     /// Compares a reading; an accepted message, written from its list, must come back.
     fn read(&mut self, call: &ReadCall, lending: Lending) -> Result<Answer, String> {
         let answer = self.compare_read(call, lending)?;

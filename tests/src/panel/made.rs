@@ -37,8 +37,7 @@ fn messages(rng: &mut Rng) -> (u8, Vec<u8>) {
         let draft = Draft::make(rng);
         return (draft.side as u8, draft.message());
     }
-    let seed = rng.draw();
-    let case = <Descriptors<Second> as Comparison>::random(seed, 0);
+    let case = Descriptors::<Second>::random(&mut Rng::of_case(rng.draw(), 0));
     let (descriptor, root) = (&case.call.descriptor, &case.call.root);
     if root.len() != 16 || descriptor.len() > MOST_BODY {
         return (1, data(&[]));

@@ -10,24 +10,29 @@ use crate::crossed::words;
 use crate::entries::entries;
 use crate::ffi;
 use crate::memory::{Lent, Memory};
+use crate::program::Judge;
 use crate::report::report;
+use crate::tally::{Counted, Tally};
 use second::crossing::{self, Answer};
 
-pub struct Judge {
+/// The comparison of `rembulfose_write_value`.
+pub struct Supplies {
     memory: Memory<3>,
     running: Memory<2>,
 }
 
-impl Judge {
-    pub fn new(seed: u64) -> Judge {
-        Judge {
+impl Judge for Supplies {
+    type Case = Case;
+    const COUNTED: &'static [Counted] = &[("write_value", &[32, 33, 34])];
+
+    fn new(seed: u64) -> Supplies {
+        Supplies {
             memory: Memory::new(seed),
             running: Memory::new(seed),
         }
     }
 
-    /// The answer of a case in which nothing differs, or else a report of what does.
-    pub fn judge(&mut self, case: &Case) -> Result<Answer, String> {
+    fn judge(&mut self, case: &Case, tallies: &mut [Tally]) -> Result<Answer, String> {
         let call = &case.call;
         let lent = Lent {
             inputs: [&call.plan, &call.list, &call.src],
@@ -39,13 +44,16 @@ impl Judge {
         };
         let answer = self.memory.compare(call, lent, library, second)?;
         case.expected.hold(call, answer, self.memory.left())?;
-        match answer.number {
-            0 => self.read_back(case, answer),
-            _ => Ok(answer),
+        if answer.number == 0 {
+            self.read_back(case, answer)?;
         }
+        tallies[0].count(answer.number);
+        Ok(answer)
     }
+}
 
-    fn read_back(&mut self, case: &Case, answer: Answer) -> Result<Answer, String> {
+impl Supplies {
+    fn read_back(&mut self, case: &Case, answer: Answer) -> Result<(), String> {
         let (call, lending) = (&case.call, case.lending);
         let value = self.memory.left()[..answer.first as usize].to_vec();
         let lent = Lent {
@@ -70,7 +78,7 @@ impl Judge {
             let what = "a written value does not come back from its list";
             return Err(report(what, call, &[("written", answer), ("again", again)]));
         }
-        Ok(answer)
+        Ok(())
     }
 }
 

@@ -4,17 +4,22 @@
 use super::case::Case;
 use crate::ffi;
 use crate::memory::{Lent, Memory};
+use crate::program::Judge;
+use crate::tally::{Counted, Tally};
 use second::crossing::{self, Answer};
 
-pub struct Judge(Memory<2>);
+/// The comparison of `rembulfose_run`.
+pub struct Values(Memory<2>);
 
-impl Judge {
-    pub fn new(seed: u64) -> Judge {
-        Judge(Memory::new(seed))
+impl Judge for Values {
+    type Case = Case;
+    const COUNTED: &'static [Counted] = &[("run", &[20, 21, 22, 23, 24, 25, 26, 27, 28, 31, 33])];
+
+    fn new(seed: u64) -> Values {
+        Values(Memory::new(seed))
     }
 
-    /// The answer of a case in which nothing differs, or else a report of what does.
-    pub fn judge(&mut self, case: &Case) -> Result<Answer, String> {
+    fn judge(&mut self, case: &Case, tallies: &mut [Tally]) -> Result<Answer, String> {
         let call = &case.call;
         let lent = Lent {
             inputs: [&call.plan, &call.value],
@@ -24,6 +29,8 @@ impl Judge {
         let library = |[plan, value]: [&[u8]; 2], list: &mut [u8]| ffi::run(plan, value, list);
         let second = |[plan, value]: [&[u8]; 2], list: &mut [u8]| crossing::run(plan, value, list);
         let answer = self.0.compare(call, lent, library, second)?;
-        case.expected.hold(call, answer, self.0.left())
+        case.expected.hold(call, answer, self.0.left())?;
+        tallies[0].count(answer.number);
+        Ok(answer)
     }
 }

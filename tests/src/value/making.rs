@@ -1,12 +1,13 @@
 //! Makes a case at random: a plan, a value of it, and what damage there is to either.
 
-use super::case::RunCall;
+use super::case::{Case, RunCall};
 use super::draft::Laid;
 use super::pairing::{pair, Known};
 use super::plan::PlanDraft;
 use super::{byte_damage, plan_damage};
 use crate::crossed::list;
 use crate::expected::Expected;
+use crate::lending::Lending;
 use crate::rng::Rng;
 
 /// A plan and a value as bytes, the list that the value has if it is good, and what is known.
@@ -16,16 +17,19 @@ pub struct Made {
     pub known: Known,
 }
 
-/// A call on a value that is good or damaged in one or more ways, and what is known of its answer.
-pub fn make(rng: &mut Rng) -> (RunCall, Expected) {
+/// A call on a value that is good or damaged in one or more ways.
+pub fn make(rng: &mut Rng) -> Case {
     let Made { plan, laid, known } = damaged(rng);
     let room = room(rng, 4 * laid.words.len());
-    let call = RunCall {
-        plan,
-        value: laid.bytes,
-        room,
-    };
-    (call, expected(known, laid.words, room))
+    Case {
+        call: RunCall {
+            plan,
+            value: laid.bytes,
+            room,
+        },
+        lending: Lending::random(rng),
+        expected: expected(known, laid.words, room),
+    }
 }
 
 /// A plan and a value that are good or damaged in one or more ways.
