@@ -73,16 +73,16 @@ impl<T: Tested> Comparison for Descriptors<T> {
     const NAME: &'static str = T::NAME;
 
     fn fixed() -> Vec<Case> {
-        let mut cases = Cases::default();
-        exact::add(&mut cases);
-        contents::add(&mut cases);
-        references::add(&mut cases);
-        identities::add(&mut cases);
-        order::add(&mut cases);
-        heights::add(&mut cases);
-        limits::add(&mut cases);
-        sweep::add(&mut cases);
-        cases.0
+        Cases::of(&[
+            exact::add,
+            contents::add,
+            references::add,
+            identities::add,
+            order::add,
+            heights::add,
+            limits::add,
+            sweep::add,
+        ])
     }
 
     fn random(rng: &mut Rng) -> Case {

@@ -5,6 +5,7 @@ use crate::report::{report, Hex};
 use second::crossing::Answer;
 use std::fmt::Display;
 
+#[derive(Clone)]
 pub enum Expected {
     Unknown,
     /// The number and place of a refusal.

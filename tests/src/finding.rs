@@ -25,11 +25,7 @@ impl Comparison for Finding {
     const NAME: &'static str = "finding";
 
     fn fixed() -> Vec<Case> {
-        let mut cases = Cases::default();
-        exact::add(&mut cases);
-        numbers::add(&mut cases);
-        sweep::add(&mut cases);
-        cases.0
+        Cases::of(&[exact::add, numbers::add, sweep::add])
     }
 
     fn random(rng: &mut Rng) -> Case {

@@ -13,7 +13,7 @@
 //!   descriptors and values, for the programs `descriptors` and `rules`.
 //! * [`finding`] does so with paths, for the program `finding`, and [`supply`] with supplies, for the
 //!   program `supplies`; [`entries`] has the entries of the lists that both start from.
-//! * [`case`] is a case of some of these.
+//! * [`case`] is a case of some of these, and [`fixed`] puts together those of every run.
 //! * [`panel`] holds what the panel program prints against the second program, for `panel-shown`.
 
 pub mod case;
@@ -25,6 +25,7 @@ pub mod fault;
 pub mod fence;
 pub mod ffi;
 pub mod finding;
+pub mod fixed;
 pub mod lending;
 pub mod memory;
 pub mod message;

@@ -31,12 +31,7 @@ impl Comparison for Supplies {
     const NAME: &'static str = "supplies";
 
     fn fixed() -> Vec<Case> {
-        let mut cases = Cases::default();
-        exact::add(&mut cases);
-        containers::add(&mut cases);
-        limits::add(&mut cases);
-        sweep::add(&mut cases);
-        cases.0
+        Cases::of(&[exact::add, containers::add, limits::add, sweep::add])
     }
 
     fn random(rng: &mut Rng) -> Case {

@@ -39,15 +39,15 @@ impl Comparison for Values {
     const NAME: &'static str = "values";
 
     fn fixed() -> Vec<Case> {
-        let mut cases = Cases::default();
-        exact::add(&mut cases);
-        leaves::add(&mut cases);
-        plans::add(&mut cases);
-        order::add(&mut cases);
-        examples::add(&mut cases);
-        limits::add(&mut cases);
-        sweep::add(&mut cases);
-        cases.0
+        Cases::of(&[
+            exact::add,
+            leaves::add,
+            plans::add,
+            order::add,
+            examples::add,
+            limits::add,
+            sweep::add,
+        ])
     }
 
     fn random(rng: &mut Rng) -> Case {

@@ -14,6 +14,7 @@ pub struct Case {
 }
 
 /// `rembulfose_compile`.
+#[derive(Clone)]
 pub struct CompileCall {
     pub descriptor: Vec<u8>,
     pub root: Vec<u8>,
@@ -22,6 +23,7 @@ pub struct CompileCall {
 }
 
 /// `rembulfose_run`, by the plan that was compiled.
+#[derive(Clone)]
 pub struct Running {
     pub value: Vec<u8>,
     /// Bytes of room for the list.

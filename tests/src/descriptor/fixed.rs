@@ -4,7 +4,7 @@ use super::bytes::{known, scalar, INT64};
 use super::case::{Case, CompileCall, Running};
 use crate::expected::Expected;
 use crate::fence::Edge;
-use crate::lending::{Lending, FILLS};
+use crate::fixed::rooms;
 
 /// Where the block after `scalar(INT64)` starts.
 pub const AFTER: usize = 25;
@@ -12,27 +12,21 @@ pub const AFTER: usize = 25;
 /// Enough for most plans and lists.
 const ROOM: usize = 400;
 
-#[derive(Default)]
-pub struct Cases(pub Vec<Case>);
+pub type Cases = crate::fixed::Cases<Case>;
 
 impl Cases {
-    /// A good descriptor: with just enough room, more, a word or a byte too little, and none.
+    /// A good descriptor, with enough room and with too little.
     pub fn good(&mut self, descriptor: &[u8], root: &[u8], plan: &[u32]) {
-        let enough = 4 * plan.len();
-        for room in [enough, enough + 1, enough + 4, enough + 100] {
-            let written = || Expected::Written(plan.to_vec());
-            self.at_edges(descriptor, root, room, written);
-        }
-        for room in [enough - 1, enough - 4, 0] {
-            self.at_edges(descriptor, root, room, || Expected::Refused(30, 0));
+        for (room, expected) in rooms(plan, 30) {
+            self.at_edges(call(descriptor, root, room), expected, None);
         }
     }
 
     /// A refusal, whatever the room is.
     pub fn bad(&mut self, descriptor: &[u8], root: &[u8], number: u32, place: usize) {
         for room in [ROOM, 0] {
-            let refused = || Expected::Refused(number, place as u32);
-            self.at_edges(descriptor, root, room, refused);
+            let expected = Expected::Refused(number, place as u32);
+            self.at_edges(call(descriptor, root, room), expected, None);
         }
     }
 
@@ -52,35 +46,26 @@ impl Cases {
     /// A good value of a good descriptor: with just enough room for the list, and with less.
     pub fn listed(&mut self, descriptor: &[u8], root: &[u8], value: &[u8], list: &[u32]) {
         let enough = 4 * list.len();
-        let written = || Expected::Written(list.to_vec());
-        self.run(descriptor, root, value, enough, written);
-        self.run(descriptor, root, value, enough + 7, written);
+        for room in [enough, enough + 7] {
+            let written = Expected::Written(list.to_vec());
+            self.run(descriptor, root, running(value, room, written));
+        }
         if enough > 0 {
-            let refused = || Expected::Refused(31, 0);
-            self.run(descriptor, root, value, enough - 1, refused);
+            let refused = Expected::Refused(31, 0);
+            self.run(descriptor, root, running(value, enough - 1, refused));
         }
     }
 
     /// A bad value of a good descriptor.
     pub fn faulty(&mut self, descriptor: &[u8], root: &[u8], value: &[u8], fault: (u32, u32)) {
-        let refused = || Expected::Refused(fault.0, fault.1);
-        self.run(descriptor, root, value, 40_000, refused);
+        let refused = Expected::Refused(fault.0, fault.1);
+        self.run(descriptor, root, running(value, 40_000, refused));
     }
 
     /// A value that is run by a descriptor's plan, with room enough for the plan.
-    fn run(
-        &mut self,
-        descriptor: &[u8],
-        root: &[u8],
-        value: &[u8],
-        room: usize,
-        expected: impl Fn() -> Expected,
-    ) {
-        for edge in [Edge::Front, Edge::Back] {
-            let running = running(value, room, expected());
-            let call = call(descriptor, root, 32_768);
-            self.push(call, edge, Expected::Unknown, Some(running));
-        }
+    fn run(&mut self, descriptor: &[u8], root: &[u8], running: Running) {
+        let call = call(descriptor, root, 32_768);
+        self.at_edges(call, Expected::Unknown, Some(running));
     }
 
     pub fn known(&mut self, descriptor: &[u8], root: &[u8], room: usize, expected: Expected) {
@@ -88,25 +73,25 @@ impl Cases {
     }
 
     /// The same with either end of its buffers fenced.
-    fn at_edges(
-        &mut self,
-        descriptor: &[u8],
-        root: &[u8],
-        room: usize,
-        expected: impl Fn() -> Expected,
-    ) {
+    fn at_edges(&mut self, call: CompileCall, expected: Expected, running: Option<Running>) {
         for edge in [Edge::Front, Edge::Back] {
-            self.push(call(descriptor, root, room), edge, expected(), None);
+            self.push(call.clone(), edge, expected.clone(), running.clone());
         }
     }
 
-    fn push(&mut self, call: CompileCall, edge: Edge, expected: Expected, run: Option<Running>) {
-        let fill = self.0.len() % FILLS;
+    fn push(
+        &mut self,
+        call: CompileCall,
+        edge: Edge,
+        expected: Expected,
+        running: Option<Running>,
+    ) {
+        let lending = self.lending(edge);
         self.0.push(Case {
             call,
-            lending: Lending { edge, fill },
+            lending,
             expected,
-            running: run,
+            running,
         });
     }
 }

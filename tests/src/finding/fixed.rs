@@ -12,8 +12,7 @@ use second::crossing::NumberAnswer;
 /// Of a long list only so many entries are looked for, and the last.
 const FIRST_ENTRIES: usize = 40;
 
-#[derive(Default)]
-pub struct Cases(pub Vec<Case>);
+pub type Cases = crate::fixed::Cases<Case>;
 
 /// A plan, a value and a path as a case is written with them.
 pub type Lookup<'a> = (&'a [u32], &'a [u8], &'a [u32]);

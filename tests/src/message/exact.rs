@@ -5,23 +5,22 @@ use super::bytes::whole;
 use super::case::{Call, Case, ReadCall, WriteCall};
 use crate::crossed::{accepted, list, refused};
 use crate::fence::Edge;
-use crate::lending::{Lending, FILLS};
 use crate::text;
 use second::crossing::Answer;
 use second::message::{CLIENT, SERVER};
 
 pub fn cases() -> Vec<Case> {
-    let mut cases = Cases(Vec::new());
-    cases.shortest();
-    cases.longest();
-    cases.most_words();
-    cases.order_of_reading();
-    cases.order_of_writing();
-    cases.ends_of_source();
-    cases.0
+    Cases::of(&[
+        Cases::shortest,
+        Cases::longest,
+        Cases::most_words,
+        Cases::order_of_reading,
+        Cases::order_of_writing,
+        Cases::ends_of_source,
+    ])
 }
 
-struct Cases(Vec<Case>);
+type Cases = crate::fixed::Cases<Case>;
 
 impl Cases {
     fn read(&mut self, side: u32, src: &[u8], room: usize, expected: Answer) {
@@ -48,10 +47,10 @@ impl Cases {
 
     fn both_edges(&mut self, expected: Answer, call: impl Fn() -> Call) {
         for edge in [Edge::Front, Edge::Back] {
-            let fill = self.0.len() % FILLS;
+            let lending = self.lending(edge);
             self.0.push(Case {
                 call: call(),
-                lending: Lending { edge, fill },
+                lending,
                 expected: Some(expected),
             });
         }

@@ -6,6 +6,7 @@ use std::fmt;
 pub type Case = crate::case::Case<WriteCall>;
 
 /// `rembulfose_write_value`.
+#[derive(Clone)]
 pub struct WriteCall {
     pub plan: Vec<u8>,
     pub list: Vec<u8>,

@@ -1,5 +1,6 @@
 //! Cases at and past each size, and where two refusals meet.
 
+use super::case::WriteCall;
 use super::fixed::Cases;
 use crate::crossed::list;
 use crate::expected::Expected;
@@ -20,8 +21,13 @@ fn order(cases: &mut Cases) {
     let (good_plan, bad_plan) = (list(&SET), list(&[6, 4, 1, 20, 2, 2]));
     let good_list = list(&[4, 0, 0, 12, 0]);
     let mut push = |plan: &[u8], list: &[u8], room: usize, number: u32| {
-        let expected = Expected::Refused(number, 0);
-        cases.push(plan, list, &[], room, Edge::Back, expected);
+        let call = WriteCall {
+            plan: plan.to_vec(),
+            list: list.to_vec(),
+            src: Vec::new(),
+            room,
+        };
+        cases.push(call, Edge::Back, Expected::Refused(number, 0));
     };
     for length in [
         0, 1, 3, 4, 16, 19, 21, 24, 32_760, 32_768, 32_769, 32_772, 200_000,

@@ -6,6 +6,7 @@ use std::fmt;
 pub type Case = crate::case::Case<RunCall>;
 
 /// `rembulfose_run`.
+#[derive(Clone)]
 pub struct RunCall {
     pub plan: Vec<u8>,
     pub value: Vec<u8>,

@@ -1,5 +1,6 @@
 //! Cases at and past each size that 01 limits.
 
+use super::case::RunCall;
 use super::drafting::{self, Size};
 use super::fixed::Cases;
 use super::plan::{PlanDraft, Shape};
@@ -7,7 +8,6 @@ use super::planning;
 use super::scalar::{BOOL, BYTES, INT64, STR};
 use crate::crossed::list;
 use crate::expected::Expected;
-use crate::fence::Edge;
 use crate::rng::Rng;
 
 pub fn add(cases: &mut Cases) {
@@ -122,9 +122,12 @@ fn plan_words(cases: &mut Cases) {
 /// Bytes left over, with few words and with many.
 fn plan_bytes(cases: &mut Cases) {
     let mut push = |plan: &[u8], value: &[u8]| {
-        for edge in [Edge::Front, Edge::Back] {
-            cases.push(plan, value, 400, edge, Expected::Refused(33, 0));
-        }
+        let call = RunCall {
+            plan: plan.to_vec(),
+            value: value.to_vec(),
+            room: 400,
+        };
+        cases.at_edges(call, Expected::Refused(33, 0));
     };
     let enumeration = list(&[3, 2, 8]);
     for length in [1, 2, 3, 5, 7, 11] {
