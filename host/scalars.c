@@ -64,10 +64,16 @@ static bool gives_again(const char *text, double number, struct float_kind kind)
 }
 
 /* The fewest digits that, rounded, give the same number again; without an exponent from 0.00001 up to
- * the numbers whose whole part would need zeros that are not known to be there. */
-static void print_float(const struct screen *screen, double number, struct float_kind kind) {
+ * the numbers whose whole part would need zeros that are not known to be there. What is no number is
+ * told by its bits. */
+static void print_float(const struct screen *screen, double number, uint64_t bits,
+                        struct float_kind kind) {
     char text[40];
     int after = 0; /* digits after the first */
+    if (isnan(number)) {
+        fprintf(screen->out, "nan (bits %0*" PRIx64 ")", kind.single ? 8 : 16, bits);
+        return;
+    }
     if (isinf(number)) {
         fputs(number < 0 ? "-inf" : "inf", screen->out);
         return;
@@ -85,19 +91,13 @@ static void print_float(const struct screen *screen, double number, struct float
 static void print_float64(const struct screen *screen, uint64_t bits) {
     double number;
     memcpy(&number, &bits, sizeof number);
-    if (isnan(number))
-        fprintf(screen->out, "nan (bits %016" PRIx64 ")", bits);
-    else
-        print_float(screen, number, (struct float_kind){false, 17, 15});
+    print_float(screen, number, bits, (struct float_kind){false, 17, 15});
 }
 
 static void print_float32(const struct screen *screen, uint32_t bits) {
     float number;
     memcpy(&number, &bits, sizeof number);
-    if (isnan(number))
-        fprintf(screen->out, "nan (bits %08" PRIx32 ")", bits);
-    else
-        print_float(screen, (double)number, (struct float_kind){true, 9, 7});
+    print_float(screen, (double)number, bits, (struct float_kind){true, 9, 7});
 }
 
 /* A number of bytes in the largest unit that divides it. */
