@@ -20,6 +20,11 @@ void add_bytes(struct run *run, const void *bytes, size_t length) {
     run->length += length;
 }
 
+void print_run(const struct run *run) {
+    size_t written = fwrite(run->bytes, 1, run->length, stdout);
+    must(written == run->length && fflush(stdout) == 0, "cannot write");
+}
+
 /* A number of so many bytes, big-endian. */
 static void add_number(struct run *run, uint64_t number, size_t size) {
     uint8_t bytes[8];
@@ -143,9 +148,14 @@ void write_supply(const struct plan *plan, const struct supply *supply, struct r
     value->length = answer.first;
 }
 
-void add_field(struct fields *fields, const void *bytes, size_t length) {
+/* The pair of the field whose bytes come next. */
+static void add_pair(struct fields *fields, size_t length) {
     add_32(&fields->list, (uint32_t)fields->source.length);
     add_32(&fields->list, (uint32_t)length);
+}
+
+void add_field(struct fields *fields, const void *bytes, size_t length) {
+    add_pair(fields, length);
     add_bytes(&fields->source, bytes, length);
 }
 
@@ -154,10 +164,8 @@ void add_field_text(struct fields *fields, const char *text) {
 }
 
 void add_field_number(struct fields *fields, uint64_t number, size_t size) {
-    uint8_t bytes[8];
-    for (size_t i = 0; i < size; i++)
-        bytes[i] = (uint8_t)(number >> (8 * (size - 1 - i)));
-    add_field(fields, bytes, size);
+    add_pair(fields, size);
+    add_number(&fields->source, number, size);
 }
 
 void write_record(struct run *capture, uint32_t side, uint8_t type, struct fields *fields) {

@@ -23,6 +23,9 @@ void add_16(struct run *run, uint16_t number);
 void add_32(struct run *run, uint32_t number);
 void add_64(struct run *run, uint64_t number);
 
+/* Writes a run to standard output. */
+void print_run(const struct run *run);
+
 /* A u32 length and the text. */
 void add_text(struct run *run, const char *text);
 

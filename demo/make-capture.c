@@ -10,7 +10,6 @@
 #include "batches.h"
 #include "descriptors.h"
 
-#include <stdio.h>
 #include <stdlib.h>
 #include <string.h>
 
@@ -163,8 +162,7 @@ int main(void) {
     send_batch_twice(work);
     send_error(work);
     send_ready(work, 'I');
-    size_t written = fwrite(work->capture.bytes, 1, work->capture.length, stdout);
-    must(written == work->capture.length && fflush(stdout) == 0, "cannot write");
+    print_run(&work->capture);
     free(work);
     return 0;
 }

@@ -4,7 +4,6 @@
 #include "../../host/bytes.h"
 #include "../../host/capture.h"
 
-#include <stdio.h>
 #include <stdlib.h>
 #include <string.h>
 
@@ -137,8 +136,7 @@ int main(void) {
         add_field(&work->fields, work->value.bytes, work->value.length);
         write_record(&work->capture, SERVER, 'D', &work->fields);
     }
-    size_t written = fwrite(work->capture.bytes, 1, work->capture.length, stdout);
-    must(written == work->capture.length && fflush(stdout) == 0, "cannot write");
+    print_run(&work->capture);
     free(work);
     return 0;
 }

@@ -4,7 +4,6 @@
 #include "../../demo/build.h"
 #include "../../host/capture.h"
 
-#include <stdio.h>
 #include <stdlib.h>
 #include <string.h>
 
@@ -59,8 +58,7 @@ int main(void) {
     add_bytes(&work->capture, CAPTURE_MAGIC, strlen(CAPTURE_MAGIC));
     send_description(work);
     send_row(work);
-    size_t written = fwrite(work->capture.bytes, 1, work->capture.length, stdout);
-    must(written == work->capture.length && fflush(stdout) == 0, "cannot write");
+    print_run(&work->capture);
     free(work);
     return 0;
 }
