@@ -81,6 +81,34 @@ static inline size_t words_of(const char *decimal, uint8_t *bytes) {
     }
 }
 
+/* Bytes that a call is lent to read, and what they were before it. */
+struct lent {
+    uint8_t bytes[MOST], before[MOST];
+    size_t length;
+};
+
+/* Bytes that were written to `lent`, so many of them. */
+static inline void keep(struct lent *lent, size_t length) {
+    memcpy(lent->before, lent->bytes, length);
+    lent->length = length;
+}
+
+static inline struct lent lent_bytes(const char *hex) {
+    struct lent lent;
+    keep(&lent, bytes_of(hex, lent.bytes));
+    return lent;
+}
+
+static inline struct lent lent_words(const char *decimal) {
+    struct lent lent;
+    keep(&lent, words_of(decimal, lent.bytes));
+    return lent;
+}
+
+static inline int unchanged(const struct lent *lent) {
+    return memcmp(lent->bytes, lent->before, lent->length) == 0;
+}
+
 static inline int same_answer(rembulfose_answer one, rembulfose_answer other) {
     return one.number == other.number && one.place == other.place && one.first == other.first &&
            one.second == other.second;
@@ -92,6 +120,23 @@ static inline int holds(const uint8_t *memory, const uint8_t *bytes, size_t leng
     memset(expected, FILL, sizeof expected);
     memcpy(expected + MARGIN, bytes, length);
     return memcmp(memory, expected, sizeof expected) == 0;
+}
+
+/* A call that reads two runs of bytes and writes to a room. */
+typedef rembulfose_answer call_of_two(const uint8_t *, size_t, const uint8_t *, size_t, uint8_t *,
+                                      size_t);
+
+/* Makes a call; the room of so many bytes must then start with the words that are expected, and what
+ * it was lent must be as it was. */
+static inline void call_on(const char *name, call_of_two *call, struct lent one, struct lent other,
+                           size_t room, rembulfose_answer expected, const char *words) {
+    uint8_t bytes[MOST], memory[MARGIN + MOST + MARGIN];
+    size_t length = words_of(words, bytes);
+    memset(memory, FILL, sizeof memory);
+    rembulfose_answer answer =
+        call(one.bytes, one.length, other.bytes, other.length, memory + MARGIN, room);
+    count(name, same_answer(answer, expected) && holds(memory, bytes, length) && unchanged(&one) &&
+                    unchanged(&other));
 }
 
 static inline void *on_thread(void *cases) {

@@ -13,22 +13,11 @@
 enum { MOST_DESCRIPTOR = 65535 };
 enum { TUPLE = 4, ENUMERATION = 7, INPUT = 8 };
 
-/* Compiles a descriptor; the room of so many bytes must then start with `plan`, and descriptor and
- * root must be as they were. */
+/* Compiles a descriptor in a room of so many bytes. */
 static void compiling(const char *name, const char *descriptor, const char *root, size_t room,
                       rembulfose_answer expected, const char *plan) {
-    uint8_t bytes[MOST], bytes_again[MOST], id[64], id_again[64], words[MOST];
-    uint8_t memory[MARGIN + MOST + MARGIN];
-    size_t length = bytes_of(descriptor, bytes), id_length = bytes_of(root, id);
-    size_t words_length = words_of(plan, words);
-    memset(memory, FILL, sizeof memory);
-    rembulfose_answer answer =
-        rembulfose_compile(bytes, length, id, id_length, memory + MARGIN, room);
-    bytes_of(descriptor, bytes_again);
-    bytes_of(root, id_again);
-    count(name, same_answer(answer, expected) && holds(memory, words, words_length) &&
-                    memcmp(bytes, bytes_again, length) == 0 &&
-                    memcmp(id, id_again, id_length) == 0);
+    call_on(name, rembulfose_compile, lent_bytes(descriptor), lent_bytes(root), room, expected,
+            plan);
 }
 
 /* A good descriptor: with just enough room, with three bytes more, with a byte less and with none. */

@@ -24,21 +24,13 @@ static rembulfose_number no_number(uint32_t number, uint32_t place) {
 /* Makes both calls. */
 static void finding(const char *name, const char *plan, const char *value, const char *path,
                     rembulfose_answer expected, rembulfose_number expected_number) {
-    uint8_t plan_bytes[MOST], plan_again[MOST], bytes[MOST], bytes_again[MOST];
-    uint8_t path_bytes[MOST], path_again[MOST];
-    size_t plan_length = words_of(plan, plan_bytes), length = bytes_of(value, bytes);
-    size_t path_length = words_of(path, path_bytes);
-    rembulfose_answer answer =
-        rembulfose_find(plan_bytes, plan_length, bytes, length, path_bytes, path_length);
-    rembulfose_number number =
-        rembulfose_find_number(plan_bytes, plan_length, bytes, length, path_bytes, path_length);
-    words_of(plan, plan_again);
-    bytes_of(value, bytes_again);
-    words_of(path, path_again);
+    struct lent nodes = lent_words(plan), bytes = lent_bytes(value), steps = lent_words(path);
+    rembulfose_answer answer = rembulfose_find(nodes.bytes, nodes.length, bytes.bytes, bytes.length,
+                                               steps.bytes, steps.length);
+    rembulfose_number number = rembulfose_find_number(
+        nodes.bytes, nodes.length, bytes.bytes, bytes.length, steps.bytes, steps.length);
     count(name, same_answer(answer, expected) && same_number(number, expected_number) &&
-                    memcmp(plan_bytes, plan_again, plan_length) == 0 &&
-                    memcmp(bytes, bytes_again, length) == 0 &&
-                    memcmp(path_bytes, path_again, path_length) == 0);
+                    unchanged(&nodes) && unchanged(&bytes) && unchanged(&steps));
 }
 
 /* An element that has no number. */

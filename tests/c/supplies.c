@@ -14,20 +14,15 @@
  * be as they were. */
 static void writing(const char *name, const char *plan, const char *list, const char *source,
                     size_t room, rembulfose_answer expected, const char *value) {
-    uint8_t plan_bytes[MOST], plan_again[MOST], words[MOST], words_again[MOST], src[MOST],
-        src_again[MOST], bytes[MOST], memory[MARGIN + MOST + MARGIN];
-    size_t plan_length = words_of(plan, plan_bytes), words_length = words_of(list, words);
-    size_t src_length = bytes_of(source, src), length = bytes_of(value, bytes);
+    struct lent nodes = lent_words(plan), entries = lent_words(list), src = lent_bytes(source);
+    uint8_t bytes[MOST], memory[MARGIN + MOST + MARGIN];
+    size_t length = bytes_of(value, bytes);
     memset(memory, FILL, sizeof memory);
-    rembulfose_answer answer = rembulfose_write_value(plan_bytes, plan_length, words, words_length,
-                                                      src, src_length, memory + MARGIN, room);
-    words_of(plan, plan_again);
-    words_of(list, words_again);
-    bytes_of(source, src_again);
+    rembulfose_answer answer =
+        rembulfose_write_value(nodes.bytes, nodes.length, entries.bytes, entries.length, src.bytes,
+                               src.length, memory + MARGIN, room);
     count(name, same_answer(answer, expected) && holds(memory, bytes, length) &&
-                    memcmp(plan_bytes, plan_again, plan_length) == 0 &&
-                    memcmp(words, words_again, words_length) == 0 &&
-                    memcmp(src, src_again, src_length) == 0);
+                    unchanged(&nodes) && unchanged(&entries) && unchanged(&src));
 }
 
 /* A supply that a value has: with just enough room, with more, and with a byte less. */

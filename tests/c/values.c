@@ -10,22 +10,10 @@
 #define _DEFAULT_SOURCE
 #include "large.h"
 
-/* Runs a value; the room of so many bytes must then start with `list`, and plan and value must be
- * as they were. */
+/* Runs a value with room of so many bytes. */
 static void running(const char *name, const char *plan, const char *value, size_t room,
                     rembulfose_answer expected, const char *list) {
-    uint8_t plan_bytes[MOST], plan_again[MOST], bytes[MOST], bytes_again[MOST], words[MOST];
-    uint8_t memory[MARGIN + MOST + MARGIN];
-    size_t plan_length = words_of(plan, plan_bytes), length = bytes_of(value, bytes);
-    size_t words_length = words_of(list, words);
-    memset(memory, FILL, sizeof memory);
-    rembulfose_answer answer =
-        rembulfose_run(plan_bytes, plan_length, bytes, length, memory + MARGIN, room);
-    words_of(plan, plan_again);
-    bytes_of(value, bytes_again);
-    count(name, same_answer(answer, expected) && holds(memory, words, words_length) &&
-                    memcmp(plan_bytes, plan_again, plan_length) == 0 &&
-                    memcmp(bytes, bytes_again, length) == 0);
+    call_on(name, rembulfose_run, lent_words(plan), lent_bytes(value), room, expected, list);
 }
 
 /* A good value: with just enough room, with three bytes more, and with a byte less. */
