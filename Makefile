@@ -35,7 +35,7 @@ build/panel-captures: tests/panel/captures.c host/capture.c $(HEADERS) | compile
 	mkdir -p build
 	cc $(CFLAGS) tests/panel/captures.c host/capture.c -o $@
 
-build/panel-%: tests/panel/%.c $(BUILDER) $(HEADERS) $(LIBRARY) | compiler
+build/panel-%: tests/panel/%.c tests/hex.h $(BUILDER) $(HEADERS) $(LIBRARY) | compiler
 	mkdir -p build
 	cc $(CFLAGS) $< $(BUILDER) $(LIBRARY) -o $@
 

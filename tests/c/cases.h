@@ -4,6 +4,7 @@
 #define CASES_H
 
 #include "../../include/rembulfose.h"
+#include "../hex.h"
 
 #include <pthread.h>
 #include <stdio.h>
@@ -42,24 +43,6 @@ static inline void count(const char *name, int good) {
         failed++;
         printf("failed: %s\n", name);
     }
-}
-
-static inline int digit(char letter) {
-    return letter <= '9' ? letter - '0' : letter - 'a' + 10;
-}
-
-/* The bytes of a text in hex; how many is returned. */
-static inline size_t bytes_of(const char *hex, uint8_t *bytes) {
-    size_t length = 0;
-    while (*hex) {
-        if (*hex == ' ') {
-            hex++;
-        } else {
-            bytes[length++] = (uint8_t)(digit(hex[0]) << 4 | digit(hex[1]));
-            hex += 2;
-        }
-    }
-    return length;
 }
 
 static inline void put_word(uint8_t *at, uint32_t word) {

@@ -1,8 +1,8 @@
 /* Makes a capture on standard output whose rows have every scalar format: source document
  * 000's examples first, then values at the edges. The last element of a row is a set of arrays. */
 #include "../../demo/build.h"
-#include "../../host/bytes.h"
 #include "../../host/capture.h"
+#include "../hex.h"
 
 #include <stdlib.h>
 #include <string.h>
@@ -32,23 +32,6 @@ static const char *const rows[ROWS][FORMATS] = {
      "016e756c6c", "00010000400000000000", "fffffffffff85ee000000001fffffff3",
      "0000000000000000ffffffff00000001", "0000000000000400"},
 };
-
-static int digit(char letter) {
-    return letter <= '9' ? letter - '0' : letter - 'a' + 10;
-}
-
-/* The bytes of hex digits; spaces are for the eye. */
-static size_t bytes_of(const char *hex, uint8_t *bytes) {
-    size_t digits = 0;
-    for (; *hex != 0; hex++) {
-        if (*hex == ' ')
-            continue;
-        int high = digits % 2 == 0;
-        bytes[digits / 2] = (uint8_t)(high ? digit(*hex) << 4 : bytes[digits / 2] | digit(*hex));
-        digits++;
-    }
-    return digits / 2;
-}
 
 static void add_head(struct run *run, uint8_t tag, uint8_t id, const char *name) {
     add_8(run, tag);
