@@ -19,8 +19,7 @@ fn head_at(plan: &[u32], node: usize, kind: u32, part: &[u8], i: usize, at: usiz
     ensures { λ r. ⌜ r ≡ headAt (look (now (plan .entry)) node) (now (part .entry)) i at ⌝ }
 {
     if kind == 6 {
-        let n = plan::node::second_at(plan, node);
-        let index = heads::sparse::sparse_index(part, n, at);
+        let index = value::node::index_at(plan, node, part, at);
         let Index::Known(k) = index else {
             return Head::Fault(heads::parts::index_fault(index));
         };

@@ -64,16 +64,9 @@ fn down<'v>(
     let child = plan::node::ref_of(plan, node, index);
     let end = from + size;
     let place = base + from;
-    down(
-        plan,
-        child,
-        place,
-        &part[from..end],
-        &path[1..],
-        no,
-        to,
-        start,
-    )
+    let bytes = &part[from..end];
+    let rest = &path[1..];
+    down(plan, child, place, bytes, rest, no, to, start)
 }
 
 // The element that a path leads to, as a part of the value; its node and start, or number and place of a refusal, go out through the

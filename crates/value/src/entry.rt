@@ -1,8 +1,9 @@
 // The words of a list.
+use plan::words;
 ghost use mathlib.Core.Path.{_≡_};
 ghost use mathlib.Core.List.{_∷_, []};
 ghost use Prim.Native.Nat.{_^_, _<_, _≤_};
-ghost use lib.ListN.{length, set};
+ghost use lib.ListN.{length};
 ghost use lib.Seq.{sets};
 ghost use Rattle.rules.specs.Forest.{entryWords};
 ghost use Rattle.rules.specs.Values.{entryOf};
@@ -10,25 +11,16 @@ ghost use Rattle.rules.specs.Values.{entryOf};
 // How many words an entry has.
 pub const WORDS: usize = 5;
 
-// A word at a position, if the list has it.
-fn put_word(list: &mut [u32], at: usize, word: u32)
-    ensures { λ _. ⌜ now (list .exit) ≡ set (now (list .entry)) at word ⌝ }
-{
-    if at < list.len() {
-        list[at] = word;
-    }
-}
-
 // The words of an entry at the list's end, each if there is room for it.
 fn put_part(list: &mut [u32], at: usize, node: u32, index: u32, start: u32, size: u32, count: u32)
     requires { ⌜ at ≤ 131072 ⌝ }
     ensures { λ _. ⌜ now (list .exit) ≡ sets (now (list .entry)) at (entryWords (entryOf node index start size) count) ⌝ }
 {
-    put_word(list, at, node);
-    put_word(list, at + 1, index);
-    put_word(list, at + 2, start);
-    put_word(list, at + 3, size);
-    put_word(list, at + 4, count);
+    words::put_word(list, at, node);
+    words::put_word(list, at + 1, index);
+    words::put_word(list, at + 2, start);
+    words::put_word(list, at + 3, size);
+    words::put_word(list, at + 4, count);
 }
 
 // The words of an entry, as far as the list has room: mostly there is room for all, and one test says so.

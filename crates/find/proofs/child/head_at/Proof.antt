@@ -1,21 +1,14 @@
--- `find::child::head_at` meets its contract. Assumes nothing.
-use mathlib.Core.Path.{_≡_, refl, sym, _∙_, ap}
-use Prim.Native.Nat.{ℕ}
-use native.Mathlib.Omega.{arith}
-use Rattle.plan.proofs.Nodes.{at-few}
+-- `find::child::head_at` meets its contract: a sparse object's element by its index, another by its place. Assumes nothing.
+use mathlib.Core.Path.{refl, sym, _∙_}
 use Rattle.value.proofs.Members.{known-in}
 use Rattle.find.proofs.Seeks.{head-row, head-sparse-bad, head-sparse}
 use borrow.Author.Needs.{needs}
 use Rattle.find.proofs.child.head_at.Statement.{statement}
 use Rattle.find.proofs.child.head_at.Tie as tie
 
-second-at-requires : tie.Need-second-at-requires
-second-at-requires c κs =
-    (c .before .before .before .pre .0, λ e. let k = sym (c .before .before .before .pre .1 .is) ∙ c .if1 .taken in let z : _≡_ {A = ℕ} 8 6 = sym e ∙ k in absurd (omega arith))
-
-sparse-index-requires : tie.Need-sparse-index-requires
-sparse-index-requires c κs =
-    (c .before .before .before .before .pre .3, omega (arith, c .second-at .ensures, at-few _ _ (c .before .before .before .before .pre .0) (omega (arith, c .before .before .before .before .pre .1 .is, c .before .if1 .taken)) (omega (arith, c .before .before .before .before .pre .1 .is, c .before .if1 .taken))))
+index-at-requires : tie.Need-index-at-requires
+index-at-requires c κs =
+    (c .before .before .before .pre .0, sym (c .before .before .before .pre .1 .is) ∙ c .if1 .taken, c .before .before .before .pre .3)
 
 enum-known-index : tie.Need-enum-known-index
 enum-known-index c = search needs
@@ -28,15 +21,15 @@ index-fault-requires c κs = search needs
 
 returns : tie.Need-returns
 returns c =
-    head-sparse-bad _ _ (c .before .before .before .before .before .before .before .before .pre .0) _ (c .before .before .before .before .before .before .before .before .pre .1) _ _ _ (c .before .before .before .before .before .if1 .taken) _ (c .before .before .before .before .second-at .ensures) _ (c .before .before .before .sparse-index .ensures) _ _ (c .before .enum-told .given .1) (c .index-fault .ensures)
+    head-sparse-bad _ _ (c .before .before .before .before .before .before .before .pre .0) _ (c .before .before .before .before .before .before .before .pre .1) _ _ _ (c .before .before .before .before .if1 .taken) _ refl _ (c .before .before .before .index-at .ensures) _ _ (c .before .enum-told .given .1) (c .index-fault .ensures)
 
 sparse-head-requires : tie.Need-sparse-head-requires
 sparse-head-requires c κs =
-    let i = known-in _ _ (c .before .before .before .before .before .before .before .before .pre .0) (sym (c .before .before .before .before .before .before .before .before .pre .1 .is) ∙ c .before .before .before .before .before .if1 .taken) _ _ _ _ (c .before .before .before .before .second-at .ensures) _ (c .before .before .before .sparse-index .ensures) (c .before .index .given .1) (c .before .before .before .before .before .before .before .before .pre .3) in (c .before .before .before .before .before .before .before .before .pre .0, sym (c .before .before .before .before .before .before .before .before .pre .1 .is) ∙ c .before .before .before .before .before .if1 .taken, i .0, i .2)
+    let i = known-in _ _ (c .before .before .before .before .before .before .before .pre .0) (sym (c .before .before .before .before .before .before .before .pre .1 .is) ∙ c .before .before .before .before .if1 .taken) _ _ _ _ refl _ (c .before .before .before .index-at .ensures) (c .before .index .given .1) (c .before .before .before .before .before .before .before .pre .3) in (c .before .before .before .before .before .before .before .pre .0, sym (c .before .before .before .before .before .before .before .pre .1 .is) ∙ c .before .before .before .before .if1 .taken, i .0, i .2)
 
 returns-2 : tie.Need-returns-2
 returns-2 c =
-    head-sparse _ _ (c .before .before .before .before .before .before .before .before .before .pre .0) _ (c .before .before .before .before .before .before .before .before .before .pre .1) _ _ _ (c .before .before .before .before .before .before .if1 .taken) _ (c .before .before .before .before .before .second-at .ensures) _ (c .before .before .before .before .sparse-index .ensures) _ (c .before .before .index .given .1) _ (c .sparse-head .ensures)
+    head-sparse _ _ (c .before .before .before .before .before .before .before .before .pre .0) _ (c .before .before .before .before .before .before .before .before .pre .1) _ _ _ (c .before .before .before .before .before .if1 .taken) _ refl _ (c .before .before .before .before .index-at .ensures) _ (c .before .before .index .given .1) _ (c .sparse-head .ensures)
 
 row-head-requires : tie.Need-row-head-requires
 row-head-requires c κs =
@@ -50,8 +43,7 @@ pub head-at-spec : {M : Type 1} → statement M
 head-at-spec =
     tie.close
     (tie.spec
-    second-at-requires
-    sparse-index-requires
+    index-at-requires
     enum-known-index
     enum-told
     index-fault-requires

@@ -4,9 +4,6 @@ use lib.ListN.{length-set}
 use borrow.Author.Needs.{needs}
 use Rattle.value.proofs.entry.put_entry.Statement.{statement}
 use Rattle.value.proofs.entry.put_entry.Tie as tie
-use Rattle.value.proofs.entry.put_entry.Reads as reads
-use Rattle.value.proofs.entry.put_entry.Lts as lts
-use Rattle.value.proofs.entry.put_part.Reads as put-part-reads
 
 add-if1 : tie.Need-add-if1
 add-if1 c = search needs

@@ -2,12 +2,8 @@ use Rattle.value.proofs.Entries.{five}
 use mathlib.Core.Path.{_≡_, sym, _∙_}
 use native.Mathlib.Numerals.{towards-suc}
 use borrow.Author.Needs.{needs}
-use borrow.Author.Needs.{needs}
 use Rattle.value.proofs.entry.put_part.Statement.{statement}
 use Rattle.value.proofs.entry.put_part.Tie as tie
-use Rattle.value.proofs.entry.put_part.Reads as reads
-use Rattle.value.proofs.entry.put_part.Lts as lts
-use Rattle.value.proofs.entry.put_word.Reads as put-word-reads
 
 put-word-requires : tie.Need-put-word-requires
 put-word-requires c κs = search needs

@@ -6,9 +6,6 @@ use Rattle.value.specs.Leaves.{stands}
 use borrow.Author.Needs.{needs}
 use Rattle.value.proofs.leaves.element_stands.Statement.{statement}
 use Rattle.value.proofs.leaves.element_stands.Tie as tie
-use Rattle.value.proofs.leaves.element_stands.Reads as reads
-use Rattle.value.proofs.leaves.element_stands.Lts as lts
-use Rattle.wire.proofs.be.u32_at.Reads as u32-at-reads
 
 -- src/leaves.rt:35:9
 returns : tie.Need-returns

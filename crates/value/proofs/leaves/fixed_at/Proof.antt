@@ -5,11 +5,6 @@ use Rattle.value.proofs.Stretches.{none-fixed, some-fixed}
 use borrow.Author.Needs.{needs}
 use Rattle.value.proofs.leaves.fixed_at.Statement.{statement}
 use Rattle.value.proofs.leaves.fixed_at.Tie as tie
-use Rattle.value.proofs.leaves.fixed_at.Reads as reads
-use Rattle.value.proofs.leaves.fixed_at.Lts as lts
-use Rattle.plan.proofs.node.kind_at.Reads as kind-at-reads
-use Rattle.plan.proofs.node.second_at.Reads as second-at-reads
-use Rattle.scalars.proofs.format.fixed_size.Reads as fixed-size-reads
 
 -- src/leaves.rt:22:9
 kind-at-requires : tie.Need-kind-at-requires

@@ -4,8 +4,6 @@ use Rattle.value.specs.Leaves.{gapOf}
 use borrow.Author.Needs.{needs}
 use Rattle.value.proofs.leaves.gap_of.Statement.{statement}
 use Rattle.value.proofs.leaves.gap_of.Tie as tie
-use Rattle.value.proofs.leaves.gap_of.Reads as reads
-use Rattle.value.proofs.leaves.gap_of.Lts as lts
 
 returns : tie.Need-returns
 unfolding gapOf pick

@@ -2,10 +2,6 @@ use mathlib.Core.Path.{sym}
 use borrow.Author.Needs.{needs}
 use Rattle.value.proofs.leaves.is_good.Statement.{statement}
 use Rattle.value.proofs.leaves.is_good.Tie as tie
-use Rattle.value.proofs.leaves.is_good.Reads as reads
-use Rattle.value.proofs.leaves.is_good.Lts as lts
-use Rattle.value.proofs.leaves.fixed_at.Reads as fixed-at-reads
-use Rattle.value.proofs.node.leaf_ok.Reads as leaf-ok-reads
 
 -- src/leaves.rt:83:9
 fixed-at-requires : tie.Need-fixed-at-requires

@@ -4,15 +4,8 @@ use borrow.Author.Tests.{not-false}
 use Rattle.value.specs.Leaves.{GoodLeaf}
 use Rattle.value.proofs.Stretches.{plain-there, leaf-there}
 use borrow.Author.Needs.{needs}
-use borrow.Author.Needs.{needs}
 use Rattle.value.proofs.leaves.leaf_at.Statement.{statement}
 use Rattle.value.proofs.leaves.leaf_at.Tie as tie
-use Rattle.value.proofs.leaves.leaf_at.Reads as reads
-use Rattle.value.proofs.leaves.leaf_at.Lts as lts
-use Rattle.heads.proofs.element.plain_head.Reads as plain-head-reads
-use Rattle.plan.proofs.node.kind_at.Reads as kind-at-reads
-use Rattle.value.proofs.leaves.is_good.Reads as is-good-reads
-use Rattle.value.proofs.node.is_leaf.Reads as is-leaf-reads
 
 kind-at-requires : tie.Need-kind-at-requires
 kind-at-requires c κs = search needs

@@ -6,13 +6,6 @@ use Rattle.value.proofs.Stretches.{Going, going-start, going-end, going
 use borrow.Author.Needs.{needs}
 use Rattle.value.proofs.leaves.other_leaves.Statement.{statement}
 use Rattle.value.proofs.leaves.other_leaves.Tie as tie
-use Rattle.value.proofs.leaves.other_leaves.Reads as reads
-use Rattle.value.proofs.leaves.other_leaves.Lts as lts
-use Rattle.plan.proofs.node.kind_at.Reads as kind-at-reads
-use Rattle.plan.proofs.node.ref_of.Reads as ref-of-reads
-use Rattle.value.proofs.entry.put_entry.Reads as put-entry-reads
-use Rattle.value.proofs.leaves.gap_of.Reads as gap-of-reads
-use Rattle.value.proofs.leaves.leaf_at.Reads as leaf-at-reads
 
 abbrev Inv-loop : tie.InvT-loop
 Inv-loop plan node count first base from part list₀ at gap left₀ i₀ pos₀ to₀ list left i pos to = Going plan node base part count first from at list₀ left i pos to list

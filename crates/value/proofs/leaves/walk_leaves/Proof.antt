@@ -3,16 +3,8 @@ use mathlib.Core.Path.{_≡_, refl, sym, _∙_}
 use Rattle.plan.proofs.Nodes.{at-ref}
 use Rattle.value.proofs.Stretches.{going-start, going-end, row-refers}
 use borrow.Author.Needs.{needs}
-use borrow.Author.Needs.{needs}
 use Rattle.value.proofs.leaves.walk_leaves.Statement.{statement}
 use Rattle.value.proofs.leaves.walk_leaves.Tie as tie
-use Rattle.value.proofs.leaves.walk_leaves.Reads as reads
-use Rattle.value.proofs.leaves.walk_leaves.Lts as lts
-use Rattle.plan.proofs.node.kind_at.Reads as kind-at-reads
-use Rattle.plan.proofs.node.ref_of.Reads as ref-of-reads
-use Rattle.value.proofs.leaves.fixed_at.Reads as fixed-at-reads
-use Rattle.value.proofs.leaves.other_leaves.Reads as other-leaves-reads
-use Rattle.value.proofs.leaves.same_leaves.Reads as same-leaves-reads
 
 kind-at-requires : tie.Need-kind-at-requires
 kind-at-requires c κs = c .before .before .before .pre .0 .node

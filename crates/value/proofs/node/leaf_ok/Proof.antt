@@ -5,11 +5,6 @@ use Rattle.value.proofs.Nodes.{scalar-kind, good-enum, good-scalar}
 use borrow.Author.Needs.{needs}
 use Rattle.value.proofs.node.leaf_ok.Statement.{statement}
 use Rattle.value.proofs.node.leaf_ok.Tie as tie
-use Rattle.value.proofs.node.leaf_ok.Reads as reads
-use Rattle.value.proofs.node.leaf_ok.Lts as lts
-use Rattle.plan.proofs.node.second_at.Reads as second-at-reads
-use Rattle.scalars.proofs.enumeration_ok.Reads as enumeration-ok-reads
-use Rattle.scalars.proofs.scalar_ok.Reads as scalar-ok-reads
 
 enumeration-ok-requires : tie.Need-enumeration-ok-requires
 enumeration-ok-requires c κs = search needs

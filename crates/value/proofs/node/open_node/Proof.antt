@@ -3,13 +3,6 @@ use Rattle.value.proofs.Nodes.{open-sparse, open-range, open-set, open-
 use borrow.Author.Needs.{needs}
 use Rattle.value.proofs.node.open_node.Statement.{statement}
 use Rattle.value.proofs.node.open_node.Tie as tie
-use Rattle.value.proofs.node.open_node.Reads as reads
-use Rattle.value.proofs.node.open_node.Lts as lts
-use Rattle.heads.proofs.container.count_opening.Reads as count-opening-reads
-use Rattle.heads.proofs.container.range_opening.Reads as range-opening-reads
-use Rattle.heads.proofs.container.set_opening.Reads as set-opening-reads
-use Rattle.heads.proofs.container.sparse_opening.Reads as sparse-opening-reads
-use Rattle.plan.proofs.node.second_at.Reads as second-at-reads
 
 sparse-opening-requires : tie.Need-sparse-opening-requires
 sparse-opening-requires c κs = search needs

@@ -5,13 +5,6 @@ use Rattle.value.proofs.Nodes.{head-tuple, head-arrays, head-object, he
 use borrow.Author.Needs.{needs}
 use Rattle.value.proofs.node.row_head.Statement.{statement}
 use Rattle.value.proofs.node.row_head.Tie as tie
-use Rattle.value.proofs.node.row_head.Reads as reads
-use Rattle.value.proofs.node.row_head.Lts as lts
-use Rattle.heads.proofs.element.envelope_head.Reads as envelope-head-reads
-use Rattle.heads.proofs.element.object_head.Reads as object-head-reads
-use Rattle.heads.proofs.element.plain_head.Reads as plain-head-reads
-use Rattle.heads.proofs.element.required.Reads as required-reads
-use Rattle.plan.proofs.node.card_of.Reads as card-of-reads
 
 plain-head-requires : tie.Need-plain-head-requires
 plain-head-requires c κs = search needs

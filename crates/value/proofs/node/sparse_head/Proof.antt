@@ -2,11 +2,6 @@ use native.Mathlib.Omega.{arith}
 use borrow.Author.Needs.{needs}
 use Rattle.value.proofs.node.sparse_head.Statement.{statement}
 use Rattle.value.proofs.node.sparse_head.Tie as tie
-use Rattle.value.proofs.node.sparse_head.Reads as reads
-use Rattle.value.proofs.node.sparse_head.Lts as lts
-use Rattle.heads.proofs.element.required.Reads as required-reads
-use Rattle.heads.proofs.element.sparse_length.Reads as sparse-length-reads
-use Rattle.plan.proofs.node.card_of.Reads as card-of-reads
 
 card-of-requires : tie.Need-card-of-requires
 card-of-requires c κs =

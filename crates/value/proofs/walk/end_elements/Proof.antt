@@ -4,9 +4,6 @@ use Rattle.value.specs.Walk.{endStep}
 use borrow.Author.Needs.{needs}
 use Rattle.value.proofs.walk.end_elements.Statement.{statement}
 use Rattle.value.proofs.walk.end_elements.Tie as tie
-use Rattle.value.proofs.walk.end_elements.Reads as reads
-use Rattle.value.proofs.walk.end_elements.Lts as lts
-use Rattle.value.proofs.walk.refused.Reads as refused-reads
 
 refused-requires : tie.Need-refused-requires
 refused-requires c κs = search needs

@@ -5,9 +5,6 @@ use Rattle.value.proofs.Walks.{alone}
 use borrow.Author.Needs.{needs}
 use Rattle.value.proofs.walk.walk_absent.Statement.{statement}
 use Rattle.value.proofs.walk.walk_absent.Tie as tie
-use Rattle.value.proofs.walk.walk_absent.Reads as reads
-use Rattle.value.proofs.walk.walk_absent.Lts as lts
-use Rattle.value.proofs.entry.put_entry.Reads as put-entry-reads
 
 put-entry-requires : tie.Need-put-entry-requires
 put-entry-requires c κs = search needs

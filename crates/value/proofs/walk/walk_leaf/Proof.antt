@@ -5,11 +5,6 @@ use Rattle.value.proofs.Members.{leaf-good, leaf-bad, refused-within}
 use borrow.Author.Needs.{needs}
 use Rattle.value.proofs.walk.walk_leaf.Statement.{statement}
 use Rattle.value.proofs.walk.walk_leaf.Tie as tie
-use Rattle.value.proofs.walk.walk_leaf.Reads as reads
-use Rattle.value.proofs.walk.walk_leaf.Lts as lts
-use Rattle.value.proofs.entry.put_entry.Reads as put-entry-reads
-use Rattle.value.proofs.node.leaf_ok.Reads as leaf-ok-reads
-use Rattle.value.proofs.walk.refused.Reads as refused-reads
 
 leaf-ok-requires : tie.Need-leaf-ok-requires
 leaf-ok-requires c κs = search needs
