@@ -209,18 +209,19 @@ layout-most tag =
     (λ _. pick-case P (eqb tag 11) _ _ (λ _. lit≤ tt) (λ _. pick-case P (eqb tag 13) _ _ (λ _. lit≤ tt) (λ _. pick-case P (eqb tag 127) _ _ (λ _. lit≤ tt)
     (λ _. lit≤ tt))))))))))))
 
-module _ (d : List ℕ) (known : List Known) (tag at : ℕ) (cs is : List ℕ) (h : cs ≡ layout tag .head) (f : is ≡ layout tag .first) (a : List ℕ) (r : Roomy a 0) where
-  small : pushes cs + 512 * pushes is ≤ 512
+-- a block by the four lists of its layout
+module _ (d : List ℕ) (known : List Known) (tag at : ℕ) (l : Layout) (h : l ≡ layout tag) (a : List ℕ) (r : Roomy a 0) where
+  few : most l ≤ 512
+  few = rw h (layout-most tag)
+
+  pub block-room : Roomy a (0 + pushes (l .head) + 512 * pushes (l .first))
   unfolding most
-  small = rw (h, f) (omega (arith, layout-most tag))
+  block-room = record { room = r .room; few = omega (arith, few) }
 
-  pub block-room : Roomy a (0 + pushes cs + 512 * pushes is)
-  block-room = record { room = r .room; few = omega (arith, small) }
-
-  module _ (p : Part) (b : List ℕ) (e : walkOf p b ≡ led (section d known tag cs is (fresh at) (elementsOf a 0))) where
+  module _ (p : Part) (b : List ℕ) (e : walkOf p b ≡ led (section d known tag (l .head) (l .first) (fresh at) (elementsOf a 0))) where
     first-section : walkOf p b ≡ led (section d known tag (layout tag .head) (layout tag .first) (fresh at) [])
     unfolding tab
-    first-section = rw (h, f) at e
+    first-section = rw h at e
 
     pub block-halt : (m : ℕ) → p ≡ Fault m → walkOf p b ≡ led (blockFrom d known tag at)
     unfolding walkOf blockFrom
@@ -229,27 +230,25 @@ module _ (d : List ℕ) (known : List Known) (tag at : ℕ) (cs is : List ℕ) (
         (halts (section d known tag (layout tag .head) (layout tag .first) (fresh at) []) (section d known tag (layout tag .more) (layout tag .last)) m
         (ended p b (led (section d known tag (layout tag .head) (layout tag .first) (fresh at) [])) first-section m q))
 
-    module _ (y : Draft) (q : p ≡ Next y) (i : Inside (length d) (0 + pushes cs + 512 * pushes is) p) (cs′ is′ : List ℕ) (g : cs′ ≡ layout tag .more) (k : is′ ≡ layout tag .last) where
-      there : (y .at ≤ length d) × (y .left ≤ 512) × (y .count ≤ 0 + pushes cs + 512 * pushes is)
+    module _ (y : Draft) (q : p ≡ Next y) (i : Inside (length d) (0 + pushes (l .head) + 512 * pushes (l .first)) p) where
+      there : (y .at ≤ length d) × (y .left ≤ 512) × (y .count ≤ 0 + pushes (l .head) + 512 * pushes (l .first))
       unfolding Inside
-      there = is-inside p y (length d) (0 + pushes cs + 512 * pushes is) q i
+      there = is-inside p y (length d) (0 + pushes (l .head) + 512 * pushes (l .first)) q i
 
-      all : y .count + pushes cs′ + 512 * pushes is′ ≤ 512
+      all : y .count + pushes (l .more) + 512 * pushes (l .last) ≤ 512
       unfolding most
-      all = rw (g, k) (let t = rw (h, f) at (there .2) in omega (arith, layout-most tag, t))
+      all = omega (arith, few, there .2)
 
-      pub block-room-2 : length b ≡ length a → Roomy b (y .count + pushes cs′ + 512 * pushes is′)
-      block-room-2 s = record { room = omega (arith, r .room); few = all }
+      -- what the second section asks, and what it leaves
+      pub block-next : length b ≡ length a → Roomy b (y .count + pushes (l .more) + 512 * pushes (l .last)) × (y .at ≤ length d)
+      block-next s = (record { room = omega (arith, r .room); few = all }, there .0)
 
-      pub block-at : y .at ≤ length d
-      block-at = there .0
-
-      pub block-go : (r : Part) (c : List ℕ) → walkOf r c ≡ led (section d known tag cs′ is′ y (elementsOf b (y .count))) → walkOf r c ≡ led (blockFrom d known tag at)
+      pub block-done : (r : Part) (c : List ℕ) → walkOf r c ≡ led (section d known tag (l .more) (l .last) y (elementsOf b (y .count)))
+          → Inside (length d) (y .count + pushes (l .more) + 512 * pushes (l .last)) r → (walkOf r c ≡ led (blockFrom d known tag at)) × Inside (length d) 512 r
       unfolding blockFrom
-      block-go r c w =
-          rw (g, k) at w
-          ∙ sym (goes (section d known tag (layout tag .head) (layout tag .first) (fresh at) []) (section d known tag (layout tag .more) (layout tag .last)) y
-          (elementsOf b (y .count)) (went p b (led (section d known tag (layout tag .head) (layout tag .first) (fresh at) [])) first-section y q))
-
-      pub block-inside : (r : Part) → Inside (length d) (y .count + pushes cs′ + 512 * pushes is′) r → Inside (length d) 512 r
-      block-inside r = inside-more r (length d) (y .count + pushes cs′ + 512 * pushes is′) 512 all
+      block-done r c w j = (
+        rw h at w
+            ∙ sym (goes (section d known tag (layout tag .head) (layout tag .first) (fresh at) []) (section d known tag (layout tag .more) (layout tag .last)) y
+            (elementsOf b (y .count)) (went p b (led (section d known tag (layout tag .head) (layout tag .first) (fresh at) [])) first-section y q)),
+        inside-more r (length d) (y .count + pushes (l .more) + 512 * pushes (l .last)) 512 all j,
+      )

@@ -111,13 +111,14 @@ pub fn read(d: &[u8], known: &[u32], n: usize, tag: u32, at: usize, elements: &m
         name: 0,
         count: 0,
     };
-    let head = kinds::head_of(tag);
-    let first = kinds::first_of(tag);
+    let layout = kinds::layout_of(tag);
+    let head = layout.head;
+    let first = layout.first;
     let part = section(d, known, n, tag, &head, &first, x, elements);
     let Part::Next(y) = part else {
         return part;
     };
-    let more = kinds::more_of(tag);
-    let last = kinds::last_of(tag);
+    let more = layout.more;
+    let last = layout.last;
     section(d, known, n, tag, &more, &last, y, elements)
 }

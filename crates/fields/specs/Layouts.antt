@@ -5,6 +5,7 @@ use mathlib.Core.Bool.{Bool, true, false}
 use mathlib.Core.List.{List, [], _∷_}
 use lib.Dec.{leb, ltb, eqb}
 use Rattle.wire.specs.Choice.{pick}
+use Rattle.fields.specs.declared.kinds.BlockFields.{BlockFields}
 
 -- ---- the kinds of fields
 
@@ -145,3 +146,7 @@ objectType tag = pick (eqb tag 10) true (eqb tag 11)
 unfoldable pub upToEnd : List ℕ → List ℕ
 upToEnd [] = []
 upToEnd (c ∷ cs) = pick (eqb c 0) [] (c ∷ upToEnd cs)
+
+-- the layout that the code's four runs of numbers name
+abbrev pub spelled : BlockFields → Layout
+spelled b = record { head = upToEnd (b .head); first = upToEnd (b .first); more = upToEnd (b .more); last = upToEnd (b .last) }

@@ -1,7 +1,8 @@
 // The kinds of fields, and the fields of each block: see Layouts. Numbers that rise with their class, so that a class is one test.
 ghost use mathlib.Core.Path.{_≡_};
 ghost use mathlib.Core.Bool.{Bool};
-ghost use Rattle.fields.specs.Layouts.{layout, upToEnd, knownTag, valued, objectType};
+ghost use Rattle.fields.specs.Layouts as layouts;
+ghost use Rattle.fields.specs.Layouts.{layout, upToEnd, spelled, knownTag, valued, objectType};
 
 pub const END: u8 = 0;
 
@@ -54,61 +55,75 @@ pub const ARRAY: u32 = 6;
 
 pub const ANNOTATION: u32 = 127;
 
-// The first fields of a block.
-pub fn head_of(tag: u32) -> [u8; 6]
-    ensures { λ r. ⌜ upToEnd r ≡ layout tag .head ⌝ }
+// The kinds of a block's fields, each run of them up to the first END: the first fields, those of each item that they count, and the
+// same once more.
+pub struct BlockFields {
+    pub head: [u8; 6],
+    pub first: [u8; 6],
+    pub more: [u8; 6],
+    pub last: [u8; 6],
+}
+
+// No field.
+const NONE: [u8; 6] = [END, END, END, END, END, END];
+
+// A count, and no other field.
+const ONE_COUNT: [u8; 6] = [COUNT, END, END, END, END, END];
+
+// A block with a name and ancestors, and what comes after them.
+fn typed(more: [u8; 6], last: [u8; 6]) -> BlockFields
+    ensures { λ r. ⌜ spelled r ≡ layouts.typed (upToEnd more) (upToEnd last) ⌝ }
 {
-    match tag {
-        0 => [ID, SET_ELEMENT, END, END, END, END],
-        1 => [ID, FREE, OBJECT, COUNT, END, END],
-        8 => [ID, COUNT, END, END, END, END],
-        10 => [ID, TEXT, BOOL, END, END, END],
-        11 => [ID, TEXT, BOOL, OPERATION, COUNT, END],
-        13 => [ID, COUNT, END, END, END, END],
-        127 => [ANY, TEXT, TEXT, END, END, END],
-        _ => [ID, TEXT, BOOL, ANCESTORS, END, END],
+    BlockFields {
+        head: [ID, TEXT, BOOL, ANCESTORS, END, END],
+        first: [ANCESTOR, END, END, END, END, END],
+        more,
+        last,
     }
 }
 
-// The fields of each item that they count.
-pub fn first_of(tag: u32) -> [u8; 6]
-    ensures { λ r. ⌜ upToEnd r ≡ layout tag .first ⌝ }
+// Fields, and a run of items.
+fn simple(head: [u8; 6], first: [u8; 6]) -> BlockFields
+    ensures { λ r. ⌜ spelled r ≡ layouts.simple (upToEnd head) (upToEnd first) ⌝ }
 {
-    match tag {
-        0 => [END, END, END, END, END, END],
-        1 => [SHAPE_FLAGS, CARDINALITY, TEXT, ELEMENT, OBJECT, END],
-        8 => [INPUT_FLAGS, CARDINALITY, NAME, ELEMENT, END, END],
-        10 => [END, END, END, END, END, END],
-        11 => [OBJECT, END, END, END, END, END],
-        13 => [TEXT, ANY, END, END, END, END],
-        127 => [END, END, END, END, END, END],
-        _ => [ANCESTOR, END, END, END, END, END],
+    BlockFields {
+        head,
+        first,
+        more: NONE,
+        last: NONE,
     }
 }
 
-// The fields after those items.
-pub fn more_of(tag: u32) -> [u8; 6]
-    ensures { λ r. ⌜ upToEnd r ≡ layout tag .more ⌝ }
+// The fields of a block, by its tag: the table `layout` of Layouts, arm by arm.
+pub fn layout_of(tag: u32) -> BlockFields
+    ensures { λ r. ⌜ spelled r ≡ layout tag ⌝ }
 {
     match tag {
-        4 => [COUNT, END, END, END, END, END],
-        5 => [COUNT, END, END, END, END, END],
-        6 => [ARRAY_ELEMENT, DIMENSIONS, BOUND, END, END, END],
-        7 => [COUNT, END, END, END, END, END],
-        9 => [RANGE_ELEMENT, END, END, END, END, END],
-        _ => [END, END, END, END, END, END],
-    }
-}
-
-// The fields of each item that those count.
-pub fn last_of(tag: u32) -> [u8; 6]
-    ensures { λ r. ⌜ upToEnd r ≡ layout tag .last ⌝ }
-{
-    match tag {
-        4 => [ELEMENT, END, END, END, END, END],
-        5 => [NAME, ELEMENT, END, END, END, END],
-        7 => [TEXT, END, END, END, END, END],
-        _ => [END, END, END, END, END, END],
+        0 => simple([ID, SET_ELEMENT, END, END, END, END], NONE),
+        1 => simple(
+            [ID, FREE, OBJECT, COUNT, END, END],
+            [SHAPE_FLAGS, CARDINALITY, TEXT, ELEMENT, OBJECT, END],
+        ),
+        4 => typed(ONE_COUNT, [ELEMENT, END, END, END, END, END]),
+        5 => typed(ONE_COUNT, [NAME, ELEMENT, END, END, END, END]),
+        6 => typed([ARRAY_ELEMENT, DIMENSIONS, BOUND, END, END, END], NONE),
+        7 => typed(ONE_COUNT, [TEXT, END, END, END, END, END]),
+        8 => simple(
+            [ID, COUNT, END, END, END, END],
+            [INPUT_FLAGS, CARDINALITY, NAME, ELEMENT, END, END],
+        ),
+        9 => typed([RANGE_ELEMENT, END, END, END, END, END], NONE),
+        10 => simple([ID, TEXT, BOOL, END, END, END], NONE),
+        11 => simple(
+            [ID, TEXT, BOOL, OPERATION, COUNT, END],
+            [OBJECT, END, END, END, END, END],
+        ),
+        13 => simple(
+            [ID, COUNT, END, END, END, END],
+            [TEXT, ANY, END, END, END, END],
+        ),
+        127 => simple([ANY, TEXT, TEXT, END, END, END], NONE),
+        _ => typed(NONE, NONE),
     }
 }
 

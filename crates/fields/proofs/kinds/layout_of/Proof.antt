@@ -1,0 +1,40 @@
+-- `fields::kinds::layout_of` meets its contract: a tag that is matched computes; of the others no test holds. Assumes nothing.
+use mathlib.Core.Path.{_∙_}
+use Rattle.wire.specs.Choice.{pick}
+use borrow.Author.Needs.{needs}
+use Rattle.fields.specs.Layouts.{layout, upToEnd}
+use Rattle.fields.proofs.Rows.{matched, unmatched}
+use Rattle.fields.proofs.kinds.layout_of.Statement.{statement}
+use Rattle.fields.proofs.kinds.layout_of.Tie as tie
+
+pub layout-of-spec : {M : Type 1} → statement M
+unfolding layout upToEnd pick
+layout-of-spec =
+    tie.close
+    (tie.spec
+    (λ c κs. search needs)
+    (λ c κs. search needs)
+    (λ c κs. search needs)
+    (λ c κs. search needs)
+    (λ c κs. search needs)
+    (λ c κs. search needs)
+    (λ c κs. search needs)
+    (λ c κs. search needs)
+    (λ c κs. search needs)
+    (λ c κs. search needs)
+    (λ c κs. search needs)
+    (λ c κs. search needs)
+    (λ c κs. search needs)
+    (λ c. matched (c .before .match .keys1) (c .simple .ensures))
+    (λ c. matched (c .before .match .keys2) (c .simple2 .ensures))
+    (λ c. matched (c .before .match .keys3) (c .typed .ensures))
+    (λ c. matched (c .before .match .keys4) (c .typed2 .ensures))
+    (λ c. matched (c .before .match .keys5) (c .typed3 .ensures))
+    (λ c. matched (c .before .match .keys6) (c .typed4 .ensures))
+    (λ c. matched (c .before .match .keys7) (c .simple3 .ensures))
+    (λ c. matched (c .before .match .keys8) (c .typed5 .ensures))
+    (λ c. matched (c .before .match .keys9) (c .simple4 .ensures))
+    (λ c. matched (c .before .match .keys10) (c .simple5 .ensures))
+    (λ c. matched (c .before .match .keys11) (c .simple6 .ensures))
+    (λ c. matched (c .before .match .keys12) (c .simple7 .ensures))
+    (λ c. let n = c .before .match .rest in c .typed6 .ensures ∙ unmatched _ (n .0 .0 .0 .0 .0 .0 .0 .0 .0 .0 .0 .1) (n .0 .0 .0 .0 .0 .0 .0 .0 .0 .0 .1) (n .0 .0 .0 .0 .0 .0 .0 .0 .0 .1) (n .0 .0 .0 .0 .0 .0 .0 .0 .1) (n .0 .0 .0 .0 .0 .0 .0 .1) (n .0 .0 .0 .0 .0 .0 .1) (n .0 .0 .0 .0 .0 .1) (n .0 .0 .0 .0 .1) (n .0 .0 .0 .1) (n .0 .0 .1) (n .0 .1) (n .1)))
