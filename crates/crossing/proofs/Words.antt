@@ -5,16 +5,19 @@ use Prim.Native.Nat.{ℕ, suc, _+_, _*_, _-_, _/_, _%_, _<_, _≤_}
 use mathlib.Core.Bool.{Bool, true, false}
 use native.Mathlib.Omega.{arith}
 use native.Mathlib.Numerals.{add-one}
-use lib.Dec.{leb, eqb}
-use lib.ListN.{length, take, drop, getD, set, length-drop, length-append, drop-of-length-le}
+use lib.Dec.{leb, ltb, eqb}
+use lib.ListN.{length, take, drop, getD, set, length-take, length-drop, length-append, drop-of-length-le}
 use lib.Seq.{sets, sets-eq, length-sets, drop-cons, drop-drop, take-all, take-at, drop-at}
-use borrow.Author.Tests.{le-leb, lt-leb, leb-true, leb-false}
+use borrow.Author.Tests.{le-leb, lt-leb, leb-true, leb-false, lt-ltb, le-ltb, ltb-false}
 use borrow.Rule.Slice.PartMut.{putMid}
+use Rattle.wire.specs.Choice.{pick}
 use Rattle.wire.specs.Be.{be, bytesBe}
 use Rattle.wire.proofs.Numbers.{length-bytes}
 use Rattle.wire.proofs.Picks.{pick-case, both}
 use Rattle.wire.proofs.Stores.{sets-append}
 use Rattle.crossing.specs.Crossing.{wordsIn, bytesOut, crosses, wordRoom}
+use Rattle.crossing.specs.Answers.{refusal, success, WordsOut}
+use Rattle.crossing.specs.declared.Answer.{Answer}
 
 -- ---- words in
 
@@ -152,3 +155,37 @@ crosses-most n e = leb-true n 32768 (both (eqb (n % 4) 0) (leb n 32768) e .1)
 pub filled-words : (words words′ ws : List ℕ) (n : ℕ) → words′ ≡ sets words 0 ws → n ≡ length ws → n ≤ length words → take n words′ ≡ ws
 filled-words words words′ ws n e f h =
     ap (take n) (e ∙ sets-eq ws words 0 (omega arith)) ∙ take-at ws (drop (0 + length ws) words) n (sym f)
+
+-- ---- words that go out if there is room for them
+
+-- the bytes of words for which there is room, and what is past them
+pub words-put : (ws l : List ℕ) (n : ℕ) → n ≡ length ws → n ≤ wordRoom (length l) → sets l 0 (bytesOut ws) ≡ bytesOut ws ++ drop (4 * n) l
+words-put ws l n e h =
+    let b : 0 + length (bytesOut ws) ≤ length l = omega (arith, room-most (length l) .1, length-out ws) in
+    let d : 0 + length (bytesOut ws) ≡ 4 * n = omega (arith, length-out ws) in
+    sets-eq (bytesOut ws) l 0 b ∙ ap (λ (k : ℕ). bytesOut ws ++ drop k l) d
+
+module _ (no n : ℕ) (k l : List ℕ) where
+  pub out-full : wordRoom (length l) < n → WordsOut no n (take n k) (refusal no 0) l l
+  unfolding pick
+  out-full h = record { answer = rw (lt-ltb _ _ h); bytes = rw (lt-ltb _ _ h) }
+
+  pub out-put : n ≤ wordRoom (length l) → n ≤ length k → (l′ : List ℕ) → l′ ≡ sets l 0 (bytesOut (take n k)) → WordsOut no n (take n k) (success n 0) l l′
+  unfolding pick
+  out-put h f l′ x =
+      let e : n ≡ length (take n k) = simp length-take (omega arith) in
+      record { answer = rw (le-ltb _ _ h); bytes = rw (le-ltb _ _ h) (x ∙ words-put (take n k) l n e h) }
+
+-- What the words that were filled in settle by going out: the answer, and every byte, of an outcome that is `full` where there is no
+-- room for them, and else `put`.
+module _ {O : Type 0} (answer : O → Answer) (after : O → List ℕ) (full put : O) (no n : ℕ) (k k′ ws l : List ℕ) (r : Answer) (l′ : List ℕ) where
+  pub out-settled : refusal no 0 ≡ answer full → l ≡ after full → success (length ws) 0 ≡ answer put → bytesOut ws ++ drop (4 * length ws) l ≡ after put
+      → k′ ≡ sets k 0 ws → n ≡ length ws → (n ≤ wordRoom (length l) → n ≤ length k) → WordsOut no n (take n k′) r l l′
+      → (r ≡ answer (pick (ltb (wordRoom (length l)) (length ws)) full put)) × (l′ ≡ after (pick (ltb (wordRoom (length l)) (length ws)) full put))
+  unfolding pick
+  out-settled a b a′ b′ s e h g = rw (← e) (go (ltb (wordRoom (length l)) n) refl (g .answer) (g .bytes))
+    where
+      go : (t : Bool) → ltb (wordRoom (length l)) n ≡ t → r ≡ pick t (refusal no 0) (success n 0) → l′ ≡ pick t l (bytesOut (take n k′) ++ drop (4 * n) l)
+          → (r ≡ answer (pick t full put)) × (l′ ≡ after (pick t full put))
+      go true q x y = (x ∙ a, y ∙ b)
+      go false q x y = (rw e at x ∙ a′, rw (filled-words k k′ ws n s e (h (ltb-false _ _ q)), e) at y ∙ b′)

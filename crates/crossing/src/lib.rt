@@ -4,9 +4,9 @@ ghost use mathlib.Core.Bool.{Bool};
 ghost use mathlib.Core.List.{_++_};
 ghost use Prim.Native.Nat.{ℕ, _+_, _*_, _≤_};
 ghost use lib.Dec.{leb};
-ghost use lib.ListN.{length};
+ghost use lib.ListN.{length, take};
 ghost use lib.Seq.{sets};
-ghost use Rattle.crossing.specs.Answers.{refusal};
+ghost use Rattle.crossing.specs.Answers.{refusal, WordsOut};
 ghost use Rattle.crossing.specs.Crossing.{wordsIn, bytesOut, crosses, wordRoom};
 
 // What a call answers: a refusal's number and place, or two results.
@@ -97,5 +97,24 @@ pub fn put_words(words: &[u32], out: &mut [u8])
     while i < words.len() {
         wire::be::put_u32(out, 4 * i, words[i]);
         i += 1;
+    }
+}
+
+// The answer of a call whose result is the first `words` of scratch room: they go out as bytes if `out` has the room for them, else the
+// call is refused with the number `no`.
+pub fn put_answer(no: u32, scratch: &[u32], words: u32, out: &mut [u8]) -> Answer
+    requires { ⌜ (words ≤ wordRoom (length (now out)) → words ≤ length (now scratch)) ⌝ }
+    ensures { λ r. ⌜ WordsOut no words (take words (now (scratch .entry))) r (now (out .entry)) (now (out .exit)) ⌝ }
+{
+    let n = words as usize;
+    if word_room(out.len()) < n {
+        return refused(no, 0);
+    }
+    put_words(&scratch[..n], out);
+    Answer {
+        number: 0,
+        place: 0,
+        first: words,
+        second: 0,
     }
 }

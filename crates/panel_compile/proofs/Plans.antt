@@ -1,21 +1,19 @@
 -- The laws of compiling on bytes. Assumes nothing.
-use mathlib.Core.Path.{_≡_, refl, ap, sym, _∙_}
-use mathlib.Core.List.{List, _++_}
-use Prim.Native.Nat.{ℕ, _+_, _*_, _<_, _≤_}
+use mathlib.Core.Path.{_≡_, refl}
+use mathlib.Core.List.{List}
+use Prim.Native.Nat.{ℕ, _≤_}
 use native.Mathlib.Omega.{arith}
-use lib.ListN.{length, take, drop}
-use lib.Seq.{sets, sets-eq}
-use borrow.Author.Tests.{lt-ltb, le-ltb}
-use Rattle.wire.specs.Choice.{pick}
-use Rattle.descriptor.specs.Descriptor.{descriptionOf, planOf, roomed, compileOf}
+use lib.ListN.{length, take}
+use Rattle.descriptor.specs.Descriptor.{refusedPlan, plan, descriptionOf, planOf, roomed, compileOf}
 use Rattle.compile.specs.Compile.{Checks}
 use Rattle.compile.specs.declared.Answer as Compile
 use Rattle.compile.specs.declared.Answer.the-variants.{Refused, Words}
 use Rattle.compile.proofs.Compiles.{Found, found, turned-down}
-use Rattle.crossing.specs.Crossing.{bytesOut, wordRoom}
-use Rattle.crossing.specs.Answers.{refusal, success}
+use Rattle.crossing.specs.Crossing.{wordRoom}
+use Rattle.crossing.specs.Answers.{refusal, WordsOut}
+use Rattle.crossing.specs.declared.Answer.{Answer}
 use Rattle.panel_compile.specs.Compiles.{compileAnswer, compilePlan, Plans}
-use Rattle.crossing.proofs.Words.{length-out, room-most, filled-words}
+use Rattle.crossing.proofs.Words.{room-most, out-settled}
 
 module _ (d root : List ℕ) (a : Compile.Answer) (k k′ : List ℕ) (c : Checks (planOf (descriptionOf d root)) a k k′) (l : List ℕ) where
   pub plans-refused : (n q : ℕ) → a ≡ Refused n q → Plans (compileOf d root (wordRoom (length l))) (refusal n q) l l
@@ -26,31 +24,12 @@ module _ (d root : List ℕ) (a : Compile.Answer) (k k′ : List ℕ) (c : Check
     f : Found (planOf (descriptionOf d root)) w k k′
     f = found _ a k k′ c w e
 
-    pub plans-full : wordRoom (length l) < w → Plans (compileOf d root (wordRoom (length l))) (refusal 30 0) l l
-    unfolding compileOf roomed compileAnswer compilePlan pick
-    plans-full h =
-        let h′ : wordRoom (length l) < length (f .words) = omega (arith, f .count) in
-        record { answer = rw (f .is, lt-ltb _ _ h′); plan = rw (f .is, lt-ltb _ _ h′) }
+    -- a plan for which there is room is whole in the scratch room
+    pub scratch-holds : 8192 ≤ length k → w ≤ wordRoom (length l) → w ≤ length k
+    scratch-holds r h = omega (arith, room-most (length l) .0)
 
-    module _ (h : w ≤ wordRoom (length l)) where
-      -- the plan is whole in the scratch room, and there is room for its bytes
-      pub scratch-holds : 8192 ≤ length k → w ≤ length k
-      scratch-holds r = omega (arith, room-most (length l) .0)
-
-      pub bytes-fit : 4 * w ≤ length l
-      bytes-fit = omega (arith, room-most (length l) .1)
-
-      pub plans-written : w ≤ length k → (l′ : List ℕ) → l′ ≡ sets l 0 (bytesOut (take w k′)) → Plans (compileOf d root (wordRoom (length l))) (success w 0) l l′
-      unfolding compileOf roomed compileAnswer compilePlan pick
-      plans-written r l′ x =
-          let ws = f .words in
-          let h′ : length ws ≤ wordRoom (length l) = omega (arith, f .count) in
-          let t : take w k′ ≡ ws = filled-words k k′ ws w (f .stored) (f .count) r in
-          let b : 0 + length (bytesOut ws) ≤ length l = omega (arith, room-most (length l) .1, length-out ws) in
-          let d : 0 + length (bytesOut ws) ≡ 4 * length ws = omega (arith, length-out ws) in
-          record {
-            answer = rw (f .is, le-ltb _ _ h′) (ap (λ (n : ℕ). success n 0) (f .count));
-            plan =
-                rw (f .is, le-ltb _ _ h′)
-                (x ∙ ap (λ (v : List ℕ). sets l 0 (bytesOut v)) t ∙ sets-eq (bytesOut ws) l 0 b ∙ ap (λ (n : ℕ). bytesOut ws ++ drop n l) d);
-          }
+    pub plans-settled : 8192 ≤ length k → (r : Answer) (l′ : List ℕ) → WordsOut 30 w (take w k′) r l l′ → Plans (compileOf d root (wordRoom (length l))) r l l′
+    unfolding compileOf roomed compileAnswer compilePlan
+    plans-settled b r l′ g =
+        let x = out-settled compileAnswer (λ o. compilePlan o l) (refusedPlan 30 0) (plan (f .words)) 30 w k k′ (f .words) l r l′ refl refl refl refl (f .stored) (f .count) (scratch-holds b) g in
+        record { answer = rw (f .is) (x .0); plan = rw (f .is) (x .1) }

@@ -13,19 +13,7 @@ fn compile_by(descriptor: &[u8], root: &[u8], scratch: &mut [u32], plan: &mut [u
 {
     match compile::check(descriptor, root, scratch) {
         compile::Answer::Refused { no, place } => refused(no, place),
-        compile::Answer::Words { words } => {
-            let n = words as usize;
-            if crossing::word_room(plan.len()) < n {
-                return refused(30, 0);
-            }
-            crossing::put_words(&scratch[..n], plan);
-            Answer {
-                number: 0,
-                place: 0,
-                first: words,
-                second: 0,
-            }
-        }
+        compile::Answer::Words { words } => crossing::put_answer(30, scratch, words, plan),
     }
 }
 

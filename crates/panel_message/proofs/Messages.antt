@@ -1,11 +1,11 @@
 -- The laws of the two message calls on bytes. Assumes nothing.
 use mathlib.Core.Path.{_≡_, refl, ap, sym, _∙_}
 use mathlib.Core.Bool.{true, false}
-use mathlib.Core.List.{List, _++_}
-use Prim.Native.Nat.{ℕ, _+_, _*_, _<_, _≤_}
+use mathlib.Core.List.{List}
+use Prim.Native.Nat.{ℕ, _<_, _≤_}
 use native.Mathlib.Omega.{arith}
-use lib.ListN.{length, take, drop}
-use lib.Seq.{sets, sets-eq}
+use lib.ListN.{length, take}
+use lib.Seq.{sets}
 use borrow.Author.Tests.{lt-ltb, le-ltb}
 use Rattle.wire.specs.Choice.{pick}
 use Rattle.layout.specs.Layout.{Known, known, unknown, layoutOf}
@@ -22,7 +22,7 @@ use Rattle.message_read.specs.declared.Answer.the-variants.{Refused, Read}
 use Rattle.message_read.proofs.Ends.{Found, found, turned-down}
 use Rattle.message_write.specs.declared.Wrote.{Wrote}
 use Rattle.crossing.specs.declared.Answer.{Answer}
-use Rattle.crossing.proofs.Words.{length-out, room-most, filled-words}
+use Rattle.crossing.proofs.Words.{room-most, words-put, filled-words}
 
 -- ---- reading
 
@@ -64,12 +64,9 @@ module _ (side : ℕ) (src : List ℕ) (a : Read.Answer) (k k′ : List ℕ) (c 
         unfolding message roomed readAnswer listAfter wordsOf pick
         reads-listed l′ x =
             let h′ : length (f .words) ≤ wordRoom (length l) = omega (arith, f .count) in
-            let r : 0 + length (bytesOut (f .words)) ≤ length l = omega (arith, room-most (length l) .1, length-out (f .words)) in
-            let g : l′ ≡ sets l 0 (bytesOut (f .words)) = rw (f .is) at x in
-            let d : 0 + length (bytesOut (f .words)) ≡ 4 * length (f .words) = omega (arith, length-out (f .words)) in
             record {
               answer = rw (f .is, le-ltb _ _ h′) (ap (success u) (f .count));
-              list = rw (f .is, le-ltb _ _ h′) (g ∙ sets-eq (bytesOut (f .words)) l 0 r ∙ ap (λ (n : ℕ). bytesOut (f .words) ++ drop n l) d);
+              list = rw (f .is, le-ltb _ _ h′) (rw (f .is) at x ∙ words-put (f .words) l (length (f .words)) refl h′);
             }
 
 -- ---- writing

@@ -19,19 +19,7 @@ fn run_by(plan: &[u32], value: &[u8], scratch: &mut [u32], list: &mut [u8]) -> A
 {
     match run::check(plan, value, scratch) {
         run::Answer::Refused { no, place } => refused(no, place),
-        run::Answer::Listed { words } => {
-            let n = words as usize;
-            if crossing::word_room(list.len()) < n {
-                return refused(31, 0);
-            }
-            crossing::put_words(&scratch[..n], list);
-            Answer {
-                number: 0,
-                place: 0,
-                first: words,
-                second: 0,
-            }
-        }
+        run::Answer::Listed { words } => crossing::put_answer(31, scratch, words, list),
     }
 }
 
