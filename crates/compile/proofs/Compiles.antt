@@ -14,10 +14,9 @@ use borrow.Author.Tests.{lt-ltb, le-ltb, ltb-false, eq-eqb, ne-eqb}
 use Rattle.wire.specs.Choice.{pick}
 use Rattle.wire.proofs.Picks.{pick-yes, pick-no, pick-split}
 use Rattle.fields.specs.Layouts.{valued}
-use Rattle.fields.specs.Fields.{Known, noBlock, idAt}
+use Rattle.fields.specs.Fields.{Known, noBlock, idAt, indexIn}
 use Rattle.descriptor.specs.Descriptor.{nodeAt, Block, summary, summaries, allWords, Blocks, faulty, whole, blocksOf, indexOf, tagAt, Description, refusedBy, noType, described, rooted, descriptionOf, planWords, Compiled, refusedPlan, plan, planOf, roomed, compileOf}
 use Rattle.fields.specs.Arrays.{knownOf}
-use Rattle.nodes.specs.Nodes.{indexIn}
 use Rattle.scan.specs.Scan.{Kept, Scans}
 use Rattle.compile.specs.Compile.{answerOf, planAfter, Gives, Stored, Checks, refusalOf, hasNode}
 use Rattle.compile.specs.declared.Answer.{Answer}

@@ -52,7 +52,7 @@ fn check_blocks(
     let Scan::Done { n, to } = scan else {
         return refusal_of(scan);
     };
-    let i = nodes::find(d, known, n, root);
+    let i = id::find(d, known, n, root, 0);
     if has_node(d, known, n, i) {
         let first = nodes::node_at(d, known, n, i as u32);
         nodes::put_two(plan, 0, to as u32, first);

@@ -6,12 +6,12 @@ use mathlib.Core.List.{List, [], _∷_}
 use Prim.Native.Nat.{ℕ, zero, suc, _+_, _*_, _≤_, _<_}
 use native.Mathlib.Nat.{eq-or-lt-of-le, le-of-suc-le-suc}
 use native.Mathlib.Omega.{arith}
-use lib.Dec.{eqb, ltb}
+use lib.Dec.{ltb}
 use lib.ListN.{length, getD, take, drop}
 use borrow.Author.Tests.{lt-ltb, le-ltb}
 use Rattle.wire.specs.Be.{be}
 use Rattle.wire.proofs.Numbers.{be-none, be-more}
-use Rattle.fields.specs.Fields.{Known, Element, noBlock, idAt, taken, textAt, sameBytes, named}
+use Rattle.fields.specs.Fields.{Known, Element, noBlock, textAt, sameBytes, named}
 use Rattle.fields.specs.Arrays.{tab, knownAt, knownOf, elementAt, elementsOf}
 use Rattle.fields.proofs.Tabs.{tab-length, tab-get, any-hit, any-none}
 
@@ -19,15 +19,6 @@ use Rattle.fields.proofs.Tabs.{tab-length, tab-get, any-hit, any-none}
 pub one-more : (P : ℕ → Type 0) (i : ℕ) → ((j : ℕ) → j < i → P j) → P i → (j : ℕ) → j < i + 1 → P j
 one-more P i f p j h =
     ⊎-elim (λ (e : j ≡ i). rw e p) (λ (l : j < i). f j l) (eq-or-lt-of-le (let g : j ≤ i = omega arith in g))
-
-module _ (d a : List ℕ) (n v : ℕ) where
-  pub taken-hit : (i start : ℕ) → i < n → start ≡ getD a (3 * i) 0 → eqb (idAt d (start + 1)) v ≡ true → true ≡ taken d (knownOf d a n) v
-  unfolding taken knownAt
-  taken-hit i start h e t = sym (any-hit (λ (k : Known). eqb (idAt d (k .start + 1)) v) (knownAt d a) n i h (rw e at t))
-
-  pub taken-none : (i : ℕ) → n ≤ i → ((j : ℕ) → j < i → eqb (idAt d (getD a (3 * j) 0 + 1)) v ≡ false) → false ≡ taken d (knownOf d a n) v
-  unfolding taken knownAt
-  taken-none i l f = sym (any-none (λ (k : Known). eqb (idAt d (k .start + 1)) v) (knownAt d a) n (λ j h. f j (omega arith)))
 
 module _ (d a : List ℕ) (n : ℕ) where
   pub known-length : length (knownOf d a n) ≡ n

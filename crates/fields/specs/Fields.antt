@@ -65,6 +65,11 @@ any f (x ∷ xs) = pick (f x) true (any f xs)
 unfoldable pub taken : List ℕ → List Known → ℕ → Bool
 taken d known i = any (λ k. eqb (idAt d (k .start + 1)) i) known
 
+-- the index of the first earlier block with an id, or how many there are
+unfoldable pub indexIn : List ℕ → List Known → ℕ → ℕ
+indexIn d [] i = 0
+indexIn d (k ∷ ks) i = pick (eqb (idAt d (k .start + 1)) i) 0 (indexIn d ks i + 1)
+
 unfoldable pub idFault : List ℕ → List Known → ℕ → ℕ
 idFault d known i = pick (eqb i 0) 15 (pick (taken d known i) 15 0)
 

@@ -1,2 +1,3 @@
 pub mod Ids
 pub mod Texts
+pub mod Earlier

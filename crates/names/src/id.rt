@@ -5,7 +5,7 @@ ghost use mathlib.Core.Path.{_≡_};
 ghost use Prim.Native.Nat.{_+_, _≤_};
 ghost use lib.Dec.{eqb};
 ghost use lib.ListN.{length};
-ghost use Rattle.fields.specs.Fields.{idAt, formatOf, taken, idFault};
+ghost use Rattle.fields.specs.Fields.{idAt, formatOf, indexIn, idFault};
 ghost use Rattle.fields.specs.Arrays.{Told, knownOf};
 
 // Whether an id is zero.
@@ -63,20 +63,20 @@ pub fn format_of(s: &[u8], at: usize) -> u32
     NO_FORMAT
 }
 
-// Whether one of the n earlier blocks has the id at a place.
-fn is_taken(d: &[u8], known: &[u32], n: usize, at: usize) -> bool
-    requires { ⌜ (Told (now d) (now known) n) × (at + 16 ≤ length (now d)) ⌝ }
-    ensures { λ r. ⌜ r ≡ taken (now (d .entry)) (knownOf (now (d .entry)) (now (known .entry)) n) (idAt (now (d .entry)) at) ⌝ }
+// The index of the first of the n earlier blocks whose id is the one at a place of `s`, or n.
+pub fn find(d: &[u8], known: &[u32], n: usize, s: &[u8], at: usize) -> usize
+    requires { ⌜ (Told (now d) (now known) n) × (at + 16 ≤ length (now s)) ⌝ }
+    ensures { λ r. ⌜ r ≡ indexIn (now (d .entry)) (knownOf (now (d .entry)) (now (known .entry)) n) (idAt (now (s .entry)) at) ⌝ }
 {
     let mut i: usize = 0;
     while i < n {
         let start = wide(known[3 * i]);
-        if same(d, start + 1, d, at) {
-            return true;
+        if same(d, start + 1, s, at) {
+            return i;
         }
         i += 1;
     }
-    false
+    n
 }
 
 // 15: an id that is zero, or an earlier block's.
@@ -87,7 +87,7 @@ pub fn fault(d: &[u8], known: &[u32], n: usize, at: usize) -> u32
     if is_zero(d, at) {
         return 15;
     }
-    if is_taken(d, known, n, at) {
+    if find(d, known, n, d, at) < n {
         return 15;
     }
     0

@@ -6,7 +6,7 @@ use lib.Dec.{eqb}
 use lib.ListN.{length, getD}
 use lib.Seq.{sets}
 use Rattle.wire.specs.Choice.{pick}
-use Rattle.fields.specs.Fields.{Known, noBlock, Element, idAt}
+use Rattle.fields.specs.Fields.{Known, noBlock, Element}
 use Rattle.descriptor.specs.Descriptor.{refs, cards, pairs, nodeAt}
 
 -- words put out from a place on, as far as the list has room, and the place after them
@@ -27,8 +27,3 @@ unfoldable pub manyWords : List Known → ℕ → List Element → List ℕ
 manyWords known tag es =
     pick (eqb tag 1) (5 ∷ length es ∷ pairs (map (nodeAt known) (refs es)) (cards es))
     (pick (eqb tag 8) (6 ∷ length es ∷ pairs (map (nodeAt known) (refs es)) (cards es)) (4 ∷ length es ∷ map (nodeAt known) (refs es)))
-
--- the index of the block with an id, or how many there are
-unfoldable pub indexIn : List ℕ → List Known → ℕ → ℕ
-indexIn d [] i = 0
-indexIn d (k ∷ ks) i = pick (eqb (idAt d (k .start + 1)) i) 0 (indexIn d ks i + 1)

@@ -1,7 +1,6 @@
 // The words of a block's node in the plan, stored as far as the plan has room.
 use fields::Draft;
 use fields::kinds;
-use names::id;
 use plan::words::put_word;
 use plan::words::wide;
 ghost use mathlib.Core.Path.{_≡_};
@@ -9,10 +8,10 @@ ghost use mathlib.Core.List.{_∷_, [], map};
 ghost use Prim.Native.Nat.{_≤_};
 ghost use lib.ListN.{length, getD};
 ghost use lib.Seq.{sets};
-ghost use Rattle.fields.specs.Fields.{noBlock, idAt};
+ghost use Rattle.fields.specs.Fields.{noBlock};
 ghost use Rattle.descriptor.specs.Descriptor.{refs, cards, onlyRef, pairs, nodeAt, wordsOf};
 ghost use Rattle.fields.specs.Arrays.{Told, Roomy, knownOf, elementsOf};
-ghost use Rattle.nodes.specs.Nodes.{Puts, singleKind, singleWords, manyWords, indexIn};
+ghost use Rattle.nodes.specs.Nodes.{Puts, singleKind, singleWords, manyWords};
 
 // The word at which an earlier block's node starts; 0 of a block that is not there.
 pub fn node_at(d: &[u8], known: &[u32], n: usize, r: u32) -> u32
@@ -186,20 +185,4 @@ pub fn put_node(
         }
         _ => put_many(d, known, n, tag, elements, x.count, plan, to),
     }
-}
-
-// The index of the block with the id at the start of `root`, or n.
-pub fn find(d: &[u8], known: &[u32], n: usize, root: &[u8]) -> usize
-    requires { ⌜ (Told (now d) (now known) n) × (16 ≤ length (now root)) ⌝ }
-    ensures { λ r. ⌜ (r ≡ indexIn (now (d .entry)) (knownOf (now (d .entry)) (now (known .entry)) n) (idAt (now (root .entry)) 0)) × (r ≤ n) ⌝ }
-{
-    let mut i: usize = 0;
-    while i < n {
-        let start = wide(known[3 * i]);
-        if id::same(d, start + 1, root, 0) {
-            return i;
-        }
-        i += 1;
-    }
-    n
 }

@@ -2,6 +2,7 @@
 use mathlib.Core.Path.{sym, _∙_}
 use native.Mathlib.Omega.{arith}
 use Rattle.fields.specs.Fields.{idAt}
+use Rattle.names.proofs.Earlier.{found-most}
 use Rattle.compile.proofs.Compiles.{blocks-refused, ended, blocks-rootless, blocks-planned}
 use borrow.Author.Needs.{needs}
 use Rattle.compile.proofs.check_blocks.Statement.{statement}
@@ -43,7 +44,7 @@ has-node-requires c κs =
 
 cast-node-at : tie.Need-cast-node-at
 cast-node-at c =
-    let k = ended _ (idAt (c .before .before .before .before .before .before .before .before .before .before .before .before .before .before .before .before .before .before .before .before .before .before .before .before .args .root .now) 0) _ _ _ _ (c .before .before .before .before .before .before .before .before .before .before .before .before .before .before .before .read .ensures) _ _ (c .before .before .before .before .before .before .before .scan .given .1) .kept .told .few in omega (arith, c .before .before .before .before .find .ensures .1, k)
+    let k = ended _ (idAt (c .before .before .before .before .before .before .before .before .before .before .before .before .before .before .before .before .before .before .before .before .before .before .before .before .args .root .now) 0) _ _ _ _ (c .before .before .before .before .before .before .before .before .before .before .before .before .before .before .before .read .ensures) _ _ (c .before .before .before .before .before .before .before .scan .given .1) .kept .told .few in omega (arith, found-most _ _ _ _ _ (c .before .before .before .before .find .ensures), k)
 
 node-at-requires : tie.Need-node-at-requires
 node-at-requires c κs =
@@ -71,7 +72,7 @@ same-length-6 c = search needs
 
 returns-2 : tie.Need-returns-2
 returns-2 c =
-    blocks-planned _ (idAt (c .before .before .before .before .before .before .before .before .before .before .before .before .before .before .before .before .before .before .before .before .before .before .before .before .before .before .before .before .before .args .root .now) 0) _ _ _ _ (c .before .before .before .before .before .before .before .before .before .before .before .before .before .before .before .before .before .before .before .before .read .ensures) _ _ (c .before .before .before .before .before .before .before .before .before .before .before .before .scan .given .1) _ (c .before .before .before .before .before .before .before .before .before .find .ensures .0) (sym (c .before .before .before .before .before .before .before .has-node .ensures) ∙ c .before .before .before .before .before .before .if1 .taken) _ (c .before .before .before .before .node-at .ensures) _ (c .before .before .put-two .ensures)
+    blocks-planned _ (idAt (c .before .before .before .before .before .before .before .before .before .before .before .before .before .before .before .before .before .before .before .before .before .before .before .before .before .before .before .before .before .args .root .now) 0) _ _ _ _ (c .before .before .before .before .before .before .before .before .before .before .before .before .before .before .before .before .before .before .before .before .read .ensures) _ _ (c .before .before .before .before .before .before .before .before .before .before .before .before .scan .given .1) _ (c .before .before .before .before .before .before .before .before .before .find .ensures) (sym (c .before .before .before .before .before .before .before .has-node .ensures) ∙ c .before .before .before .before .before .before .if1 .taken) _ (c .before .before .before .before .node-at .ensures) _ (c .before .before .put-two .ensures)
 
 cast-t29 : tie.Need-cast-t29
 cast-t29 c =
@@ -88,7 +89,7 @@ same-length-9 c = search needs
 
 returns-3 : tie.Need-returns-3
 returns-3 c =
-    blocks-rootless _ (idAt (c .before .before .before .before .before .before .before .before .before .before .before .before .before .before .before .before .before .before .before .before .before .before .before .args .root .now) 0) _ _ _ _ (c .before .before .before .before .before .before .before .before .before .before .before .before .before .before .read .ensures) _ _ (c .before .before .before .before .before .before .scan .given .1) _ (c .before .before .before .find .ensures .0) (sym (c .before .has-node .ensures) ∙ c .if1 .left)
+    blocks-rootless _ (idAt (c .before .before .before .before .before .before .before .before .before .before .before .before .before .before .before .before .before .before .before .before .before .before .before .args .root .now) 0) _ _ _ _ (c .before .before .before .before .before .before .before .before .before .before .before .before .before .before .read .ensures) _ _ (c .before .before .before .before .before .before .scan .given .1) _ (c .before .before .before .find .ensures) (sym (c .before .has-node .ensures) ∙ c .if1 .left)
 
 pub check-blocks-spec : {M : Type 1} → statement M
 check-blocks-spec =

@@ -1,4 +1,4 @@
--- `nodes::find` meets its contract. Assumes nothing.
+-- `names::id::find` meets its contract. Assumes nothing.
 use mathlib.Core.Path.{_≡_, ap, sym, _∙_}
 use mathlib.Core.Bool.{false}
 use Prim.Native.Nat.{ℕ, _+_, _-_, _*_, _≤_, _<_}
@@ -7,17 +7,16 @@ use lib.Dec.{eqb}
 use lib.ListN.{getD}
 use Rattle.fields.specs.Fields.{idAt}
 use Rattle.fields.proofs.Known.{one-more}
-use Rattle.nodes.proofs.Roots.{found-at, found-none}
+use Rattle.names.proofs.Earlier.{found-at, found-none}
 use borrow.Author.Needs.{needs}
-use Rattle.nodes.proofs.find.Statement.{statement}
-use Rattle.nodes.proofs.find.Tie as tie
+use Rattle.names.proofs.id.find.Statement.{statement}
+use Rattle.names.proofs.id.find.Tie as tie
 
 abbrev Inv-loop : tie.InvT-loop
-Inv-loop d known n root i₀ i =
-    (i ≤ n) × ((j : ℕ) → j < i → eqb (idAt d (getD known (3 * j) 0 + 1)) (idAt root 0) ≡ false)
+Inv-loop d known n s at i₀ i = (i ≤ n) × ((j : ℕ) → j < i → eqb (idAt d (getD known (3 * j) 0 + 1)) (idAt s at) ≡ false)
 
 abbrev μ-loop : tie.MeasureT-loop
-μ-loop d known n root i₀ i = n - i
+μ-loop d known n s at i₀ i = n - i
 
 loop-holds : tie.Need-loop-holds Inv-loop μ-loop
 loop-holds c = (omega arith, λ j h. absurd (omega arith))
@@ -32,9 +31,6 @@ mul-wide-2 c =
 shared-slice-read-wide : tie.Need-shared-slice-read-wide Inv-loop μ-loop
 shared-slice-read-wide c = omega (arith, c .before .before .before .before .before .before .pre .0 .room)
 
-wide-requires : tie.Need-wide-requires Inv-loop μ-loop
-wide-requires c κs = search needs
-
 add-same : tie.Need-add-same Inv-loop μ-loop
 add-same c =
     omega (arith, c .before .before .before .before .before .before .before .pre .0 .inside _ (c .before .before .loop-test .taken), c .before .before .before .before .before .before .before .pre .0 .short, c .wide .ensures)
@@ -45,7 +41,7 @@ same-requires c κs =
 
 returns : tie.Need-returns Inv-loop μ-loop
 returns c =
-    (found-at _ _ _ _ _ (c .before .before .before .before .before .loop .inv .1) _ (c .before .before .before .before .loop-test .taken) (c .before .before .wide .ensures) (sym (c .before .same .ensures) ∙ c .if1 .taken), omega arith)
+    found-at _ _ _ _ _ (c .before .before .before .before .before .loop .inv .1) _ (c .before .before .before .before .loop-test .taken) (c .before .before .wide .ensures) (sym (c .before .same .ensures) ∙ c .if1 .taken)
 
 add-i : tie.Need-add-i Inv-loop μ-loop
 add-i c =
@@ -56,10 +52,10 @@ loop-less c = omega arith
 
 loop-again : tie.Need-loop-again Inv-loop μ-loop
 loop-again c =
-    (omega arith, one-more (λ (j : ℕ). eqb (idAt (c .before .before .before .before .before .before .before .before .before .args .d .now) (getD (c .before .before .before .before .before .before .before .before .before .args .known .now) (3 * j) 0 + 1)) (idAt (c .before .before .before .before .before .before .before .before .before .args .root .now) 0) ≡ false) _ (c .before .before .before .before .before .loop .inv .1) (ap (λ (k : ℕ). eqb (idAt (c .before .before .before .before .before .before .before .before .before .args .d .now) (k + 1)) (idAt (c .before .before .before .before .before .before .before .before .before .args .root .now) 0)) (sym (c .before .before .wide .ensures)) ∙ sym (c .before .same .ensures) ∙ c .if1 .left))
+    (omega arith, one-more (λ (j : ℕ). eqb (idAt (c .before .before .before .before .before .before .before .before .before .args .d .now) (getD (c .before .before .before .before .before .before .before .before .before .args .known .now) (3 * j) 0 + 1)) (idAt (c .before .before .before .before .before .before .before .before .before .args .s .now) (c .before .before .before .before .before .before .before .before .before .args .at)) ≡ false) _ (c .before .before .before .before .before .loop .inv .1) (ap (λ (k : ℕ). eqb (idAt (c .before .before .before .before .before .before .before .before .before .args .d .now) (k + 1)) (idAt (c .before .before .before .before .before .before .before .before .before .args .s .now) (c .before .before .before .before .before .before .before .before .before .args .at))) (sym (c .before .before .wide .ensures)) ∙ sym (c .before .same .ensures) ∙ c .if1 .left))
 
 returns-2 : tie.Need-returns-2 Inv-loop μ-loop
-returns-2 c = (found-none _ _ _ _ _ (c .before .loop .inv .1) (c .loop-test .left), omega arith)
+returns-2 c = found-none _ _ _ _ _ (c .before .loop .inv .1) (c .loop-test .left)
 
 pub find-spec : {M : Type 1} → statement M
 find-spec =
@@ -71,7 +67,7 @@ find-spec =
     mul-wide
     mul-wide-2
     shared-slice-read-wide
-    wide-requires
+    (λ c κs. search needs)
     add-same
     same-requires
     returns
