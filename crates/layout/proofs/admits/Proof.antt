@@ -2,7 +2,6 @@ use Rattle.layout.proofs.Rules.{values-at, values-none}
 use native.Mathlib.Omega.{arith}
 use mathlib.Core.Path.{_∙_}
 use borrow.Author.Needs.{needs}
-use borrow.Author.Needs.{needs}
 use Rattle.layout.proofs.admits.Statement.{statement}
 use Rattle.layout.proofs.admits.Tie as tie
 

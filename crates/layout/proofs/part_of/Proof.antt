@@ -4,7 +4,6 @@ use lib.ListN.{getD}
 use Rattle.layout.proofs.Rules.{part-sound}
 use Rattle.layout.specs.Tables.{firsts}
 use borrow.Author.Needs.{needs}
-use borrow.Author.Needs.{needs}
 use Rattle.layout.proofs.part_of.Statement.{statement}
 use Rattle.layout.proofs.part_of.Tie as tie
 

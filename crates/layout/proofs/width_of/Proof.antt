@@ -2,7 +2,6 @@ use mathlib.Core.Path.{ap, _∙_}
 use Rattle.layout.proofs.Rules.{width-sound}
 use Rattle.layout.specs.Tables.{widthOf, widths}
 use borrow.Author.Needs.{needs}
-use borrow.Author.Needs.{needs}
 use Rattle.layout.proofs.width_of.Statement.{statement}
 use Rattle.layout.proofs.width_of.Tie as tie
 

@@ -3,7 +3,6 @@ use Rattle.layout.specs.Judged.{judgedAll}
 use Rattle.message_read.specs.Scan.{Within}
 use Rattle.message_read.proofs.Ends.{body-refused, body-left, body-read}
 use borrow.Author.Needs.{needs}
-use borrow.Author.Needs.{needs}
 use Rattle.message_read.proofs.check_body.Statement.{statement}
 use Rattle.message_read.proofs.check_body.Tie as tie
 

@@ -4,7 +4,6 @@ use native.Mathlib.Omega.{arith}
 use lib.ListN.{length-take}
 use Rattle.message_read.proofs.Ends.{accepted, accepted-start, filled}
 use borrow.Author.Needs.{needs}
-use borrow.Author.Needs.{needs}
 use Rattle.message_read.proofs.fill.Statement.{statement}
 use Rattle.message_read.proofs.fill.Tie as tie
 

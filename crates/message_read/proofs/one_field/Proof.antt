@@ -4,7 +4,6 @@ use Rattle.message_read.specs.Reading.{outcome}
 use Rattle.message_read.specs.Scan.{outcomeOf, Inside, Within}
 use Rattle.message_read.proofs.Walks.{placed-put, placed-not}
 use borrow.Author.Needs.{needs}
-use borrow.Author.Needs.{needs}
 use Rattle.message_read.proofs.one_field.Statement.{statement}
 use Rattle.message_read.proofs.one_field.Tie as tie
 

@@ -3,24 +3,9 @@ use borrow.Author.Needs.{needs}
 use Rattle.message_read.proofs.read.Statement.{statement}
 use Rattle.message_read.proofs.read.Tie as tie
 
-slice-aggregate-check : tie.Need-slice-aggregate-check
-slice-aggregate-check c = search needs
-
-check-requires : tie.Need-check-requires
-check-requires c κs = search needs
-
-enum-known-answer : tie.Need-enum-known-answer
-enum-known-answer c = search needs
-
-enum-told : tie.Need-enum-told
-enum-told c = search needs
-
 returns : tie.Need-returns
 returns c =
     gives-refused _ _ _ _ _ (c .before .before .before .check .ensures) _ _ _ (c .enum-told .given .1)
-
-cast-if1 : tie.Need-cast-if1
-cast-if1 c = search needs
 
 returns-2 : tie.Need-returns-2
 returns-2 c =
@@ -30,9 +15,6 @@ fill-requires : tie.Need-fill-requires
 fill-requires c κs =
     accepts _ _ _ _ _ (c .before .before .before .before .before .before .check .ensures) _ _ (c .before .before .before .answer .given .1)
 
-same-length : tie.Need-same-length
-same-length c = search needs
-
 returns-3 : tie.Need-returns-3
 returns-3 c =
     gives-read _ _ _ _ _ (c .before .before .before .before .before .before .before .before .before .check .ensures) _ _ (c .before .before .before .before .before .before .answer .given .1) _ _ (c .before .before .before .before .if1 .left) (c .before .before .fill .ensures)
@@ -41,13 +23,13 @@ pub read-spec : {M : Type 1} → statement M
 read-spec =
     tie.close
     (tie.spec
-    slice-aggregate-check
-    check-requires
-    enum-known-answer
-    enum-told
+    (λ c. search needs)
+    (λ c κs. search needs)
+    (λ c. search needs)
+    (λ c. search needs)
     returns
-    cast-if1
+    (λ c. search needs)
     returns-2
     fill-requires
-    same-length
+    (λ c. search needs)
     returns-3)

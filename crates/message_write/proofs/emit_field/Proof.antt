@@ -6,7 +6,6 @@ use Rattle.message_write.specs.Emitting.{standOf, Bounded}
 use Rattle.message_write.proofs.Caps.{cap-most}
 use Rattle.message_write.proofs.Emits.{emit-none, emit-outside, emit-unfit, emit-done}
 use borrow.Author.Needs.{needs}
-use borrow.Author.Needs.{needs}
 use Rattle.message_write.proofs.emit_field.Statement.{statement}
 use Rattle.message_write.proofs.emit_field.Tie as tie
 

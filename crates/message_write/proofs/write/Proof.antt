@@ -6,7 +6,6 @@ use Rattle.layout.specs.Judged.{judgedAll}
 use Rattle.message_write.proofs.Puts.{led, exact, puts-unknown, puts-faulty, puts-left, puts-long, puts-full, puts-whole}
 use Rattle.message_write.proofs.Emits.{faulty-is, done-is}
 use borrow.Author.Needs.{needs}
-use borrow.Author.Needs.{needs}
 use Rattle.message_write.proofs.write.Statement.{statement}
 use Rattle.message_write.proofs.write.Tie as tie
 

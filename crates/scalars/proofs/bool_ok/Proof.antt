@@ -1,10 +1,7 @@
 use Rattle.scalars.proofs.Leaves.{boolean-length, boolean-is}
 use borrow.Author.Needs.{needs}
-use borrow.Author.Needs.{needs}
 use Rattle.scalars.proofs.bool_ok.Statement.{statement}
 use Rattle.scalars.proofs.bool_ok.Tie as tie
-use Rattle.scalars.proofs.bool_ok.Reads as reads
-use Rattle.scalars.proofs.bool_ok.Lts as lts
 
 returns : tie.Need-returns
 returns c = boolean-length _ (c .if1 .taken)

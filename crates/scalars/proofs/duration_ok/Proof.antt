@@ -1,11 +1,7 @@
 use Rattle.scalars.proofs.Leaves.{duration-length, duration-is}
 use borrow.Author.Needs.{needs}
-use borrow.Author.Needs.{needs}
 use Rattle.scalars.proofs.duration_ok.Statement.{statement}
 use Rattle.scalars.proofs.duration_ok.Tie as tie
-use Rattle.scalars.proofs.duration_ok.Reads as reads
-use Rattle.scalars.proofs.duration_ok.Lts as lts
-use Rattle.wire.proofs.be.uint_at.Reads as uint-at-reads
 
 returns : tie.Need-returns
 returns c = duration-length _ (c .if1 .taken)

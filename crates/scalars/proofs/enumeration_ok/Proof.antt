@@ -1,11 +1,7 @@
 use Rattle.scalars.specs.Scalars.{enumeration}
 use borrow.Author.Needs.{needs}
-use borrow.Author.Needs.{needs}
 use Rattle.scalars.proofs.enumeration_ok.Statement.{statement}
 use Rattle.scalars.proofs.enumeration_ok.Tie as tie
-use Rattle.scalars.proofs.enumeration_ok.Reads as reads
-use Rattle.scalars.proofs.enumeration_ok.Lts as lts
-use Rattle.wire.proofs.text.is_utf8.Reads as is-utf8-reads
 
 is-utf8-requires : tie.Need-is-utf8-requires
 is-utf8-requires c κs = search needs

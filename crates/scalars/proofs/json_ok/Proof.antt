@@ -1,12 +1,8 @@
 use mathlib.Core.Path.{_∙_}
 use Rattle.scalars.proofs.Leaves.{json-none, json-other, json-text}
 use borrow.Author.Needs.{needs}
-use borrow.Author.Needs.{needs}
 use Rattle.scalars.proofs.json_ok.Statement.{statement}
 use Rattle.scalars.proofs.json_ok.Tie as tie
-use Rattle.scalars.proofs.json_ok.Reads as reads
-use Rattle.scalars.proofs.json_ok.Lts as lts
-use Rattle.wire.proofs.text.is_utf8.Reads as is-utf8-reads
 
 returns : tie.Need-returns
 returns c = json-none _ (c .if1 .taken)

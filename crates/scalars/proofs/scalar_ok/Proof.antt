@@ -5,18 +5,8 @@ use Rattle.scalars.specs.Scalars.{sized, rules, scalar}
 use Rattle.scalars.specs.Sizes.{fixedSize, kindOf, kinds, sizeOf}
 use Rattle.scalars.proofs.Formats.{scalar-at, scalar-none}
 use borrow.Author.Needs.{needs}
-use borrow.Author.Needs.{needs}
 use Rattle.scalars.proofs.scalar_ok.Statement.{statement}
 use Rattle.scalars.proofs.scalar_ok.Tie as tie
-use Rattle.scalars.proofs.scalar_ok.Reads as reads
-use Rattle.scalars.proofs.scalar_ok.Lts as lts
-use Rattle.scalars.proofs.bool_ok.Reads as bool-ok-reads
-use Rattle.scalars.proofs.duration_ok.Reads as duration-ok-reads
-use Rattle.scalars.proofs.format.fixed_size.Reads as fixed-size-reads
-use Rattle.scalars.proofs.json_ok.Reads as json-ok-reads
-use Rattle.scalars.proofs.number.bigint_ok.Reads as bigint-ok-reads
-use Rattle.scalars.proofs.number.decimal_ok.Reads as decimal-ok-reads
-use Rattle.wire.proofs.text.is_utf8.Reads as is-utf8-reads
 
 fixed-size-requires : tie.Need-fixed-size-requires
 fixed-size-requires c κs = search needs

@@ -2,13 +2,8 @@ use Rattle.wire.specs.Choice.{pick}
 use Rattle.heads.specs.Heads.{envelopeHead, word, negative}
 use borrow.Author.Tests.{lt-ltb, le-ltb, eq-eqb, ne-eqb, le-leb, lt-leb}
 use borrow.Author.Needs.{needs}
-use borrow.Author.Needs.{needs}
 use Rattle.heads.proofs.element.envelope_head.Statement.{statement}
 use Rattle.heads.proofs.element.envelope_head.Tie as tie
-use Rattle.heads.proofs.element.envelope_head.Reads as reads
-use Rattle.heads.proofs.element.envelope_head.Lts as lts
-use Rattle.heads.proofs.element.data_at.Reads as data-at-reads
-use Rattle.wire.proofs.be.u32_at.Reads as u32-at-reads
 
 sub-if1 : tie.Need-sub-if1
 sub-if1 c = search needs

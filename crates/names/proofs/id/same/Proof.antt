@@ -3,13 +3,8 @@ use Prim.Native.Nat.{ℕ}
 use borrow.Author.Tests.{ne-eqb}
 use Rattle.names.proofs.Ids.{ids-end}
 use borrow.Author.Needs.{needs}
-use borrow.Author.Needs.{needs}
 use Rattle.names.proofs.id.same.Statement.{statement}
 use Rattle.names.proofs.id.same.Tie as tie
-use Rattle.names.proofs.id.same.Reads as reads
-use Rattle.names.proofs.id.same.Lts as lts
-use Rattle.names.proofs.id.same_whole.Reads as same-whole-reads
-use Rattle.wire.proofs.be.u32_at.Reads as u32-at-reads
 
 add-u32-at : tie.Need-add-u32-at
 add-u32-at c = search needs

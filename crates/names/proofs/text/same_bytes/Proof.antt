@@ -9,8 +9,6 @@ use Rattle.names.proofs.Texts.{unlike-lengths, same-next, same-end}
 use borrow.Author.Needs.{needs}
 use Rattle.names.proofs.text.same_bytes.Statement.{statement}
 use Rattle.names.proofs.text.same_bytes.Tie as tie
-use Rattle.names.proofs.text.same_bytes.Reads as reads
-use Rattle.names.proofs.text.same_bytes.Lts as lts
 
 abbrev Inv-loop : tie.InvT-loop
 Inv-loop a b same₀ i₀ same i =

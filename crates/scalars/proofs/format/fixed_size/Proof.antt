@@ -6,8 +6,6 @@ use Rattle.scalars.proofs.Formats.{size-is, size-none}
 use borrow.Author.Needs.{needs}
 use Rattle.scalars.proofs.format.fixed_size.Statement.{statement}
 use Rattle.scalars.proofs.format.fixed_size.Tie as tie
-use Rattle.scalars.proofs.format.fixed_size.Reads as reads
-use Rattle.scalars.proofs.format.fixed_size.Lts as lts
 
 returns : tie.Need-returns
 unfolding fixedSize kindOf kinds sizeOf pick

@@ -4,14 +4,8 @@ use borrow.Author.Tests.{not-true, not-false}
 use Rattle.scalars.specs.Scalars.{half}
 use Rattle.scalars.proofs.Decimals.{decimal-long, bigint-not, bigint-reserved, bigint-whole}
 use borrow.Author.Needs.{needs}
-use borrow.Author.Needs.{needs}
 use Rattle.scalars.proofs.number.bigint_ok.Statement.{statement}
 use Rattle.scalars.proofs.number.bigint_ok.Tie as tie
-use Rattle.scalars.proofs.number.bigint_ok.Reads as reads
-use Rattle.scalars.proofs.number.bigint_ok.Lts as lts
-use Rattle.scalars.proofs.number.decimal_ok.Reads as decimal-ok-reads
-use Rattle.scalars.proofs.number.whole_ok.Reads as whole-ok-reads
-use Rattle.wire.proofs.be.u16_at.Reads as u16-at-reads
 
 decimal-ok-requires : tie.Need-decimal-ok-requires
 decimal-ok-requires c κs = search needs

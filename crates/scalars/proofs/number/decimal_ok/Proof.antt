@@ -3,14 +3,8 @@ use borrow.Author.Tests.{not-true, not-false}
 use Rattle.scalars.specs.Scalars.{half, sign}
 use Rattle.scalars.proofs.Decimals.{decimal-short, decimal-length, decimal-sign, decimal-digits}
 use borrow.Author.Needs.{needs}
-use borrow.Author.Needs.{needs}
 use Rattle.scalars.proofs.number.decimal_ok.Statement.{statement}
 use Rattle.scalars.proofs.number.decimal_ok.Tie as tie
-use Rattle.scalars.proofs.number.decimal_ok.Reads as reads
-use Rattle.scalars.proofs.number.decimal_ok.Lts as lts
-use Rattle.scalars.proofs.number.digits_ok.Reads as digits-ok-reads
-use Rattle.scalars.proofs.number.sign_ok.Reads as sign-ok-reads
-use Rattle.wire.proofs.be.u16_at.Reads as u16-at-reads
 
 returns : tie.Need-returns
 returns c = decimal-short _ (c .if1 .taken)

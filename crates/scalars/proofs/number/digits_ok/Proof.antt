@@ -7,9 +7,6 @@ use Rattle.scalars.proofs.Decimals.{digit-large, digit-next, digits-end
 use borrow.Author.Needs.{needs}
 use Rattle.scalars.proofs.number.digits_ok.Statement.{statement}
 use Rattle.scalars.proofs.number.digits_ok.Tie as tie
-use Rattle.scalars.proofs.number.digits_ok.Reads as reads
-use Rattle.scalars.proofs.number.digits_ok.Lts as lts
-use Rattle.wire.proofs.be.u16_at.Reads as u16-at-reads
 
 abbrev Inv-loop : tie.InvT-loop
 Inv-loop s i₀ i = (i ≤ length s) × (digits s ≡ digits (drop i s))

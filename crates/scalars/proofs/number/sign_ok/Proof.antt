@@ -2,8 +2,6 @@ use Rattle.scalars.proofs.Decimals.{sign-plus, sign-other}
 use borrow.Author.Needs.{needs}
 use Rattle.scalars.proofs.number.sign_ok.Statement.{statement}
 use Rattle.scalars.proofs.number.sign_ok.Tie as tie
-use Rattle.scalars.proofs.number.sign_ok.Reads as reads
-use Rattle.scalars.proofs.number.sign_ok.Lts as lts
 
 returns : tie.Need-returns
 returns c = sign-plus _ (c .if1 .taken)

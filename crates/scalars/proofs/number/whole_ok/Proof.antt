@@ -1,10 +1,7 @@
 use Rattle.scalars.proofs.Decimals.{whole-none, whole-negative, whole-some}
 use borrow.Author.Needs.{needs}
-use borrow.Author.Needs.{needs}
 use Rattle.scalars.proofs.number.whole_ok.Statement.{statement}
 use Rattle.scalars.proofs.number.whole_ok.Tie as tie
-use Rattle.scalars.proofs.number.whole_ok.Reads as reads
-use Rattle.scalars.proofs.number.whole_ok.Lts as lts
 
 returns : tie.Need-returns
 returns c = whole-none _ _ (c .if1 .taken)

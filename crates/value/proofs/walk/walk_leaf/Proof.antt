@@ -6,28 +6,10 @@ use borrow.Author.Needs.{needs}
 use Rattle.value.proofs.walk.walk_leaf.Statement.{statement}
 use Rattle.value.proofs.walk.walk_leaf.Tie as tie
 
-leaf-ok-requires : tie.Need-leaf-ok-requires
-leaf-ok-requires c κs = search needs
-
-put-entry-requires : tie.Need-put-entry-requires
-put-entry-requires c κs = search needs
-
-add-t13 : tie.Need-add-t13
-add-t13 c = search needs
-
-cast-t14 : tie.Need-cast-t14
-cast-t14 c = search needs
-
-same-length : tie.Need-same-length
-same-length c = search needs
-
 returns : tie.Need-returns
 unfolding walkOf Within
 returns c =
     (leaf-good _ _ (c .before .before .before .before .before .before .before .before .before .pre .0) (rw (c .before .before .before .before .before .before .before .before .before .pre .1) at (c .before .before .before .before .before .before .before .before .before .pre .2)) _ _ _ _ _ _ (c .before .before .before .before .before .leaf-ok .ensures) (c .before .before .before .before .if1 .taken) _ (c .before .before .put-entry .ensures), omega (arith, c .before .before .before .before .before .before .before .before .before .pre))
-
-refused-requires : tie.Need-refused-requires
-refused-requires c κs = search needs
 
 returns-2 : tie.Need-returns-2
 unfolding walkOf
@@ -38,11 +20,11 @@ pub walk-leaf-spec : {M : Type 1} → statement M
 walk-leaf-spec =
     tie.close
     (tie.spec
-    leaf-ok-requires
-    put-entry-requires
-    add-t13
-    cast-t14
-    same-length
+    (λ c κs. search needs)
+    (λ c κs. search needs)
+    (λ c. search needs)
+    (λ c. search needs)
+    (λ c. search needs)
     returns
-    refused-requires
+    (λ c κs. search needs)
     returns-2)
