@@ -46,6 +46,14 @@ unlike-lengths [] (y ∷ ys) n = refl
 unlike-lengths (x ∷ xs) [] n = refl
 unlike-lengths (x ∷ xs) (y ∷ ys) n = rw (unlike-lengths xs ys (λ e. n (ap suc e))) (pick-same (eqb x y) false)
 
+-- a byte in which they differ
+pub unlike-byte : (a b : List ℕ) (i : ℕ) → i < length a → (getD a i 0 ≡ getD b i 0 → ⊥) → sameBytes a b ≡ false
+unfolding sameBytes pick
+unlike-byte [] b i h n = absurd (omega arith)
+unlike-byte (x ∷ xs) [] i h n = refl
+unlike-byte (x ∷ xs) (y ∷ ys) zero h n = rw (ne-eqb x y n)
+unlike-byte (x ∷ xs) (y ∷ ys) (suc i) h n = rw (unlike-byte xs ys i (omega arith) n) (pick-same (eqb x y) false)
+
 module _ (a b : List ℕ) (i : ℕ) (h : i < length a) (g : i < length b) where
   step : sameBytes (drop i a) (drop i b) ≡ pick (eqb (getD a i 0) (getD b i 0)) (sameBytes (drop (i + 1) a) (drop (i + 1) b)) false
   unfolding sameBytes

@@ -40,6 +40,23 @@ fn same_bytes(a: &[u8], b: &[u8]) -> bool
     same
 }
 
+// The same of names. The last byte tells most of them apart, as in `batch1` and `batch2`; a name is compared with every earlier one of its
+// block, so most are compared by that alone.
+fn same_name(a: &[u8], b: &[u8]) -> bool
+    ensures { λ r. ⌜ r ≡ sameBytes (now (a .entry)) (now (b .entry)) ⌝ }
+{
+    let n = a.len();
+    if n != b.len() {
+        return false;
+    }
+    if 0 < n {
+        if a[n - 1] != b[n - 1] {
+            return false;
+        }
+    }
+    same_bytes(a, b)
+}
+
 // Whether one of the n elements so far has the name at a place.
 fn is_named(d: &[u8], elements: &[u32], n: usize, at: usize) -> bool
     requires { ⌜ (length (now d) ≤ 65535) × (at ≤ length (now d)) × (n ≤ 512) × (3 * n ≤ length (now elements)) ⌝ }
@@ -49,7 +66,7 @@ fn is_named(d: &[u8], elements: &[u32], n: usize, at: usize) -> bool
     let mut i: usize = 0;
     while i < n {
         let other = content(d, wide(elements[3 * i]));
-        if same_bytes(other, name) {
+        if same_name(other, name) {
             return true;
         }
         i += 1;

@@ -41,12 +41,12 @@ content-requires-2 : tie.Need-content-requires-2 Inv-loop μ-loop
 content-requires-2 c κs =
     (c .before .before .before .before .before .before .before .pre .0, omega (arith, c .wide .ensures, c .before .shared-slice-known3 .given (3 * c .before .before .before .loop .i) .fits))
 
-same-bytes-requires : tie.Need-same-bytes-requires Inv-loop μ-loop
-same-bytes-requires c κs = search needs
+same-name-requires : tie.Need-same-name-requires Inv-loop μ-loop
+same-name-requires c κs = search needs
 
 returns : tie.Need-returns Inv-loop μ-loop
 returns c =
-    named-hit _ _ _ _ _ _ (c .before .before .before .before .before .loop-test .taken) (c .before .before .before .wide .ensures) (ap₂ sameBytes (sym (c .before .before .content2 .ensures)) (sym (c .before .before .before .before .before .before .before .content .ensures)) ∙ sym (c .before .same-bytes .ensures) ∙ c .if1 .taken)
+    named-hit _ _ _ _ _ _ (c .before .before .before .before .before .loop-test .taken) (c .before .before .before .wide .ensures) (ap₂ sameBytes (sym (c .before .before .content2 .ensures)) (sym (c .before .before .before .before .before .before .before .content .ensures)) ∙ sym (c .before .same-name .ensures) ∙ c .if1 .taken)
 
 add-i : tie.Need-add-i Inv-loop μ-loop
 add-i c = search needs
@@ -56,7 +56,7 @@ loop-less c = search needs
 
 loop-again : tie.Need-loop-again Inv-loop μ-loop
 loop-again c =
-    (omega arith, one-more (λ (j : ℕ). sameBytes (textAt (c .before .before .before .before .before .before .before .before .before .before .args .d .now) (getD (c .before .before .before .before .before .before .before .before .before .before .args .elements .now) (3 * j) 0)) (textAt (c .before .before .before .before .before .before .before .before .before .before .args .d .now) (c .before .before .before .before .before .before .before .before .before .before .args .at)) ≡ false) _ (c .before .before .before .before .before .before .loop .inv .1) (ap (λ (k : ℕ). sameBytes (textAt (c .before .before .before .before .before .before .before .before .before .before .args .d .now) k) (textAt (c .before .before .before .before .before .before .before .before .before .before .args .d .now) (c .before .before .before .before .before .before .before .before .before .before .args .at))) (sym (c .before .before .before .wide .ensures)) ∙ ap₂ sameBytes (sym (c .before .before .content2 .ensures)) (sym (c .before .before .before .before .before .before .before .content .ensures)) ∙ sym (c .before .same-bytes .ensures) ∙ c .if1 .left))
+    (omega arith, one-more (λ (j : ℕ). sameBytes (textAt (c .before .before .before .before .before .before .before .before .before .before .args .d .now) (getD (c .before .before .before .before .before .before .before .before .before .before .args .elements .now) (3 * j) 0)) (textAt (c .before .before .before .before .before .before .before .before .before .before .args .d .now) (c .before .before .before .before .before .before .before .before .before .before .args .at)) ≡ false) _ (c .before .before .before .before .before .before .loop .inv .1) (ap (λ (k : ℕ). sameBytes (textAt (c .before .before .before .before .before .before .before .before .before .before .args .d .now) k) (textAt (c .before .before .before .before .before .before .before .before .before .before .args .d .now) (c .before .before .before .before .before .before .before .before .before .before .args .at))) (sym (c .before .before .before .wide .ensures)) ∙ ap₂ sameBytes (sym (c .before .before .content2 .ensures)) (sym (c .before .before .before .before .before .before .before .content .ensures)) ∙ sym (c .before .same-name .ensures) ∙ c .if1 .left))
 
 returns-2 : tie.Need-returns-2 Inv-loop μ-loop
 returns-2 c = named-none _ _ _ _ _ (c .loop-test .left) (c .before .loop .inv .1)
@@ -74,7 +74,7 @@ is-named-spec =
     shared-slice-read-wide
     wide-requires
     content-requires-2
-    same-bytes-requires
+    same-name-requires
     returns
     add-i
     loop-less
