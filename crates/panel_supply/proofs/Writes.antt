@@ -9,9 +9,9 @@ use lib.Seq.{sets}
 use Rattle.wire.specs.Choice.{pick}
 use Rattle.plan.specs.Plan.{planFormed}
 use Rattle.supply.specs.Write.{Put, refusedPut, putOut, writeOf}
-use Rattle.supply.specs.Answers.{answerOf, outputAfter, Puts}
-use Rattle.supply.specs.declared.Answer as Supply
-use Rattle.supply.specs.declared.Answer.the-variants.{Refused, Written}
+use Rattle.value_write.specs.Answers.{answerOf, outputAfter, Puts}
+use Rattle.value_write.specs.declared.Answer as Supply
+use Rattle.value_write.specs.declared.Answer.the-variants.{Refused, Written}
 use Rattle.crossing.specs.Crossing.{wordsIn, crosses}
 use Rattle.crossing.specs.Answers.{refusal, success}
 use Rattle.panel_supply.specs.Supplies.{supplyAnswer, uncrossedSupply, writeFrom, Settles, WritesValue, BothCross}

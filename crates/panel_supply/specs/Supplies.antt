@@ -7,7 +7,7 @@ use lib.ListN.{length}
 use Rattle.wire.specs.Choice.{pick}
 use Rattle.plan.specs.Plan.{planFormed}
 use Rattle.supply.specs.Write.{Put, refusedPut, putOut, writeOf}
-use Rattle.supply.specs.Answers.{outputAfter}
+use Rattle.value_write.specs.Answers.{outputAfter}
 use Rattle.crossing.specs.Crossing.{wordsIn, crosses}
 use Rattle.crossing.specs.Answers.{refusal, success}
 use Rattle.crossing.specs.declared.Answer.{Answer}

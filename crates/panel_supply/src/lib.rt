@@ -14,9 +14,9 @@ fn write_words(words: &[u32], n: usize, end: usize, src: &[u8], out: &mut [u8]) 
     requires { ⌜ (n ≤ end) × (end ≤ length (now words)) ⌝ }
     ensures { λ r. ⌜ Settles (writeOf (take n (now (words .entry))) (take (end - n) (drop n (now (words .entry)))) (now (src .entry)) (length (now (out .entry)))) r (now (out .entry)) (now (out .exit)) ⌝ }
 {
-    match supply::write(&words[..n], &words[n..end], src, out) {
-        supply::Answer::Refused { no } => refused(no, 0),
-        supply::Answer::Written { bytes } => Answer {
+    match value_write::write(&words[..n], &words[n..end], src, out) {
+        value_write::Answer::Refused { no } => refused(no, 0),
+        value_write::Answer::Written { bytes } => Answer {
             number: 0,
             place: 0,
             first: bytes,

@@ -43,7 +43,7 @@ fn check_value(plan: &[u32], needs: &[u32], value: &[u8], scratch: &mut [u32]) -
         }
         return Answer::Refused { no: 21, place: 0 };
     }
-    match value::walk::walk_value(plan, needs, root, 0, 0, value, scratch, 0) {
+    match walk::walk_value(plan, needs, root, 0, 0, value, scratch, 0) {
         Step::Refused { no, place } => Answer::Refused { no, place },
         Step::Reached { at } => Answer::Listed { words: at },
     }

@@ -15,7 +15,7 @@ use Rattle.heads.specs.Heads.{requires}
 use Rattle.plan.specs.Plan.{look, cardsAt, At}
 use Rattle.plan.proofs.Looks.{cards-length}
 use Rattle.plan.proofs.Nodes.{at-few}
-use Rattle.value.specs.Leaves.{Counted}
+use Rattle.value.specs.Counted.{Counted}
 use Rattle.value.proofs.Counted.{counted-next}
 use Rattle.supply.specs.Supply.{Claim, Next, short, next, nextOf}
 use Rattle.supply.specs.Build.{Made, wrong, made, andThen, Builder, Order, sparseOrder, partMade, memberMade, stateAfter, elementsMade, buildOf}

@@ -10,4 +10,3 @@ pub mod Parts
 pub mod Elements
 pub mod Values
 pub mod Leaves
-pub mod Writes

@@ -10,7 +10,7 @@ use lib.Seq.{sets}
 use Rattle.wire.specs.Choice.{pick}
 use Rattle.wire.specs.Be.{bytesBe}
 use Rattle.plan.specs.Plan.{look, cardsAt}
-use Rattle.value.specs.Leaves.{Counted}
+use Rattle.value.specs.Counted.{Counted}
 use Rattle.supply.specs.Supply.{zeros, Claim, Next, short, next}
 use Rattle.supply.specs.Build as Spec
 use Rattle.supply.specs.declared.Entry.{Entry}

@@ -2,4 +2,3 @@ pub mod Supply
 pub mod Build
 pub mod Write
 pub mod Emitting
-pub mod Answers

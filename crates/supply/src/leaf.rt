@@ -151,5 +151,5 @@ pub fn put_given(
         at = to;
         left -= 1;
     }
-    value::leaves::gathered(seen, given, left, word, at)
+    value::gather(seen, given, left, word, at)
 }

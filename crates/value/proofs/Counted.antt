@@ -15,7 +15,7 @@ use Rattle.plan.specs.Plan.{cardsAt, At}
 use Rattle.plan.specs.Memo.{neededAt}
 use Rattle.plan.proofs.Looks.{cards-length}
 use Rattle.plan.proofs.Nodes.{at-few}
-use Rattle.value.specs.Leaves.{Counted}
+use Rattle.value.specs.Counted.{Counted}
 
 -- one more where it is required
 pub one-yes : (n : ℕ) (r : Bool) → r ≡ true → n + 1 ≡ n + pick r 1 0

@@ -3,4 +3,3 @@ pub mod Walks
 pub mod Nodes
 pub mod Members
 pub mod Counted
-pub mod Stretches

@@ -77,8 +77,8 @@ loop-again : tie.Need-loop-again Inv-loop μ-loop
 loop-again c =
     let k = known-is _ _ _ _ (c .before .before .before .before .before .before .before .before .before .before .before .before .known-entry .ensures) (c .before .before .before .before .before .before .before .before .before .before .entry .given .1) in let e = entry-at (c .before .before .before .before .before .before .before .before .before .before .before .before .before .before .before .before .before .before .before .before .before .args .list .now) (c .before .before .before .before .before .before .before .before .before .before .before .before .before .before .loop .word) _ (k .0) _ (c .before .before .before .before .before .before .before .before .before .before .entry .given .1) in (c .before .before .before .before .put-leaf .kept .1 .1 .1 .1 .1 .0 ∙ c .before .before .before .before .before .before .before .before .before .before .before .before .before .before .loop .inv .0, gathers-next _ _ _ _ _ _ _ _ _ _ _ _ _ _ (c .before .before .before .before .before .before .before .before .before .before .before .before .before .before .loop .inv .1) (c .before .before .before .before .before .before .before .before .before .before .before .before .before .loop-test .taken) (c .before .before .before .before .before .before .before .before .before .before .before .before .before .before .before .before .before .before .before .before .before .pre .0) (c .before .before .before .before .before .before .before .before .before .before .before .before .before .before .before .before .before .before .before .before .before .pre .1) _ _ e (omega (arith, k .1, c .before .before .before .before .before .before .before .before .before .before .before .before .before .before .before .before .second-at .ensures)) (c .before .before .before .before .before .before .if1 .left) _ _ _ (c .before .before .before .before .put-leaf .ensures .1 (omega (arith, c .before .if2 .left)) _ _ e) _ refl _ (c .count-given .ensures) _ refl)
 
-gathered-requires : tie.Need-gathered-requires Inv-loop μ-loop
-gathered-requires c κs = search needs
+gather-requires : tie.Need-gather-requires Inv-loop μ-loop
+gather-requires c κs = search needs
 
 same-length : tie.Need-same-length Inv-loop μ-loop
 same-length c =
@@ -86,7 +86,7 @@ same-length c =
 
 returns : tie.Need-returns Inv-loop μ-loop
 returns c =
-    let e = c .gathered .ensures in let o : c .before .loop-test .out ≡ c .before .before .loop .out = ⊎-elim (λ w. w .1) (⊎-elim (λ w. w .4) (⊎-elim (λ w. w .8) (λ w. w .13 ∙ w .9 .ensures .0 (w .12 .taken)))) (c .before .loop-test .came) in rw (o, e .0, e .1, e .2, e .3, e .4) (c .before .before .loop .inv .1)
+    let e = c .gather .ensures in let o : c .before .loop-test .out ≡ c .before .before .loop .out = ⊎-elim (λ w. w .1) (⊎-elim (λ w. w .4) (⊎-elim (λ w. w .8) (λ w. w .13 ∙ w .9 .ensures .0 (w .12 .taken)))) (c .before .loop-test .came) in rw (o, e .0, e .1, e .2, e .3, e .4) (c .before .before .loop .inv .1)
 
 pub put-given-spec : {M : Type 1} → statement M
 put-given-spec =
@@ -109,6 +109,6 @@ put-given-spec =
     sub-left
     loop-less
     loop-again
-    gathered-requires
+    gather-requires
     same-length
     returns)

@@ -1,0 +1,104 @@
+use native.Mathlib.Omega.{arith}
+use mathlib.Core.Path.{_≡_, refl, sym, _∙_}
+use Prim.Native.Nat.{_+_}
+use borrow.Author.Tests.{not-false}
+use Rattle.plan.proofs.Nodes.{at-ref}
+use Rattle.leaves.proofs.Stretches.{Going, going-start, going-end, going-same, standing, row-refers}
+use borrow.Author.Needs.{needs}
+use Rattle.leaves.proofs.same_leaves.Statement.{statement}
+use Rattle.leaves.proofs.same_leaves.Tie as tie
+
+abbrev Inv-loop : tie.InvT-loop
+Inv-loop plan node count first base from part list₀ at child size left₀ i₀ pos₀ to₀ list left i pos to = Going plan node base part count first from at list₀ left i pos to list
+
+abbrev μ-loop : tie.MeasureT-loop
+μ-loop plan node count first base from part list₀ at child size left₀ i₀ pos₀ to₀ list left i pos to = left
+
+ref-of-requires : tie.Need-ref-of-requires Inv-loop μ-loop
+ref-of-requires c κs = (c .before .before .before .pre .0, row-refers _ _ (c .before .before .before .pre .1) _)
+
+fixed-at-requires : tie.Need-fixed-at-requires Inv-loop μ-loop
+fixed-at-requires c κs = at-ref _ _ _ _ (c .before .before .before .before .pre .0) (c .ref-of .ensures) .0
+
+loop-holds : tie.Need-loop-holds Inv-loop μ-loop
+loop-holds c =
+    going-start _ _ _ _ _ _ _ _ _ (c .before .before .before .before .before .pre .4) (c .before .before .before .before .before .pre .5)
+
+element-stands-requires : tie.Need-element-stands-requires Inv-loop μ-loop
+element-stands-requires c κs = (c .before .loop .inv .2, c .before .before .fixed-at .ensures .small)
+
+same-length : tie.Need-same-length Inv-loop μ-loop
+same-length c = c .before .before .before .loop .inv .4
+
+returns : tie.Need-returns Inv-loop μ-loop
+returns c = going-end _ _ _ _ _ _ _ _ _ _ _ _ _ _ (c .before .before .before .loop .inv)
+
+add-start : tie.Need-add-start Inv-loop μ-loop
+add-start c =
+    let x = standing _ _ _ (sym (c .before .element-stands .ensures) ∙ not-false _ (c .if1 .left)) in
+    omega (arith, x .fits)
+
+add-put-entry : tie.Need-add-put-entry Inv-loop μ-loop
+add-put-entry c =
+    let x = standing _ _ _ (sym (c .before .before .element-stands .ensures) ∙ not-false _ (c .before .if1 .left)) in
+    omega (arith, x .fits, c .before .before .before .before .before .before .before .before .before .before .pre .3)
+
+put-entry-requires : tie.Need-put-entry-requires Inv-loop μ-loop
+put-entry-requires c κs =
+    let x = standing _ _ _ (sym (c .before .before .element-stands .ensures) ∙ not-false _ (c .before .if1 .left)) in
+    let r = at-ref _ _ _ _ (c .before .before .before .before .before .before .before .before .before .before .pre .0) (c .before .before .before .before .before .before .ref-of .ensures) .0 in
+    (omega (arith, c .before .before .before .before .loop .inv .2, c .before .before .before .before .loop .inv .3, c .before .before .before .before .before .before .before .before .before .before .pre .3), r .small, omega (arith, c .before .before .before .before .loop .inv .0, c .before .before .before .loop-test .taken, c .before .before .before .before .before .before .before .before .before .before .pre .2), omega (arith, x .fits, c .before .before .before .before .before .before .before .before .before .before .pre .3), omega (arith, c .before .before .before .before .before .fixed-at .ensures .small), omega arith)
+
+add-to : tie.Need-add-to Inv-loop μ-loop
+add-to c =
+    omega (arith, c .before .before .before .before .before .before .before .loop .inv .2, c .before .before .before .before .before .before .before .loop .inv .3, c .before .before .before .before .before .before .before .before .before .before .before .before .before .pre .3)
+
+add-pos : tie.Need-add-pos Inv-loop μ-loop
+add-pos c =
+    let x = standing _ _ _ (sym (c .before .before .before .before .before .element-stands .ensures) ∙ not-false _ (c .before .before .before .before .if1 .left)) in
+    omega (arith, x .fits, c .before .before .before .before .before .before .before .before .before .before .before .before .before .pre .3)
+
+add-i : tie.Need-add-i Inv-loop μ-loop
+add-i c =
+    omega (arith, c .before .before .before .before .before .before .before .loop .inv .0, c .before .before .before .before .before .before .loop-test .taken, c .before .before .before .before .before .before .before .before .before .before .before .before .before .pre .2)
+
+sub-left : tie.Need-sub-left Inv-loop μ-loop
+sub-left c = search needs
+
+loop-less : tie.Need-loop-less Inv-loop μ-loop
+loop-less c = omega arith
+
+loop-again : tie.Need-loop-again Inv-loop μ-loop
+loop-again c =
+    let x = standing _ _ _ (sym (c .before .before .before .before .before .element-stands .ensures) ∙ not-false _ (c .before .before .before .before .if1 .left)) in
+    going-same _ _ _ _ _ _ _ _ _ _ _ _ _ _ (c .before .before .before .before .before .before .before .loop .inv) (c .before .before .before .before .before .before .loop-test .taken) (c .before .before .before .before .before .before .before .before .before .before .before .before .before .pre .1) (c .before .before .before .before .before .before .before .before .before .before .before .before .before .pre .0) _ _ _ (c .before .before .before .before .before .before .before .before .fixed-at .ensures) (c .before .before .before .before .before .before .before .before .before .ref-of .ensures) x _ (c .before .before .put-entry .ensures) (c .before .before .put-entry .kept .0)
+
+same-length-2 : tie.Need-same-length-2 Inv-loop μ-loop
+same-length-2 c = c .before .loop .inv .4
+
+returns-2 : tie.Need-returns-2 Inv-loop μ-loop
+returns-2 c = going-end _ _ _ _ _ _ _ _ _ _ _ _ _ _ (c .before .loop .inv)
+
+pub same-leaves-spec : {M : Type 1} → statement M
+same-leaves-spec =
+    tie.close
+    (tie.spec
+    Inv-loop
+    μ-loop
+    ref-of-requires
+    fixed-at-requires
+    loop-holds
+    element-stands-requires
+    same-length
+    returns
+    add-start
+    add-put-entry
+    put-entry-requires
+    add-to
+    add-pos
+    add-i
+    sub-left
+    loop-less
+    loop-again
+    same-length-2
+    returns-2)
