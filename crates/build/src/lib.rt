@@ -158,24 +158,24 @@ fn build_row(
 {
     let kind = plan::node::kind_at(plan, node);
     let end = first + count;
-    let mut p = leaf::put_leaves(plan, node, kind, src, list, first, end, word, out, at);
-    while p.index < end {
-        let i = p.index;
-        let Read::Whole(entry) = list::next_entry(list, p.word) else {
+    let mut row = leaf::put_leaves(plan, node, kind, src, list, first, end, word, out, at);
+    while row.index < end {
+        let i = row.index;
+        let Read::Whole(entry) = list::next_entry(list, row.word) else {
             return Built::Failed;
         };
         if entry.index as usize != i {
             return Built::Failed;
         }
-        let built = build_member(plan, needs, node, src, list, entry, p.word, out, p.at);
+        let built = build_member(plan, needs, node, src, list, entry, row.word, out, row.at);
         let Built::Done { word: w, at: a } = built else {
             return Built::Failed;
         };
-        p = leaf::put_leaves(plan, node, kind, src, list, i + 1, end, w, out, a);
+        row = leaf::put_leaves(plan, node, kind, src, list, i + 1, end, w, out, a);
     }
     Built::Done {
-        word: p.word,
-        at: p.at,
+        word: row.word,
+        at: row.at,
     }
 }
 

@@ -195,11 +195,11 @@ build-member-returns-3 t c =
     member-go _ _ _ (refers-inner _ _ _ _ (c .before .before .before .before .before .before .before .before .before .before .before .before .before .before .before .before .kind-at .ensures) (c .before .before .before .before .before .before .before .before .before .before .before .before .before .before .before .before .before .before .before .before .before .before .pre .1 .1)) _ _ _ _ _ (c .before .before .before .before .before .before .before .before .before .before .before .before .before .before .ref-of .ensures) _ _ (c .before .before .before .before .before .before .before .before .before .before .before .before .if1 .left) _ (c .before .before .before .before .before .before .before .before .before .before .before .head-size .ensures) _ _ _ (done-is _ _ _ _ (c .before .before .before .before .before .before .before .before .before .build-value .ensures) _ _ (c .before .before .before .before .before .built .given .1)) _ (c .before .before .put-head .ensures)
 
 abbrev build-row-Inv-loop : build-row-lts.InvT-loop
-build-row-Inv-loop plan needs node src list count first word out₀ at kind end p₀ out p =
-    (p .index ≤ end) × (p .at ≤ 65535) × (length out ≡ length out₀) × (put-at (elementsMade rowOrder (buildOf src (look plan)) (look plan node) (end - p₀ .index) (p₀ .index) (drop (p₀ .word) list)) (p₀ .at) out₀ ≡ put-at (elementsMade rowOrder (buildOf src (look plan)) (look plan node) (end - p .index) (p .index) (drop (p .word) list)) (p .at) out)
+build-row-Inv-loop plan needs node src list count first word out₀ at kind end row₀ out row =
+    (row .index ≤ end) × (row .at ≤ 65535) × (length out ≡ length out₀) × (put-at (elementsMade rowOrder (buildOf src (look plan)) (look plan node) (end - row₀ .index) (row₀ .index) (drop (row₀ .word) list)) (row₀ .at) out₀ ≡ put-at (elementsMade rowOrder (buildOf src (look plan)) (look plan node) (end - row .index) (row .index) (drop (row .word) list)) (row .at) out)
 
 abbrev build-row-μ-loop : build-row-lts.MeasureT-loop
-build-row-μ-loop plan needs node src list count first word out₀ at kind end p₀ out p = end - p .index
+build-row-μ-loop plan needs node src list count first word out₀ at kind end row₀ out row = end - row .index
 
 build-row-kind-at-requires : (t : ℕ) → build-row-lts.Need-kind-at-requires (build-row-claims t) (build-row-at t) build-row.Post build-row-Inv-loop build-row-μ-loop
 build-row-kind-at-requires t c κs = c .before .before .before .before .before .pre .1 .0
@@ -231,7 +231,7 @@ build-row-same-length t c =
 build-row-returns : (t : ℕ) → build-row-lts.Need-returns (build-row-claims t) (build-row-at t) build-row.Post build-row-Inv-loop build-row-μ-loop
 unfolding standOf
 build-row-returns t c =
-    turn-short rowOrder _ _ (c .before .before .before .before .before .loop .p .index) _ _ _ _ (some-left _ _ (c .before .before .before .if1 .taken)) (no-entry (c .before .before .before .before .before .before .before .before .before .before .before .before .before .before .before .before .args .list .now) (c .before .before .before .before .before .loop .p .word) _ (c .before .before .next-entry .ensures) (c .enum-told .given .1)) ∙ sym (as-many rowOrder _ _ (c .before .before .before .before .before .before .before .before .before .before .before .before .before .before .before .before .args .first) _ _ _ _ _ (add-sub-cancel-left (c .before .before .before .before .before .before .before .before .before .before .before .before .before .before .before .before .args .first) (c .before .before .before .before .before .before .before .before .before .before .before .before .before .before .before .before .args .count)) ∙ c .before .before .before .before .before .before .before .before .put-leaves .ensures .3 ∙ c .before .before .before .before .before .loop .inv .3)
+    turn-short rowOrder _ _ (c .before .before .before .before .before .loop .row .index) _ _ _ _ (some-left _ _ (c .before .before .before .if1 .taken)) (no-entry (c .before .before .before .before .before .before .before .before .before .before .before .before .before .before .before .before .args .list .now) (c .before .before .before .before .before .loop .row .word) _ (c .before .before .next-entry .ensures) (c .enum-told .given .1)) ∙ sym (as-many rowOrder _ _ (c .before .before .before .before .before .before .before .before .before .before .before .before .before .before .before .before .args .first) _ _ _ _ _ (add-sub-cancel-left (c .before .before .before .before .before .before .before .before .before .before .before .before .before .before .before .before .args .first) (c .before .before .before .before .before .before .before .before .before .before .before .before .before .before .before .before .args .count)) ∙ c .before .before .before .before .before .before .before .before .put-leaves .ensures .3 ∙ c .before .before .before .before .before .loop .inv .3)
 
 build-row-cast-if2 : (t : ℕ) → build-row-lts.Need-cast-if2 (build-row-claims t) (build-row-at t) build-row.Post build-row-Inv-loop build-row-μ-loop
 build-row-cast-if2 t c = search needs
@@ -243,11 +243,11 @@ build-row-same-length-2 t c =
 build-row-returns-2 : (t : ℕ) → build-row-lts.Need-returns-2 (build-row-claims t) (build-row-at t) build-row.Post build-row-Inv-loop build-row-μ-loop
 unfolding standOf
 build-row-returns-2 t c =
-    turn-barred rowOrder _ _ (c .before .before .before .before .before .before .before .before .loop .p .index) _ _ _ _ (some-left _ _ (c .before .before .before .before .before .before .if1 .taken)) _ _ (entry-at (c .before .before .before .before .before .before .before .before .before .before .before .before .before .before .before .before .before .before .before .args .list .now) (c .before .before .before .before .before .before .before .before .loop .p .word) _ (c .before .before .before .before .before .next-entry .ensures) _ (c .before .before .before .entry .given .1)) (ne-eqb _ _ (λ e. c .if2 .taken (sym e))) ∙ sym (as-many rowOrder _ _ (c .before .before .before .before .before .before .before .before .before .before .before .before .before .before .before .before .before .before .before .args .first) _ _ _ _ _ (add-sub-cancel-left (c .before .before .before .before .before .before .before .before .before .before .before .before .before .before .before .before .before .before .before .args .first) (c .before .before .before .before .before .before .before .before .before .before .before .before .before .before .before .before .before .before .before .args .count)) ∙ c .before .before .before .before .before .before .before .before .before .before .before .put-leaves .ensures .3 ∙ c .before .before .before .before .before .before .before .before .loop .inv .3)
+    turn-barred rowOrder _ _ (c .before .before .before .before .before .before .before .before .loop .row .index) _ _ _ _ (some-left _ _ (c .before .before .before .before .before .before .if1 .taken)) _ _ (entry-at (c .before .before .before .before .before .before .before .before .before .before .before .before .before .before .before .before .before .before .before .args .list .now) (c .before .before .before .before .before .before .before .before .loop .row .word) _ (c .before .before .before .before .before .next-entry .ensures) _ (c .before .before .before .entry .given .1)) (ne-eqb _ _ (λ e. c .if2 .taken (sym e))) ∙ sym (as-many rowOrder _ _ (c .before .before .before .before .before .before .before .before .before .before .before .before .before .before .before .before .before .before .before .args .first) _ _ _ _ _ (add-sub-cancel-left (c .before .before .before .before .before .before .before .before .before .before .before .before .before .before .before .before .before .before .before .args .first) (c .before .before .before .before .before .before .before .before .before .before .before .before .before .before .before .before .before .before .before .args .count)) ∙ c .before .before .before .before .before .before .before .before .before .before .before .put-leaves .ensures .3 ∙ c .before .before .before .before .before .before .before .before .loop .inv .3)
 
 build-row-build-member-requires : (t : ℕ) → build-row-lts.Need-build-member-requires (build-row-claims t) (build-row-at t) build-row.Post build-row-Inv-loop build-row-μ-loop
 build-row-build-member-requires t c κs =
-    (omega (arith, c .before .before .before .before .before .before .before .before .before .before .before .before .before .before .before .before .before .before .before .before .pre .0), (c .before .before .before .before .before .before .before .before .before .before .before .before .before .before .before .before .before .before .before .before .pre .1 .0, c .before .before .before .before .before .before .before .before .before .before .before .before .before .before .before .before .before .before .before .before .pre .1 .1 _ (omega (arith, c .before .if2 .left, c .before .before .before .before .before .before .before .if1 .taken)), entry-at (c .before .before .before .before .before .before .before .before .before .before .before .before .before .before .before .before .before .before .before .before .args .list .now) (c .before .before .before .before .before .before .before .before .before .loop .p .word) _ (c .before .before .before .before .before .before .next-entry .ensures) _ (c .before .before .before .before .entry .given .1), entry-inside (c .before .before .before .before .before .before .before .before .before .before .before .before .before .before .before .before .before .before .before .before .args .list .now) (c .before .before .before .before .before .before .before .before .before .loop .p .word) _ (c .before .before .before .before .before .before .next-entry .ensures) _ (c .before .before .before .before .entry .given .1), c .before .before .before .before .before .before .before .before .before .loop .inv .1, c .before .before .before .before .before .before .before .before .before .before .before .before .before .before .before .before .before .before .before .before .pre .1 .4))
+    (omega (arith, c .before .before .before .before .before .before .before .before .before .before .before .before .before .before .before .before .before .before .before .before .pre .0), (c .before .before .before .before .before .before .before .before .before .before .before .before .before .before .before .before .before .before .before .before .pre .1 .0, c .before .before .before .before .before .before .before .before .before .before .before .before .before .before .before .before .before .before .before .before .pre .1 .1 _ (omega (arith, c .before .if2 .left, c .before .before .before .before .before .before .before .if1 .taken)), entry-at (c .before .before .before .before .before .before .before .before .before .before .before .before .before .before .before .before .before .before .before .before .args .list .now) (c .before .before .before .before .before .before .before .before .before .loop .row .word) _ (c .before .before .before .before .before .before .next-entry .ensures) _ (c .before .before .before .before .entry .given .1), entry-inside (c .before .before .before .before .before .before .before .before .before .before .before .before .before .before .before .before .before .before .before .before .args .list .now) (c .before .before .before .before .before .before .before .before .before .loop .row .word) _ (c .before .before .before .before .before .before .next-entry .ensures) _ (c .before .before .before .before .entry .given .1), c .before .before .before .before .before .before .before .before .before .loop .inv .1, c .before .before .before .before .before .before .before .before .before .before .before .before .before .before .before .before .before .before .before .before .pre .1 .4))
 
 build-row-enum-known-built : (t : ℕ) → build-row-lts.Need-enum-known-built (build-row-claims t) (build-row-at t) build-row.Post build-row-Inv-loop build-row-μ-loop
 build-row-enum-known-built t c = search needs
@@ -262,7 +262,7 @@ build-row-same-length-3 t c =
 build-row-returns-3 : (t : ℕ) → build-row-lts.Need-returns-3 (build-row-claims t) (build-row-at t) build-row.Post build-row-Inv-loop build-row-μ-loop
 unfolding standOf
 build-row-returns-3 t c =
-    turn-stop rowOrder _ _ (c .before .before .before .before .before .before .before .before .before .before .before .before .before .before .loop .p .index) _ _ _ _ (some-left _ _ (c .before .before .before .before .before .before .before .before .before .before .before .before .if1 .taken)) _ _ (entry-at (c .before .before .before .before .before .before .before .before .before .before .before .before .before .before .before .before .before .before .before .before .before .before .before .before .before .args .list .now) (c .before .before .before .before .before .before .before .before .before .before .before .before .before .before .loop .p .word) _ (c .before .before .before .before .before .before .before .before .before .before .before .next-entry .ensures) _ (c .before .before .before .before .before .before .before .before .before .entry .given .1)) (eq-eqb _ _ (sym (c .before .before .before .before .before .before .if2 .left))) (failed-is _ _ _ _ (c .before .before .before .before .build-member .ensures) (c .enum-told2 .given .1)) ∙ sym (as-many rowOrder _ _ (c .before .before .before .before .before .before .before .before .before .before .before .before .before .before .before .before .before .before .before .before .before .before .before .before .before .args .first) _ _ _ _ _ (add-sub-cancel-left (c .before .before .before .before .before .before .before .before .before .before .before .before .before .before .before .before .before .before .before .before .before .before .before .before .before .args .first) (c .before .before .before .before .before .before .before .before .before .before .before .before .before .before .before .before .before .before .before .before .before .before .before .before .before .args .count)) ∙ c .before .before .before .before .before .before .before .before .before .before .before .before .before .before .before .before .before .put-leaves .ensures .3 ∙ c .before .before .before .before .before .before .before .before .before .before .before .before .before .before .loop .inv .3)
+    turn-stop rowOrder _ _ (c .before .before .before .before .before .before .before .before .before .before .before .before .before .before .loop .row .index) _ _ _ _ (some-left _ _ (c .before .before .before .before .before .before .before .before .before .before .before .before .if1 .taken)) _ _ (entry-at (c .before .before .before .before .before .before .before .before .before .before .before .before .before .before .before .before .before .before .before .before .before .before .before .before .before .args .list .now) (c .before .before .before .before .before .before .before .before .before .before .before .before .before .before .loop .row .word) _ (c .before .before .before .before .before .before .before .before .before .before .before .next-entry .ensures) _ (c .before .before .before .before .before .before .before .before .before .entry .given .1)) (eq-eqb _ _ (sym (c .before .before .before .before .before .before .if2 .left))) (failed-is _ _ _ _ (c .before .before .before .before .build-member .ensures) (c .enum-told2 .given .1)) ∙ sym (as-many rowOrder _ _ (c .before .before .before .before .before .before .before .before .before .before .before .before .before .before .before .before .before .before .before .before .before .before .before .before .before .args .first) _ _ _ _ _ (add-sub-cancel-left (c .before .before .before .before .before .before .before .before .before .before .before .before .before .before .before .before .before .before .before .before .before .before .before .before .before .args .first) (c .before .before .before .before .before .before .before .before .before .before .before .before .before .before .before .before .before .before .before .before .before .before .before .before .before .args .count)) ∙ c .before .before .before .before .before .before .before .before .before .before .before .before .before .before .before .before .before .put-leaves .ensures .3 ∙ c .before .before .before .before .before .before .before .before .before .before .before .before .before .before .loop .inv .3)
 
 build-row-add-put-leaves : (t : ℕ) → build-row-lts.Need-add-put-leaves (build-row-claims t) (build-row-at t) build-row.Post build-row-Inv-loop build-row-μ-loop
 build-row-add-put-leaves t c =
@@ -278,7 +278,7 @@ build-row-loop-less t c =
 
 build-row-loop-again : (t : ℕ) → build-row-lts.Need-loop-again (build-row-claims t) (build-row-at t) build-row.Post build-row-Inv-loop build-row-μ-loop
 build-row-loop-again t c =
-    let q = done-is _ _ _ _ (c .before .before .before .before .before .before .before .before .before .build-member .ensures) _ _ (c .before .before .before .before .before .built .given .1) in (c .before .before .put-leaves2 .ensures .1, c .before .before .put-leaves2 .ensures .2, c .before .before .put-leaves2 .kept .1 .1 .1 .1 .1 .1 .1 .1 .0 ∙ c .before .before .before .before .before .before .before .before .before .build-member .kept .1 .1 .1 .1 .1 .1 .1 .0 ∙ c .before .before .before .before .before .before .before .before .before .before .before .before .before .before .before .before .before .before .before .loop .inv .2, c .before .before .before .before .before .before .before .before .before .before .before .before .before .before .before .before .before .before .before .loop .inv .3 ∙ turn-go rowOrder _ _ (c .before .before .before .before .before .before .before .before .before .before .before .before .before .before .before .before .before .before .before .loop .p .index) _ _ _ _ (some-left _ _ (c .before .before .before .before .before .before .before .before .before .before .before .before .before .before .before .before .before .if1 .taken)) _ _ (entry-at (c .before .before .before .before .before .before .before .before .before .before .before .before .before .before .before .before .before .before .before .before .before .before .before .before .before .before .before .before .before .before .args .list .now) (c .before .before .before .before .before .before .before .before .before .before .before .before .before .before .before .before .before .before .before .loop .p .word) _ (c .before .before .before .before .before .before .before .before .before .before .before .before .before .before .before .before .next-entry .ensures) _ (c .before .before .before .before .before .before .before .before .before .before .before .before .before .before .entry .given .1)) (eq-eqb _ _ (sym (c .before .before .before .before .before .before .before .before .before .before .before .if2 .left))) _ _ _ q _ refl _ (one-fewer _ _) ∙ c .before .before .put-leaves2 .ensures .3)
+    let q = done-is _ _ _ _ (c .before .before .before .before .before .before .before .before .before .build-member .ensures) _ _ (c .before .before .before .before .before .built .given .1) in (c .before .before .put-leaves2 .ensures .1, c .before .before .put-leaves2 .ensures .2, c .before .before .put-leaves2 .kept .1 .1 .1 .1 .1 .1 .1 .1 .0 ∙ c .before .before .before .before .before .before .before .before .before .build-member .kept .1 .1 .1 .1 .1 .1 .1 .0 ∙ c .before .before .before .before .before .before .before .before .before .before .before .before .before .before .before .before .before .before .before .loop .inv .2, c .before .before .before .before .before .before .before .before .before .before .before .before .before .before .before .before .before .before .before .loop .inv .3 ∙ turn-go rowOrder _ _ (c .before .before .before .before .before .before .before .before .before .before .before .before .before .before .before .before .before .before .before .loop .row .index) _ _ _ _ (some-left _ _ (c .before .before .before .before .before .before .before .before .before .before .before .before .before .before .before .before .before .if1 .taken)) _ _ (entry-at (c .before .before .before .before .before .before .before .before .before .before .before .before .before .before .before .before .before .before .before .before .before .before .before .before .before .before .before .before .before .before .args .list .now) (c .before .before .before .before .before .before .before .before .before .before .before .before .before .before .before .before .before .before .before .loop .row .word) _ (c .before .before .before .before .before .before .before .before .before .before .before .before .before .before .before .before .next-entry .ensures) _ (c .before .before .before .before .before .before .before .before .before .before .before .before .before .before .entry .given .1)) (eq-eqb _ _ (sym (c .before .before .before .before .before .before .before .before .before .before .before .if2 .left))) _ _ _ q _ refl _ (one-fewer _ _) ∙ c .before .before .put-leaves2 .ensures .3)
 
 build-row-same-length-4 : (t : ℕ) → build-row-lts.Need-same-length-4 (build-row-claims t) (build-row-at t) build-row.Post build-row-Inv-loop build-row-μ-loop
 build-row-same-length-4 t c =
@@ -287,7 +287,7 @@ build-row-same-length-4 t c =
 build-row-returns-4 : (t : ℕ) → build-row-lts.Need-returns-4 (build-row-claims t) (build-row-at t) build-row.Post build-row-Inv-loop build-row-μ-loop
 unfolding standOf
 build-row-returns-4 t c =
-    done rowOrder _ _ (c .before .before .loop .p .index) _ _ _ _ (none-left _ _ (c .if1 .left)) refl (c .before .before .loop .inv .1) ∙ sym (as-many rowOrder _ _ (c .before .before .before .before .before .before .before .before .before .before .before .before .before .args .first) _ _ _ _ _ (add-sub-cancel-left (c .before .before .before .before .before .before .before .before .before .before .before .before .before .args .first) (c .before .before .before .before .before .before .before .before .before .before .before .before .before .args .count)) ∙ c .before .before .before .before .before .put-leaves .ensures .3 ∙ c .before .before .loop .inv .3)
+    done rowOrder _ _ (c .before .before .loop .row .index) _ _ _ _ (none-left _ _ (c .if1 .left)) refl (c .before .before .loop .inv .1) ∙ sym (as-many rowOrder _ _ (c .before .before .before .before .before .before .before .before .before .before .before .before .before .args .first) _ _ _ _ _ (add-sub-cancel-left (c .before .before .before .before .before .before .before .before .before .before .before .before .before .args .first) (c .before .before .before .before .before .before .before .before .before .before .before .before .before .args .count)) ∙ c .before .before .before .before .before .put-leaves .ensures .3 ∙ c .before .before .loop .inv .3)
 
 abbrev build-sparse-Inv-loop : build-sparse-lts.InvT-loop
 build-sparse-Inv-loop plan needs node src list out₀ n seen₀ given₀ word₀ at₀ counter₀ end out seen given word at counter =
