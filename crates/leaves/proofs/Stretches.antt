@@ -52,6 +52,19 @@ unfolding leafKind pick of-size
 some-fixed p k kind is e f size ef x =
     record { small = x .small; leaf = λ _. ap leafKind (sym is ∙ e); rule = λ h s. sym (good-scalar p k kind is s f ef e) ∙ x .rule h s }
 
+-- what is permitted of a leaf inside
+module _ (p : List ℕ) (k : ℕ) (s : List ℕ) (start size : ℕ) (fits : start + size ≤ length s) where
+  pub fixed-is : (fixed : ℕ) → FixedAt p k fixed → 0 < fixed → eqb size fixed ≡ leafGood (look p k) (take size (drop start s))
+  fixed-is fixed f z =
+      let e : length (take size (drop start s)) ≡ size = simp (length-take, length-drop) (omega arith) in
+      sym (f .rule z (take size (drop start s)) ∙ ap (λ (n : ℕ). eqb n fixed) e)
+
+  fixed-good : FixedAt p k size → 0 < size → leafGood (look p k) (take size (drop start s)) ≡ true
+  fixed-good f z = sym (fixed-is size f z) ∙ eq-eqb size size refl
+
+pub part-good : (p : List ℕ) (k : ℕ) (s : List ℕ) (start size : ℕ) (b : Bool) → b ≡ leafGood (look p k) (take (start + size - start) (drop start s)) → b ≡ leafGood (look p k) (take size (drop start s))
+part-good p k s start size b e = rw add-sub-cancel-left at e
+
 -- ---- an element's head
 
 all-pass : (a b c : Bool) → pick a false (pick b false c) ≡ true → (a ≡ false) × (b ≡ false) × (c ≡ true)
@@ -73,15 +86,17 @@ standing s at size e =
     record { some = omega (arith, n); fits = ltb-false (length s - at) (size + 4) (t .1); is = eqb-true (word s at) size (t .2) }
 
 module _ (s : List ℕ) (i at : ℕ) where
-  pub standing-head : (size : ℕ) → size ≤ 16 → Standing s at size → plainHead s 0 i at ≡ Present i (at + 4) size
+  -- a head that is whole, and its element inside
+  there : (gap size : ℕ) → gap + 4 ≤ length s - at → size ≡ word s (at + gap) → size < 2 ^ 31 → size ≤ length s - (at + gap + 4) → plainHead s gap i at ≡ Present i (at + gap + 4) size
   unfolding plainHead sized negative pick
+  there gap size h is n g =
+      rw (sym is, le-ltb (length s - at) (gap + 4) h, lt-leb (2 ^ 31) size n, le-ltb (length s - (at + gap + 4)) size g)
+
+  pub standing-head : (size : ℕ) → size ≤ 16 → Standing s at size → plainHead s 0 i at ≡ Present i (at + 4) size
   standing-head size few x =
       let f = x .fits in
-      let h : 4 ≤ length s - at = omega arith in
-      let g : size ≤ length s - (at + 4) = omega arith in
-      let n : size < 2 ^ 31 = omega arith in
       let z : at + 0 ≡ at = add-zero at in
-      rw (z, x .is, le-ltb (length s - at) 4 h, lt-leb (2 ^ 31) size n, le-ltb (length s - (at + 4)) size g)
+      rw z at (there 0 size (omega arith) (sym (rw z (x .is))) (omega arith) (omega arith))
 
   -- an object's element that is there has the head of a tuple's
   pub object-plain : (required : Bool) (j start size : ℕ) → plainHead s 4 i at ≡ Present j start size → objectHead s required i at ≡ Present j start size
@@ -128,21 +143,22 @@ plain-there s gap i at j start size inside =
     let b : word s (at + gap) ≡ size = cc in
     (rw (a, b), omega arith, omega arith))
 
-pub leaf-there : (p : List ℕ) (k : ℕ) (s : List ℕ) (gap i at : ℕ) (h : Head) (j start size : ℕ) → at ≤ length s → h ≡ plainHead s gap i at → h ≡ Present j start size
-    → leafKind (getD p k 0) ≡ true → leafGood (look p k) (take (start + size - start) (drop start s)) ≡ true → GoodLeaf p k s gap i at (Good start size)
+pub leaf-there : (p : List ℕ) (k : ℕ) (s : List ℕ) (gap at size : ℕ) → length s ≤ 65535 → gap + 4 ≤ length s - at → size ≡ word s (at + gap) → size ≤ length s - (at + gap + 4)
+    → leafKind (getD p k 0) ≡ true → leafGood (look p k) (take size (drop (at + gap + 4) s)) ≡ true → GoodLeaf p k s gap at (Good (at + gap + 4) size)
 unfolding GoodLeaf
-leaf-there p k s gap i at h j start size inside eh e x good =
-    let t = plain-there s gap i at j start size inside (sym eh ∙ e) in
-    (t .0, x, rw add-sub-cancel-left at good)
+leaf-there p k s gap at size few whole is fits x good = (λ i. there s i at gap size whole is (omega arith) fits, x, good)
 
 -- what a leaf in hand says
-pub leaf-in : (p : List ℕ) (k : ℕ) (s : List ℕ) (gap i at : ℕ) (r : Leaf) (start size : ℕ) → at ≤ length s → GoodLeaf p k s gap i at r → r ≡ Good start size
+leaf-in : (p : List ℕ) (k : ℕ) (s : List ℕ) (gap i at : ℕ) (r : Leaf) (start size : ℕ) → at ≤ length s → GoodLeaf p k s gap at r → r ≡ Good start size
     → (plainHead s gap i at ≡ Present i start size) × (at + 4 ≤ start) × (start + size ≤ length s) × (leafKind (getD p k 0) ≡ true) × (leafGood (look p k) (take size (drop start s)) ≡ true)
 unfolding GoodLeaf
 leaf-in p k s gap i at r start size inside g e =
     let q = rw e at g in
-    let t = plain-there s gap i at i start size inside (q .0) in
-    (q .0, t .1, t .2, q .1, q .2)
+    let t = plain-there s gap i at i start size inside (q .0 i) in
+    (q .0 i, t .1, t .2, q .1, q .2)
+
+pub leaf-fits : (p : List ℕ) (k : ℕ) (s : List ℕ) (gap at : ℕ) (r : Leaf) (start size : ℕ) → at ≤ length s → GoodLeaf p k s gap at r → r ≡ Good start size → start + size ≤ length s
+leaf-fits p k s gap at r start size inside g e = leaf-in p k s gap 0 at r start size inside g e .2
 
 -- the elements of a set or an array share one node
 module _ (p : List ℕ) (k : ℕ) (e : getD p k 0 ≡ 2) where
@@ -157,12 +173,6 @@ module _ (p : List ℕ) (k : ℕ) (e : getD p k 0 ≡ 2) where
   same-head : (s : List ℕ) (i at size : ℕ) → size ≤ 16 → Standing s at size → rowHead (look p k) s i at ≡ Present i (at + 4) size
   unfolding rowHead
   same-head s i at size few x = rw (look-row p k e) (standing-head s i at size few x)
-
--- an element of a set or an array whose size is fixed
-fixed-good : (p : List ℕ) (k size : ℕ) (s : List ℕ) (start : ℕ) → FixedAt p k size → 0 < size → start + size ≤ length s → leafGood (look p k) (take size (drop start s)) ≡ true
-fixed-good p k size s start f z h =
-    let e : length (take size (drop start s)) ≡ size = simp (length-take, length-drop) (omega arith) in
-    f .rule z (take size (drop start s)) ∙ eq-eqb (length (take size (drop start s))) size e
 
 -- ---- a leaf that was read and put
 
@@ -225,11 +235,11 @@ module _ (p : List ℕ) (k base : ℕ) (s : List ℕ) (n first from at : ℕ) (l
         let fits : pos + 4 + size ≤ length s = omega arith in
         let after : pos + 4 ≤ pos + 4 = omega arith in
         going-next z (pos + 4) size child (same-head p k e s i pos size (f .small) x) after fits (same-ref p k e j i child r) (at-ref p k j child a r .0)
-        (f .leaf (x .some)) (fixed-good p child size s (pos + 4) f (x .some) fits) l″ el same
+        (f .leaf (x .some)) (fixed-good p child s (pos + 4) size fits f (x .some)) l″ el same
 
     -- the next element of any container but a set of arrays
     pub going-other : 0 < left → Ordered p k → (getD p k 0 ≡ 3 → ⊥) → (gap : ℕ) → gap ≡ gapOf (getD p k 0) → (child : ℕ) → refAt (look p k) i ≡ some child
-        → (r : Leaf) (start size : ℕ) → GoodLeaf p child s gap i pos r → r ≡ Good start size
+        → (r : Leaf) (start size : ℕ) → GoodLeaf p child s gap pos r → r ≡ Good start size
         → (l″ : List ℕ) → l″ ≡ sets l′ to (entryWords (entryOf child i (base + start) size) 0) → length l″ ≡ length l′
         → Going p k base s n first from at l (left - 1) (i + 1) (start + size) (to + 5) l″
     going-other z o u gap eg child r leaf start size x e l″ el same =
@@ -285,10 +295,10 @@ module _ (p : List ℕ) (k : ℕ) (s : List ℕ) (at : ℕ) where
 
   pub given-there : (i child : ℕ) → sparseIndex s (getD p (k + 1) 0) [] at ≡ Known i → refAt (look p k) i ≡ some child → at + 8 ≤ length s
       → (h : Head) → h ≡ optional s (requires (getD (cardsAt p k) i 0)) i (at + 8) (word s (at + 4)) → (j start size : ℕ) → h ≡ Present j start size
-      → leafKind (getD p child 0) ≡ true → leafGood (look p child) (take (start + size - start) (drop start s)) ≡ true → GivenLeaf p k s at (Whole i child start size)
+      → leafKind (getD p child 0) ≡ true → leafGood (look p child) (take size (drop start s)) ≡ true → GivenLeaf p k s at (Whole i child start size)
   unfolding GivenLeaf
   given-there i child known r whole h eh j start size e x good =
-      (known, r, head-there i whole h eh j start size e .0, x, rw add-sub-cancel-left at good)
+      (known, r, head-there i whole h eh j start size e .0, x, good)
 
   pub given-in : (g : Given) (i child start size : ℕ) → GivenLeaf p k s at g → g ≡ Whole i child start size
       → (sparseIndex s (getD p (k + 1) 0) [] at ≡ Known i) × (refAt (look p k) i ≡ some child)

@@ -40,11 +40,11 @@ pub record Ordered (p : List ℕ) (k : ℕ) : Type 0 where
   pub kind : Container p k (getD p k 0)
   pub dense : getD p k 0 ≡ 6 → ⊥
 
--- an element that is there, is a leaf and is permitted
-unfoldable pub GoodLeaf : List ℕ → ℕ → List ℕ → ℕ → ℕ → ℕ → Leaf → Type 0
-GoodLeaf p k s gap i at Other = Unit {0}
-GoodLeaf p k s gap i at (Good start size) =
-    (plainHead s gap i at ≡ Present i start size) × (leafKind (getD p k 0) ≡ true) × (leafGood (look p k) (take size (drop start s)) ≡ true)
+-- an element that is there, is a leaf and is permitted, whatever its index
+unfoldable pub GoodLeaf : List ℕ → ℕ → List ℕ → ℕ → ℕ → Leaf → Type 0
+GoodLeaf p k s gap at Other = Unit {0}
+GoodLeaf p k s gap at (Good start size) =
+    ((i : ℕ) → plainHead s gap i at ≡ Present i start size) × (leafKind (getD p k 0) ≡ true) × (leafGood (look p k) (take size (drop start s)) ≡ true)
 
 -- Of n elements from the index `first` on, which stand at `from`, `left` are left, which stand at `pos`: from there on they lead to the same
 -- place. How many of them are left is free.

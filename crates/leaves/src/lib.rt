@@ -10,7 +10,7 @@ use value::gather;
 use value::node;
 ghost use mathlib.Core.Path.{_≡_};
 ghost use Prim.Native.Nat.{_+_, _*_, _^_, _<_, _≤_};
-ghost use lib.ListN.{length, getD};
+ghost use lib.ListN.{length, take, drop, getD};
 ghost use Rattle.plan.specs.Plan.{look, At};
 ghost use Rattle.value.specs.Walk.{Holds, leafGood, leafKind};
 ghost use Rattle.leaves.specs.Leaves.{FixedAt, Ordered, Stretched, GoodLeaf, GivenLeaf, Gathers, gapOf, stands};
@@ -98,16 +98,17 @@ fn same_leaves(
     Stretch { left, pos, at: to }
 }
 
-// Whether a leaf's content is permitted. A fixed size is told without the call of a function that knows all formats.
-fn is_good(plan: &[u32], node: usize, kind: u32, part: &[u8]) -> bool
-    requires { ⌜ (At (now plan) node) × (kind ≡ getD (now plan) node 0) × (leafKind kind ≡ true) ⌝ }
-    ensures { λ b. ⌜ b ≡ leafGood (look (now (plan .entry)) node) (now (part .entry)) ⌝ }
+// Whether a leaf of `size` bytes from `start` on is permitted. A fixed size is told without the call of a function that knows all formats.
+fn is_good(plan: &[u32], node: usize, kind: u32, part: &[u8], start: usize, size: usize) -> bool
+    requires { ⌜ (At (now plan) node) × (kind ≡ getD (now plan) node 0) × (leafKind kind ≡ true) × (start + size ≤ length (now part)) ⌝ }
+    ensures { λ b. ⌜ b ≡ leafGood (look (now (plan .entry)) node) (take size (drop start (now (part .entry)))) ⌝ }
 {
-    let size = fixed_at(plan, node);
-    if 0 < size {
-        return part.len() == size;
+    let fixed = fixed_at(plan, node);
+    if 0 < fixed {
+        return size == fixed;
     }
-    node::leaf_ok(plan, node, kind, part)
+    let end = start + size;
+    node::leaf_ok(plan, node, kind, &part[start..end])
 }
 
 // How many reserved bytes stand before an element's length: four in a tuple or an object.
@@ -123,26 +124,26 @@ fn gap_of(kind: u32) -> usize
     0
 }
 
-// The element at `pos`, its length after `gap` reserved bytes, where it is there, is a leaf and is permitted.
-fn leaf_at(plan: &[u32], child: usize, part: &[u8], gap: usize, i: usize, pos: usize) -> Leaf
-    requires { ⌜ (At (now plan) child) × (pos ≤ length (now part)) × (gap ≤ 16) ⌝ }
-    ensures { λ r. ⌜ GoodLeaf (now (plan .entry)) child (now (part .entry)) gap i pos r ⌝ }
+// The element at `pos`, its length after `gap` reserved bytes, where it is there, is a leaf and is permitted. A negative length is, without
+// its sign, larger than what is left, so one test tells both, and a third of the time is spared.
+fn leaf_at(plan: &[u32], child: usize, part: &[u8], gap: usize, pos: usize) -> Leaf
+    requires { ⌜ (At (now plan) child) × (pos ≤ length (now part)) × (length (now part) ≤ 65535) × (gap ≤ 16) ⌝ }
+    ensures { λ r. ⌜ GoodLeaf (now (plan .entry)) child (now (part .entry)) gap pos r ⌝ }
 {
     let kind = plan::node::kind_at(plan, child);
     if !node::is_leaf(kind) {
         return Leaf::Other;
     }
-    let head = heads::element::plain_head(part, gap, i, pos);
-    let Head::Present {
-        index: _,
-        start,
-        size,
-    } = head
-    else {
+    if part.len() - pos < gap + 4 {
         return Leaf::Other;
-    };
-    let end = start + size;
-    if is_good(plan, child, kind, &part[start..end]) {
+    }
+    let field = pos + gap;
+    let start = field + 4;
+    let size = wire::be::u32_at(part, field) as usize;
+    if part.len() - start < size {
+        return Leaf::Other;
+    }
+    if is_good(plan, child, kind, part, start, size) {
         return Leaf::Good { start, size };
     }
     Leaf::Other
@@ -170,7 +171,7 @@ fn other_leaves(
     let mut to = at;
     while 0 < left {
         let child = plan::node::ref_of(plan, node, i);
-        let leaf = leaf_at(plan, child, part, gap, i, pos);
+        let leaf = leaf_at(plan, child, part, gap, pos);
         let Leaf::Good { start, size } = leaf else {
             return Stretch { left, pos, at: to };
         };
@@ -238,8 +239,7 @@ fn given_leaf(plan: &[u32], node: usize, part: &[u8], pos: usize) -> Given
     if !node::is_leaf(kind) {
         return Given::Unknown;
     }
-    let end = start + size;
-    if is_good(plan, child, kind, &part[start..end]) {
+    if is_good(plan, child, kind, part, start, size) {
         return Given::Whole(index, child, start, size);
     }
     Given::Unknown

@@ -7,33 +7,26 @@ use borrow.Author.Needs.{needs}
 use Rattle.leaves.proofs.element_stands.Statement.{statement}
 use Rattle.leaves.proofs.element_stands.Tie as tie
 
--- src/leaves.rt:35:9
 returns : tie.Need-returns
 unfolding stands pick
 returns c = rw (eq-eqb _ _ (c .if1 .taken))
 
--- src/leaves.rt:37:8
 sub-if2 : tie.Need-sub-if2
 sub-if2 c = search needs
 
--- src/leaves.rt:37:27
 add-if2 : tie.Need-add-if2
 add-if2 c = search needs
 
--- src/leaves.rt:38:9
 returns-2 : tie.Need-returns-2
 unfolding stands pick
 returns-2 c = rw (ne-eqb _ _ (c .before .if1 .left), lt-ltb _ _ (c .if2 .taken))
 
--- src/leaves.rt:40:5
 u32-at-requires : tie.Need-u32-at-requires
 u32-at-requires c κs = search needs
 
--- src/leaves.rt:40:36
 cast-result : tie.Need-cast-result
 cast-result c = search needs
 
--- src/leaves.rt:30:1
 returns-3 : tie.Need-returns-3
 unfolding stands pick word
 returns-3 c =

@@ -6,29 +6,23 @@ use borrow.Author.Needs.{needs}
 use Rattle.leaves.proofs.fixed_at.Statement.{statement}
 use Rattle.leaves.proofs.fixed_at.Tie as tie
 
--- src/leaves.rt:22:9
 kind-at-requires : tie.Need-kind-at-requires
 kind-at-requires c κs = search needs
 
--- src/leaves.rt:24:44
 second-at-requires : tie.Need-second-at-requires
 second-at-requires c κs = search needs
 
--- src/leaves.rt:24:44
 cast-fixed-size : tie.Need-cast-fixed-size
 cast-fixed-size c =
     omega (arith, c .second-at .ensures, at-format _ _ (c .before .before .before .before .pre) (sym (c .before .before .kind-at .ensures .is) ∙ c .before .if1 .taken))
 
--- src/leaves.rt:24:9
 fixed-size-requires : tie.Need-fixed-size-requires
 fixed-size-requires c κs = search needs
 
--- src/leaves.rt:24:9
 returns : tie.Need-returns
 returns c =
     some-fixed _ _ _ (c .before .before .before .kind-at .ensures .is) (c .before .before .if1 .taken) _ _ (c .before .second-at .ensures) (c .fixed-size .ensures)
 
--- src/leaves.rt:18:1
 returns-2 : tie.Need-returns-2
 returns-2 c = none-fixed _ _
 

@@ -50,27 +50,13 @@ returns-3 : tie.Need-returns-3
 unfolding GivenLeaf
 returns-3 c = tt
 
-add-end : tie.Need-add-end
-add-end c =
-    let w = known-in _ _ (c .before .before .before .before .before .before .before .before .before .before .before .before .before .before .pre .0) (c .before .before .before .before .before .before .before .before .before .before .before .before .before .before .pre .1) _ _ _ _ refl _ (c .before .before .before .before .before .before .before .before .before .before .before .index-at .ensures) (c .before .before .before .before .before .before .before .before .before .known .given .1) (c .before .before .before .before .before .before .before .before .before .before .before .before .before .before .pre .2) in omega (arith, head-there _ _ _ _ _ (w .2) _ (c .before .before .before .before .before .before .before .sparse-head .ensures) _ _ _ (c .before .before .before .before .before .head .given .1) .2)
-
-sub-is-good : tie.Need-sub-is-good
-sub-is-good c = search needs
-
-part-is-good-start : tie.Need-part-is-good-start
-part-is-good-start c = search needs
-
-part-is-good-end : tie.Need-part-is-good-end
-part-is-good-end c =
-    let w = known-in _ _ (c .before .before .before .before .before .before .before .before .before .before .before .before .before .before .pre .0) (c .before .before .before .before .before .before .before .before .before .before .before .before .before .before .pre .1) _ _ _ _ refl _ (c .before .before .before .before .before .before .before .before .before .before .before .index-at .ensures) (c .before .before .before .before .before .before .before .before .before .known .given .1) (c .before .before .before .before .before .before .before .before .before .before .before .before .before .before .pre .2) in omega (arith, head-there _ _ _ _ _ (w .2) _ (c .before .before .before .before .before .before .before .sparse-head .ensures) _ _ _ (c .before .before .before .before .before .head .given .1) .2)
-
 is-good-requires : tie.Need-is-good-requires
 is-good-requires c κs =
-    (at-ref _ _ _ _ (c .before .before .before .before .before .before .before .before .before .before .before .before .before .before .before .pre .0) (c .before .before .before .before .ref-of .ensures) .0, c .before .before .before .kind-at .ensures .is, sym (c .before .before .is-leaf .ensures) ∙ not-false _ (c .before .if1 .left))
+    let w = known-in _ _ (c .before .before .before .before .before .before .before .before .before .before .before .before .before .before .pre .0) (c .before .before .before .before .before .before .before .before .before .before .before .before .before .before .pre .1) _ _ _ _ refl _ (c .before .before .before .before .before .before .before .before .before .before .before .index-at .ensures) (c .before .before .before .before .before .before .before .before .before .known .given .1) (c .before .before .before .before .before .before .before .before .before .before .before .before .before .before .pre .2) in (at-ref _ _ _ _ (c .before .before .before .before .before .before .before .before .before .before .before .before .before .before .pre .0) (c .before .before .before .ref-of .ensures) .0, c .before .before .kind-at .ensures .is, sym (c .before .is-leaf .ensures) ∙ not-false _ (c .if1 .left), head-there _ _ _ _ _ (w .2) _ (c .before .before .before .before .before .before .before .sparse-head .ensures) _ _ _ (c .before .before .before .before .before .head .given .1) .2)
 
 returns-4 : tie.Need-returns-4
 returns-4 c =
-    let w = known-in _ _ (c .before .before .before .before .before .before .before .before .before .before .before .before .before .before .before .before .before .pre .0) (c .before .before .before .before .before .before .before .before .before .before .before .before .before .before .before .before .before .pre .1) _ _ _ _ refl _ (c .before .before .before .before .before .before .before .before .before .before .before .before .before .before .index-at .ensures) (c .before .before .before .before .before .before .before .before .before .before .before .before .known .given .1) (c .before .before .before .before .before .before .before .before .before .before .before .before .before .before .before .before .before .pre .2) in given-there _ _ _ _ _ _ (sym (c .before .before .before .before .before .before .before .before .before .before .before .before .before .before .index-at .ensures) ∙ c .before .before .before .before .before .before .before .before .before .before .before .before .known .given .1) (c .before .before .before .before .before .before .ref-of .ensures) (w .2) _ (c .before .before .before .before .before .before .before .before .before .before .sparse-head .ensures) _ _ _ (c .before .before .before .before .before .before .before .before .head .given .1) (rw (c .before .before .before .before .before .kind-at .ensures .is) at (sym (c .before .before .before .before .is-leaf .ensures) ∙ not-false _ (c .before .before .before .if1 .left))) (sym (c .before .is-good .ensures) ∙ c .if2 .taken)
+    let w = known-in _ _ (c .before .before .before .before .before .before .before .before .before .before .before .before .before .before .before .before .pre .0) (c .before .before .before .before .before .before .before .before .before .before .before .before .before .before .before .before .pre .1) _ _ _ _ refl _ (c .before .before .before .before .before .before .before .before .before .before .before .before .before .index-at .ensures) (c .before .before .before .before .before .before .before .before .before .before .before .known .given .1) (c .before .before .before .before .before .before .before .before .before .before .before .before .before .before .before .before .pre .2) in given-there _ _ _ _ _ _ (sym (c .before .before .before .before .before .before .before .before .before .before .before .before .before .index-at .ensures) ∙ c .before .before .before .before .before .before .before .before .before .before .before .known .given .1) (c .before .before .before .before .before .ref-of .ensures) (w .2) _ (c .before .before .before .before .before .before .before .before .before .sparse-head .ensures) _ _ _ (c .before .before .before .before .before .before .before .head .given .1) (rw (c .before .before .before .before .kind-at .ensures .is) at (sym (c .before .before .before .is-leaf .ensures) ∙ not-false _ (c .before .before .if1 .left))) (sym (c .before .is-good .ensures) ∙ c .if2 .taken)
 
 returns-5 : tie.Need-returns-5
 unfolding GivenLeaf
@@ -91,10 +77,6 @@ given-leaf-spec =
     kind-at-requires
     is-leaf-requires
     returns-3
-    add-end
-    sub-is-good
-    part-is-good-start
-    part-is-good-end
     is-good-requires
     returns-4
     returns-5)

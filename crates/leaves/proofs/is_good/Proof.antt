@@ -1,23 +1,44 @@
-use mathlib.Core.Path.{sym}
+-- `leaves::is_good` meets its contract. Assumes nothing.
+use Rattle.leaves.proofs.Stretches.{fixed-is, part-good}
 use borrow.Author.Needs.{needs}
 use Rattle.leaves.proofs.is_good.Statement.{statement}
 use Rattle.leaves.proofs.is_good.Tie as tie
 
--- src/leaves.rt:83:9
 fixed-at-requires : tie.Need-fixed-at-requires
 fixed-at-requires c κs = search needs
 
--- src/leaves.rt:85:9
 returns : tie.Need-returns
-returns c = sym (c .before .fixed-at .ensures .rule (c .if1 .taken) _)
+returns c =
+    fixed-is _ _ _ _ _ (c .before .before .before .before .pre .3) _ (c .before .fixed-at .ensures) (c .if1 .taken)
 
--- src/leaves.rt:87:5
+add-end : tie.Need-add-end
+add-end c = search needs
+
+sub-leaf-ok : tie.Need-sub-leaf-ok
+sub-leaf-ok c = search needs
+
+part-leaf-ok-start : tie.Need-part-leaf-ok-start
+part-leaf-ok-start c = search needs
+
+part-leaf-ok-end : tie.Need-part-leaf-ok-end
+part-leaf-ok-end c = search needs
+
 leaf-ok-requires : tie.Need-leaf-ok-requires
 leaf-ok-requires c κs = search needs
 
--- src/leaves.rt:79:1
 returns-2 : tie.Need-returns-2
-returns-2 c = search needs
+returns-2 c =
+    part-good _ _ (c .before .before .before .before .before .before .args .part .now) (c .before .before .before .before .before .before .args .start) (c .before .before .before .before .before .before .args .size) _ (c .leaf-ok .ensures)
 
 pub is-good-spec : {M : Type 1} → statement M
-is-good-spec = tie.close (tie.spec fixed-at-requires returns leaf-ok-requires returns-2)
+is-good-spec =
+    tie.close
+    (tie.spec
+    fixed-at-requires
+    returns
+    add-end
+    sub-leaf-ok
+    part-leaf-ok-start
+    part-leaf-ok-end
+    leaf-ok-requires
+    returns-2)

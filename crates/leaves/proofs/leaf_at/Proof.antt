@@ -1,8 +1,10 @@
+-- `leaves::leaf_at` meets its contract: what was read is an element's head, a leaf and permitted. Assumes nothing.
 use native.Mathlib.Omega.{arith}
 use mathlib.Core.Path.{_≡_, sym, _∙_}
 use borrow.Author.Tests.{not-false}
+use Rattle.heads.specs.Heads.{word}
 use Rattle.leaves.specs.Leaves.{GoodLeaf}
-use Rattle.leaves.proofs.Stretches.{plain-there, leaf-there}
+use Rattle.leaves.proofs.Stretches.{leaf-there}
 use borrow.Author.Needs.{needs}
 use Rattle.leaves.proofs.leaf_at.Statement.{statement}
 use Rattle.leaves.proofs.leaf_at.Tie as tie
@@ -17,41 +19,50 @@ returns : tie.Need-returns
 unfolding GoodLeaf
 returns c = tt
 
-plain-head-requires : tie.Need-plain-head-requires
-plain-head-requires c κs = search needs
+sub-if2 : tie.Need-sub-if2
+sub-if2 c = search needs
 
-enum-known-head : tie.Need-enum-known-head
-enum-known-head c = search needs
+add-if2 : tie.Need-add-if2
+add-if2 c = search needs
 
 returns-2 : tie.Need-returns-2
 unfolding GoodLeaf
 returns-2 c = tt
 
-add-end : tie.Need-add-end
-add-end c =
-    omega (arith, plain-there _ _ _ _ _ _ _ (c .before .before .before .before .before .before .before .before .before .pre .1) (sym (c .before .before .before .plain-head .ensures) ∙ c .before .head .given .1) .2)
+add-field : tie.Need-add-field
+add-field c =
+    omega (arith, c .before .before .before .before .before .before .pre .1, c .before .before .before .before .before .before .pre .2, c .before .before .before .before .before .before .pre .3)
 
-sub-is-good : tie.Need-sub-is-good
-sub-is-good c = search needs
+add-start : tie.Need-add-start
+add-start c =
+    omega (arith, c .before .before .before .before .before .before .pre .1, c .before .before .before .before .before .before .pre .2, c .before .before .before .before .before .before .pre .3)
 
-part-is-good-start : tie.Need-part-is-good-start
-part-is-good-start c = search needs
+u32-at-requires : tie.Need-u32-at-requires
+u32-at-requires c κs = omega (arith, c .if2 .left, c .before .before .before .before .before .before .pre .1)
 
-part-is-good-end : tie.Need-part-is-good-end
-part-is-good-end c =
-    omega (arith, plain-there _ _ _ _ _ _ _ (c .before .before .before .before .before .before .before .before .before .pre .1) (sym (c .before .before .before .plain-head .ensures) ∙ c .before .head .given .1) .2)
+cast-size : tie.Need-cast-size
+cast-size c = search needs
+
+sub-if3 : tie.Need-sub-if3
+sub-if3 c =
+    omega (arith, c .before .if2 .left, c .before .before .before .before .before .before .before .pre .1)
+
+returns-3 : tie.Need-returns-3
+unfolding GoodLeaf
+returns-3 c = tt
 
 is-good-requires : tie.Need-is-good-requires
 is-good-requires c κs =
-    (c .before .before .before .before .before .before .before .before .before .before .pre .0, c .before .before .before .before .before .before .before .kind-at .ensures .is, sym (c .before .before .before .before .before .before .is-leaf .ensures) ∙ not-false _ (c .before .before .before .before .before .if1 .left))
-
-returns-3 : tie.Need-returns-3
-returns-3 c =
-    leaf-there _ _ _ _ _ _ _ _ _ _ (c .before .before .before .before .before .before .before .before .before .before .before .before .pre .1) (c .before .before .before .before .before .before .plain-head .ensures) (c .before .before .before .before .head .given .1) (rw (c .before .before .before .before .before .before .before .before .before .kind-at .ensures .is) at (sym (c .before .before .before .before .before .before .before .before .is-leaf .ensures) ∙ not-false _ (c .before .before .before .before .before .before .before .if1 .left))) (sym (c .before .is-good .ensures) ∙ c .if2 .taken)
+    (c .before .before .before .before .before .before .before .before .pre .0, c .before .before .before .before .before .kind-at .ensures .is, sym (c .before .before .before .before .is-leaf .ensures) ∙ not-false _ (c .before .before .before .if1 .left), omega (arith, c .if3 .left, c .before .before .if2 .left, c .before .before .before .before .before .before .before .before .pre .1))
 
 returns-4 : tie.Need-returns-4
+unfolding word
+returns-4 c =
+    leaf-there _ _ _ _ _ _ (c .before .before .before .before .before .before .before .before .before .before .pre .2) (c .before .before .before .before .if2 .left) (c .before .before .before .u32-at .ensures) (c .before .before .if3 .left) (rw (c .before .before .before .before .before .before .before .kind-at .ensures .is) at (sym (c .before .before .before .before .before .before .is-leaf .ensures) ∙ not-false _ (c .before .before .before .before .before .if1 .left))) (sym (c .before .is-good .ensures) ∙ c .if4 .taken)
+
+returns-5 : tie.Need-returns-5
 unfolding GoodLeaf
-returns-4 c = tt
+returns-5 c = tt
 
 pub leaf-at-spec : {M : Type 1} → statement M
 leaf-at-spec =
@@ -60,13 +71,15 @@ leaf-at-spec =
     kind-at-requires
     is-leaf-requires
     returns
-    plain-head-requires
-    enum-known-head
+    sub-if2
+    add-if2
     returns-2
-    add-end
-    sub-is-good
-    part-is-good-start
-    part-is-good-end
-    is-good-requires
+    add-field
+    add-start
+    u32-at-requires
+    cast-size
+    sub-if3
     returns-3
-    returns-4)
+    is-good-requires
+    returns-4
+    returns-5)

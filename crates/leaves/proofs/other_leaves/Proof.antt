@@ -2,7 +2,7 @@ use native.Mathlib.Omega.{arith}
 use mathlib.Core.Path.{_≡_, refl, sym, ap, _∙_}
 use Rattle.plan.proofs.Nodes.{at-ref}
 use Rattle.leaves.specs.Leaves.{gapOf}
-use Rattle.leaves.proofs.Stretches.{Going, going-start, going-end, going-other, leaf-in, gap-few}
+use Rattle.leaves.proofs.Stretches.{Going, going-start, going-end, going-other, leaf-fits, gap-few}
 use borrow.Author.Needs.{needs}
 use Rattle.leaves.proofs.other_leaves.Statement.{statement}
 use Rattle.leaves.proofs.other_leaves.Tie as tie
@@ -29,7 +29,7 @@ ref-of-requires c κs =
 
 leaf-at-requires : tie.Need-leaf-at-requires Inv-loop μ-loop
 leaf-at-requires c κs =
-    (at-ref _ _ _ _ (c .before .before .before .before .before .before .before .before .pre .0 .node) (c .ref-of .ensures) .0, c .before .before .loop .inv .2, rw (c .before .before .before .gap-of .ensures) (gap-few _))
+    (at-ref _ _ _ _ (c .before .before .before .before .before .before .before .before .pre .0 .node) (c .ref-of .ensures) .0, c .before .before .loop .inv .2, omega (arith, c .before .before .before .before .before .before .before .before .pre .4), rw (c .before .before .before .gap-of .ensures) (gap-few _))
 
 enum-known-leaf : tie.Need-enum-known-leaf Inv-loop μ-loop
 enum-known-leaf c = search needs
@@ -46,14 +46,14 @@ returns c =
 
 add-put-entry : tie.Need-add-put-entry Inv-loop μ-loop
 add-put-entry c =
-    let t = leaf-in _ _ _ _ _ _ _ _ _ (c .before .before .before .before .before .before .before .loop .inv .2) (c .before .before .before .before .leaf-at .ensures) (c .before .before .leaf .given .1) in
-    omega (arith, t .2, c .before .before .before .before .before .before .before .before .before .before .before .before .before .pre .4)
+    let t = leaf-fits _ _ _ _ _ _ _ _ (c .before .before .before .before .before .before .before .loop .inv .2) (c .before .before .before .before .leaf-at .ensures) (c .before .before .leaf .given .1) in
+    omega (arith, t, c .before .before .before .before .before .before .before .before .before .before .before .before .before .pre .4)
 
 put-entry-requires : tie.Need-put-entry-requires Inv-loop μ-loop
 put-entry-requires c κs =
-    let t = leaf-in _ _ _ _ _ _ _ _ _ (c .before .before .before .before .before .before .before .loop .inv .2) (c .before .before .before .before .leaf-at .ensures) (c .before .before .leaf .given .1) in
+    let t = leaf-fits _ _ _ _ _ _ _ _ (c .before .before .before .before .before .before .before .loop .inv .2) (c .before .before .before .before .leaf-at .ensures) (c .before .before .leaf .given .1) in
     let r = at-ref _ _ _ _ (c .before .before .before .before .before .before .before .before .before .before .before .before .before .pre .0 .node) (c .before .before .before .before .before .ref-of .ensures) .0 in
-    (omega (arith, c .before .before .before .before .before .before .before .loop .inv .2, c .before .before .before .before .before .before .before .loop .inv .3, c .before .before .before .before .before .before .before .before .before .before .before .before .before .pre .4), r .small, omega (arith, c .before .before .before .before .before .before .before .loop .inv .0, c .before .before .before .before .before .before .loop-test .taken, c .before .before .before .before .before .before .before .before .before .before .before .before .before .pre .3), omega (arith, t .2, c .before .before .before .before .before .before .before .before .before .before .before .before .before .pre .4), omega (arith, t .2, c .before .before .before .before .before .before .before .before .before .before .before .before .before .pre .4), omega arith)
+    (omega (arith, c .before .before .before .before .before .before .before .loop .inv .2, c .before .before .before .before .before .before .before .loop .inv .3, c .before .before .before .before .before .before .before .before .before .before .before .before .before .pre .4), r .small, omega (arith, c .before .before .before .before .before .before .before .loop .inv .0, c .before .before .before .before .before .before .loop-test .taken, c .before .before .before .before .before .before .before .before .before .before .before .before .before .pre .3), omega (arith, t, c .before .before .before .before .before .before .before .before .before .before .before .before .before .pre .4), omega (arith, t, c .before .before .before .before .before .before .before .before .before .before .before .before .before .pre .4), omega arith)
 
 add-to : tie.Need-add-to Inv-loop μ-loop
 add-to c =
@@ -61,8 +61,8 @@ add-to c =
 
 add-pos : tie.Need-add-pos Inv-loop μ-loop
 add-pos c =
-    let t = leaf-in _ _ _ _ _ _ _ _ _ (c .before .before .before .before .before .before .before .before .before .before .loop .inv .2) (c .before .before .before .before .before .before .before .leaf-at .ensures) (c .before .before .before .before .before .leaf .given .1) in
-    omega (arith, t .2, c .before .before .before .before .before .before .before .before .before .before .before .before .before .before .before .before .pre .4)
+    let t = leaf-fits _ _ _ _ _ _ _ _ (c .before .before .before .before .before .before .before .before .before .before .loop .inv .2) (c .before .before .before .before .before .before .before .leaf-at .ensures) (c .before .before .before .before .before .leaf .given .1) in
+    omega (arith, t, c .before .before .before .before .before .before .before .before .before .before .before .before .before .before .before .before .pre .4)
 
 add-i : tie.Need-add-i Inv-loop μ-loop
 add-i c =
