@@ -14,11 +14,12 @@ use lib.Seq.{getD-set-same, getD-set-other}
 use borrow.Author.Tests.{eq-eqb, ne-eqb, lt-ltb, le-ltb, le-leb, lt-leb}
 use Rattle.wire.proofs.Picks.{pick-yes, pick-no}
 use Rattle.plan.specs.Plan.{Known, sizeOf, heightOf, Read, faulty, nodes, readNode, andRead, readNodes, nodesOf, startsIn}
-use Rattle.formed.specs.Scan.{knownAt, knownOf, Rising, Scanned, Among, readOf, countOf, Reads}
+use Rattle.heights.specs.Scan.{knownAt, knownOf, Rising, Scanned, Among}
+use Rattle.formed.specs.Reading.{readOf, countOf, Reads}
 use Rattle.formed.specs.declared.Count.{Count}
 use Rattle.formed.specs.declared.Count.the-variants.{Faulty, Nodes}
 use Rattle.plan.proofs.Reading.{size-positive}
-use Rattle.formed.proofs.Starts.{known-length, starts-here}
+use Rattle.heights.proofs.Starts.{known-length, starts-here}
 
 -- ---- one step of the reading
 

@@ -1,6 +1,5 @@
--- The definitions: Heads for every crate that reads values, Faults for the refusals' numbers, Bounds for what holds of every head that was read, Dimension
--- for src/container.rt. Assumes nothing.
+-- The definitions: Heads for every crate that reads values, Faults for the refusals' numbers, Bounds for what holds of every head that was read.
+-- Assumes nothing.
 pub mod Heads
 pub mod Faults
 pub mod Bounds
-pub mod Dimension

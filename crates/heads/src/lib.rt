@@ -1,5 +1,4 @@
 // The heads of containers and of their elements, read from a container's own bytes. Each read answers an enum.
-pub mod container;
 pub mod element;
 pub mod parts;
 pub mod sparse;

@@ -70,7 +70,7 @@ fn range_front(src: &[u8], entry: Entry, out: &mut [u8], at: usize) -> Opened
         return Opened::Shut;
     }
     let e = s + 1;
-    let opening = heads::container::range_opening(&src[s..e]);
+    let opening = openings::range_opening(&src[s..e]);
     let Opening::Elements {
         count,
         first,

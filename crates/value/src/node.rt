@@ -40,15 +40,15 @@ pub fn open_node(plan: &[u32], node: usize, kind: u32, part: &[u8]) -> Opening
     ensures { λ r. ⌜ r ≡ openingOf (look (now (plan .entry)) node) (now (part .entry)) ⌝ }
 {
     if kind == 6 {
-        return heads::container::sparse_opening(part);
+        return openings::sparse_opening(part);
     }
     if kind == 7 {
-        return heads::container::range_opening(part);
+        return openings::range_opening(part);
     }
     if kind < 4 {
-        return heads::container::set_opening(part);
+        return openings::set_opening(part);
     }
-    heads::container::count_opening(part, plan::node::second_at(plan, node))
+    openings::count_opening(part, plan::node::second_at(plan, node))
 }
 
 // The head of the element with an index, in a container whose elements come in order.
