@@ -1,4 +1,4 @@
--- The last part of `setOpening`, as src/container.rt cuts it. Assumes nothing: this is a definition.
+-- The last part of `setOpening`, as the code cuts it. Assumes nothing: this is a definition.
 use Prim.Native.Nat.{ℕ}
 use mathlib.Core.List.{List}
 use lib.Dec.{ltb, eqb}
