@@ -95,9 +95,12 @@ size-none kss t f o =
       | no l ↦ size-unknown f (omega arith)
     ]))
 
+pub no-size : (f n : ℕ) → Fixed f n → n ≤ 0 → Fixed f 0
+no-size f n e h = fixed-at f 0 (omega (arith, e .is))
+
 -- the last arm, where each format that is no key of the others has a size, and this one has none
-pub scalar-none : (kss : List (List ℕ)) → each (λ k. pick (anyHas kss k) true (ltb 0 (fixedSize k))) 0 20 ≡ true → (f n : ℕ) (v : List ℕ) → Fixed f n → n ≤ 0 → NoneOf kss f → false ≡ scalar f v
-scalar-none kss t f n v e h o =
+pub scalar-none : (kss : List (List ℕ)) → each (λ k. pick (anyHas kss k) true (ltb 0 (fixedSize k))) 0 20 ≡ true → (f : ℕ) (v : List ℕ) → Fixed f 0 → NoneOf kss f → false ≡ scalar f v
+scalar-none kss t f v e o =
     sym (elim (decLt f 20) [
       | yes l ↦ absurd (omega (arith, e .is, ltb-true 0 (fixedSize f) (in-rest (λ k. ltb 0 (fixedSize k)) kss 20 t f l o)))
       | no l ↦ scalar-unknown f v (omega arith)

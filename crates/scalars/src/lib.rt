@@ -4,6 +4,7 @@ pub mod number;
 
 ghost use mathlib.Core.Path.{_≡_};
 ghost use Rattle.scalars.specs.Scalars.{boolean, duration, json, scalar, enumeration};
+ghost use Rattle.scalars.specs.Sizes.{Fixed};
 
 // Whether the bytes are a bool: one byte, 0 or 1.
 fn bool_ok(v: &[u8]) -> bool
@@ -38,7 +39,23 @@ fn json_ok(v: &[u8]) -> bool
     wire::text::is_utf8(&v[1..])
 }
 
-// Whether the bytes are a value of a scalar format; of a format that is not there none are.
+// Whether the bytes are a value of a format that has no fixed size and is not bool; of a format that is not there none are.
+fn ruled_ok(format: u32, v: &[u8]) -> bool
+    requires { ⌜ (Fixed format 0) × (format ≡ 9 → ⊥) ⌝ }
+    ensures { λ r. ⌜ r ≡ scalar format (now (v .entry)) ⌝ }
+{
+    match format {
+        format::STR => wire::text::is_utf8(v),
+        format::BYTES => true,
+        format::DECIMAL => number::decimal_ok(v),
+        format::DURATION => duration_ok(v),
+        format::JSON => json_ok(v),
+        format::BIGINT => number::bigint_ok(v),
+        _ => false,
+    }
+}
+
+// Whether the bytes are a value of a scalar format. What takes a test or two is told here, and so without a call wherever this is put inline.
 pub fn scalar_ok(format: u32, v: &[u8]) -> bool
     ensures { λ r. ⌜ r ≡ scalar format (now (v .entry)) ⌝ }
 {
@@ -46,16 +63,10 @@ pub fn scalar_ok(format: u32, v: &[u8]) -> bool
     if 0 < n {
         return v.len() == n;
     }
-    match format {
-        format::STR => wire::text::is_utf8(v),
-        format::BYTES => true,
-        format::DECIMAL => number::decimal_ok(v),
-        format::BOOL => bool_ok(v),
-        format::DURATION => duration_ok(v),
-        format::JSON => json_ok(v),
-        format::BIGINT => number::bigint_ok(v),
-        _ => false,
+    if format == format::BOOL {
+        return bool_ok(v);
     }
+    ruled_ok(format, v)
 }
 
 // Whether the bytes are a value of an enumeration.
