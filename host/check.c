@@ -24,20 +24,23 @@ static void print_refused(const struct screen *screen, const struct session *ses
         print_message_refusal(screen, 2, message);
 }
 
-/* Whether the current message holds a value that no plan was met for. */
+/* Whether the current message holds a value that is not described. */
 static bool unread(const struct session *session) {
     const struct message *message = &session->message;
     return message->part_count > 0 && message->parts[0].kind == UNREAD_PART;
 }
 
-/* The closing lines where nothing was refused. */
+/* The closing lines where nothing was refused. A capture without a message has not been found good. */
 static int print_outcome(const struct screen *screen, const struct session *session,
                          unsigned long unread_values) {
     print_sum(screen, session, 0);
-    if (unread_values == 0)
+    if (session->messages > 0 && unread_values == 0)
         return DONE;
-    print(screen, BAD, "not checked, as no description of them was met: %lu value%s", unread_values,
-          unread_values == 1 ? "" : "s");
+    if (session->messages == 0)
+        print(screen, BAD, "there was nothing to check");
+    else
+        print(screen, BAD, "not checked, as no description of them was met: %lu value%s",
+              unread_values, unread_values == 1 ? "" : "s");
     fputc('\n', screen->out);
     return REFUSED;
 }

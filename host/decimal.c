@@ -62,12 +62,19 @@ static void print_fraction(const struct screen *screen, const struct decimal *de
     }
 }
 
+/* The display scale, where it is said and not shown by zeros. */
+static void print_scale(const struct screen *screen, const struct decimal *decimal) {
+    fprintf(screen->out, " (scale %d)", (int)decimal->scale);
+}
+
 /* The digits as one whole number, times a power of 10,000. */
 static void print_power(const struct screen *screen, const struct decimal *decimal) {
     struct decimal whole = *decimal;
     whole.weight = decimal->count - 1;
     print_whole(screen, &whole);
     fprintf(screen->out, " x 10000^%d", (int)(decimal->weight - decimal->count + 1));
+    if (decimal->scale > 0)
+        print_scale(screen, decimal);
 }
 
 void print_decimal(const struct screen *screen, const uint8_t *bytes, size_t length) {
@@ -85,5 +92,5 @@ void print_decimal(const struct screen *screen, const uint8_t *bytes, size_t len
     print_whole(screen, &decimal);
     print_fraction(screen, &decimal, zeros > 0 && zeros <= MOST_ZEROS ? decimal.scale : places);
     if (zeros > MOST_ZEROS)
-        fprintf(screen->out, " (scale %d)", (int)decimal.scale);
+        print_scale(screen, &decimal);
 }

@@ -62,7 +62,8 @@ static int find_in_row(const struct screen *screen, const struct message *messag
                        const uint8_t *path, size_t path_words) {
     const struct part *part = &message->parts[0];
     if (part->kind == UNREAD_PART) {
-        print(screen, BAD, "row %lu has no accepted description before it\n", message->row);
+        print(screen, BAD, "row %lu is ", message->row);
+        print_undescribed(screen, part);
         return REFUSED;
     }
     const struct plan *plan = part->plan;

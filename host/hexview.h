@@ -4,8 +4,8 @@
 
 #include "screen.h"
 
-/* Prints the lines of bytes around a place, 16 to a line, with that byte marked. A place just past
- * the last byte is marked as the end. */
+/* Prints the lines of bytes around a place, 16 to a line or as many as the terminal is wide enough
+ * for, with that byte marked. A place just past the last byte is marked as the end. */
 void hexview(const struct screen *screen, unsigned depth, const uint8_t *bytes, size_t length,
              size_t place);
 

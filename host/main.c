@@ -1,4 +1,5 @@
 /* panel: shows what a capture of the wire holds. */
+#include "../include/rembulfose.h"
 #include "bytes.h"
 #include "commands.h"
 
@@ -16,8 +17,10 @@ static const char help[] =
     "  panel check [--client] [FILE]           read every message, stop at the first refusal\n"
     "  panel find  [--client] FILE ROW [PATH]  print one element of a row\n"
     "  panel --help                            print this\n"
+    "  panel --version                         print the version\n"
     "\n"
-    "FILE is a capture; without one, or with -, standard input is read.\n"
+    "FILE is a capture; without one, or with -, standard input is read. After -- a\n"
+    "word that starts with a dash is no option.\n"
     "ROW counts the capture's D messages from 1, as `panel show` does.\n"
     "PATH is the indexes that lead to the element from the top, with dots between\n"
     "them, as `panel show` prints them: 2 is the third element, 2.0 the first one\n"
@@ -25,9 +28,11 @@ static const char help[] =
     "whole row is printed.\n"
     "\n"
     "A D's value is read by the output descriptor of the last T before it, and the\n"
-    "state data of a C by the last s, if it has the id that the C names. Whatever\n"
-    "the library refuses is printed with the number, its meaning, and the bytes\n"
-    "around the place. `show` goes on after a refusal where it can.\n"
+    "state data of a C by the last s, if it has the id that the C names. After a\n"
+    "message that is refused and may have been a newer description they are not\n"
+    "described: `show` gives their bytes, `find` refuses, `check` ends with 1.\n"
+    "Whatever the library refuses is printed with the number, its meaning, and the\n"
+    "bytes around the place. `show` goes on after a refusal where it can.\n"
     "\n"
     "captures:\n"
     "  side-marked   The line \"rembulfose-capture 1\", then records: a byte for the\n"
@@ -35,13 +40,15 @@ static const char help[] =
     "                so many bytes, which are whole messages of that side.\n"
     "  one-sided     Any other file: the bytes that the server sent, as they went\n"
     "                over the wire; with --client, those that the client sent.\n"
+    "                --client with a side-marked capture is an error.\n"
     "\n"
     "Colour and the bar for long captures appear on a terminal only. If NO_COLOR is\n"
     "set there is no colour.\n"
     "\n"
     "exit status:\n"
     "  0  all was printed; check: nothing was refused; find: the element was found\n"
-    "  1  check: something was refused, or could not be checked; find: not found\n"
+    "  1  check: something was refused or could not be checked, or there was nothing\n"
+    "     to check; find: not found\n"
     "  2  the command was not understood, or the capture could not be read\n";
 
 struct arguments {
@@ -68,13 +75,18 @@ static int misused(const char *why) {
     return TROUBLE;
 }
 
-/* Sorts the arguments; false if there are too many or an option is not known. */
+/* Sorts the arguments; false if there are too many or an option is not known. What comes after -- is no
+ * option. */
 static bool sort_arguments(int count, char **words, struct arguments *arguments) {
+    bool options = true;
     *arguments = (struct arguments){.command = words[1], .side = SERVER};
     for (int i = 2; i < count; i++) {
-        if (strcmp(words[i], "--client") == 0)
+        bool dashed = options && words[i][0] == '-' && words[i][1] != 0;
+        if (dashed && strcmp(words[i], "--") == 0)
+            options = false;
+        else if (dashed && strcmp(words[i], "--client") == 0)
             arguments->side = CLIENT;
-        else if ((words[i][0] == '-' && words[i][1] != 0) || arguments->count == 3)
+        else if (dashed || arguments->count == 3)
             return false;
         else
             arguments->words[arguments->count++] = words[i];
@@ -110,14 +122,21 @@ static bool take_path(const char *text, uint8_t *path, size_t *count) {
     return false;
 }
 
-/* Reads the capture that is named; if it cannot be read, says so. */
+/* Reads the capture that is named; if it cannot be read, says so. One that says itself who sent what is
+ * not taken as the client's. */
 static bool load(const struct arguments *arguments, struct capture *capture) {
     const char *name = arguments->words[0];
-    if (capture_load(capture, name, arguments->side))
-        return true;
-    fprintf(stderr, "panel: cannot read %s: %s\n", name == NULL ? "standard input" : name,
-            strerror(errno));
-    return false;
+    if (!capture_load(capture, name, arguments->side)) {
+        fprintf(stderr, "panel: cannot read %s: %s\n", name == NULL ? "standard input" : name,
+                strerror(errno));
+        return false;
+    }
+    if (capture->marked && arguments->side == CLIENT) {
+        misused("--client is for one side's bytes, and this capture is side-marked");
+        capture_free(capture);
+        return false;
+    }
+    return true;
 }
 
 static int find_in_capture(const struct arguments *arguments, uint32_t row, const uint8_t *path,
@@ -161,10 +180,10 @@ static int run_whole(const struct arguments *arguments) {
     return status;
 }
 
-/* Whether help is asked for, before or after a command. */
-static bool wants_help(int count, char **words) {
-    for (int i = 1; i < count; i++)
-        if (strcmp(words[i], "--help") == 0 || strcmp(words[i], "-h") == 0)
+/* Whether an option stands before or after the command, and not after --. */
+static bool asks_for(int count, char **words, const char *option) {
+    for (int i = 1; i < count && strcmp(words[i], "--") != 0; i++)
+        if (strcmp(words[i], option) == 0)
             return true;
     return false;
 }
@@ -173,8 +192,12 @@ int main(int count, char **words) {
     struct arguments arguments;
     if (count < 2)
         return misused("a command is missing");
-    if (wants_help(count, words)) {
+    if (asks_for(count, words, "--help") || asks_for(count, words, "-h")) {
         fputs(help, stdout);
+        return finished(DONE);
+    }
+    if (asks_for(count, words, "--version")) {
+        puts("panel " REMBULFOSE_VERSION);
         return finished(DONE);
     }
     bool find = strcmp(words[1], "find") == 0;

@@ -144,11 +144,19 @@ static void print_value(const struct screen *screen, const struct message *messa
     print_tree(screen, 2, &listed, 0, 0);
 }
 
-/* Bytes that no description was met for. */
+void print_undescribed(const struct screen *screen, const struct part *part) {
+    if (part->lost == 0)
+        print(screen, BAD, "not described, as no description of it was met");
+    else
+        print(screen, BAD, "not described, since message %lu was refused", part->lost);
+    fputc('\n', screen->out);
+}
+
+/* The bytes of a value that is not described. */
 static void print_unread(const struct screen *screen, const struct part *part) {
     print_indent(screen, 1);
-    print(screen, BAD, "%s: not read, as no accepted description of it was met", part->name);
-    fputc('\n', screen->out);
+    print(screen, BAD, "%s: ", part->name);
+    print_undescribed(screen, part);
     print_indent(screen, 2);
     print_bytes(screen, part->bytes, part->length);
     fputc('\n', screen->out);

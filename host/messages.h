@@ -21,6 +21,9 @@ void print_cut_record(const struct screen *screen, unsigned depth, const struct 
 void print_message_refusal(const struct screen *screen, unsigned depth,
                            const struct message *message);
 
+/* Prints "not described", and why, of a value that no description is certain for. */
+void print_undescribed(const struct screen *screen, const struct part *part);
+
 /* Prints a refusal of a part of it. */
 void print_part_refusal(const struct screen *screen, unsigned depth, const struct part *part);
 

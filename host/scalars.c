@@ -2,12 +2,10 @@
 
 #include "bytes.h"
 #include "decimal.h"
+#include "floats.h"
 #include "times.h"
 
 #include <inttypes.h>
-#include <math.h>
-#include <stdlib.h>
-#include <string.h>
 
 enum format {
     UUID,
@@ -50,54 +48,6 @@ static const struct shape shapes[FORMATS] = {
 
 const char *format_name(uint32_t format) {
     return format < FORMATS ? shapes[format].name : "unknown format";
-}
-
-/* A kind of float: how many digits tell any two of its numbers apart, and how many digits before the
- * point are all exact. */
-struct float_kind {
-    bool single;
-    int most_digits, most_whole;
-};
-
-static bool gives_again(const char *text, double number, struct float_kind kind) {
-    return kind.single ? strtof(text, NULL) == (float)number : strtod(text, NULL) == number;
-}
-
-/* The fewest digits that, rounded, give the same number again; without an exponent from 0.00001 up to
- * the numbers whose whole part would need zeros that are not known to be there. What is no number is
- * told by its bits. */
-static void print_float(const struct screen *screen, double number, uint64_t bits,
-                        struct float_kind kind) {
-    char text[40];
-    int after = 0; /* digits after the first */
-    if (isnan(number)) {
-        fprintf(screen->out, "nan (bits %0*" PRIx64 ")", kind.single ? 8 : 16, bits);
-        return;
-    }
-    if (isinf(number)) {
-        fputs(number < 0 ? "-inf" : "inf", screen->out);
-        return;
-    }
-    snprintf(text, sizeof text, "%.0e", number);
-    while (!gives_again(text, number, kind) && after + 1 < kind.most_digits)
-        snprintf(text, sizeof text, "%.*e", ++after, number);
-    int exponent = atoi(strchr(text, 'e') + 1);
-    if (exponent < -5 || exponent >= kind.most_whole)
-        fputs(text, screen->out);
-    else
-        fprintf(screen->out, "%.*f", after > exponent ? after - exponent : 0, number);
-}
-
-static void print_float64(const struct screen *screen, uint64_t bits) {
-    double number;
-    memcpy(&number, &bits, sizeof number);
-    print_float(screen, number, bits, (struct float_kind){false, 17, 15});
-}
-
-static void print_float32(const struct screen *screen, uint32_t bits) {
-    float number;
-    memcpy(&number, &bits, sizeof number);
-    print_float(screen, (double)number, bits, (struct float_kind){true, 9, 7});
 }
 
 /* A number of bytes in the largest unit that divides it. */

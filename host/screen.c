@@ -3,11 +3,19 @@
 
 #include <stdarg.h>
 #include <stdlib.h>
+#include <sys/ioctl.h>
 #include <unistd.h>
+
+/* How wide a terminal is; what does not say so, and what is none, has no end. */
+static size_t columns_of(FILE *out) {
+    struct winsize size = {0};
+    bool known = isatty(fileno(out)) && ioctl(fileno(out), TIOCGWINSZ, &size) == 0;
+    return known && size.ws_col > 0 ? size.ws_col : SIZE_MAX;
+}
 
 struct screen screen_on(FILE *out, size_t most_text) {
     bool colour = isatty(fileno(out)) && getenv("NO_COLOR") == NULL;
-    return (struct screen){out, colour, most_text};
+    return (struct screen){out, colour, most_text, columns_of(out)};
 }
 
 static const char *code_of(enum ink ink) {
@@ -61,17 +69,25 @@ static size_t character(const uint8_t *text, size_t length, uint32_t *code) {
     return size;
 }
 
-/* Controls (C0, DEL, C1), the soft hyphen, characters of no width, line separators, marks that turn the
- * direction of writing, the byte order mark, marks of annotations, and tags. */
+/* Whether a character shows nothing or moves the cursor, by Unicode 15: controls, format characters,
+ * separators and all spaces but the common one (Cc, Cf, Zl, Zp, Zs), what is to be ignored by default
+ * (Default_Ignorable_Code_Point), blanks that count as letters or signs (2800, 13441, 13442, 16fe4, 1d159),
+ * and noncharacters. */
 static bool unseen(uint32_t code) {
     static const uint32_t ranges[][2] = {
-        {0x0, 0x1f},      {0x7f, 0x9f},     {0xad, 0xad},     {0x61c, 0x61c},     {0x180e, 0x180e},
-        {0x200b, 0x200f}, {0x2028, 0x202e}, {0x2060, 0x206f}, {0xfeff, 0xfeff},   {0xfff9, 0xfffb},
-        {0xe0000, 0xe0fff}};
+        {0x0, 0x1f},         {0x7f, 0xa0},       {0xad, 0xad},       {0x34f, 0x34f},
+        {0x600, 0x605},      {0x61c, 0x61c},     {0x6dd, 0x6dd},     {0x70f, 0x70f},
+        {0x890, 0x891},      {0x8e2, 0x8e2},     {0x115f, 0x1160},   {0x1680, 0x1680},
+        {0x17b4, 0x17b5},    {0x180b, 0x180f},   {0x2000, 0x200f},   {0x2028, 0x202f},
+        {0x205f, 0x206f},    {0x2800, 0x2800},   {0x3000, 0x3000},   {0x3164, 0x3164},
+        {0xfdd0, 0xfdef},    {0xfe00, 0xfe0f},   {0xfeff, 0xfeff},   {0xffa0, 0xffa0},
+        {0xfff0, 0xfffb},    {0x110bd, 0x110bd}, {0x110cd, 0x110cd}, {0x13430, 0x1343f},
+        {0x13441, 0x13442},  {0x16fe4, 0x16fe4}, {0x1bca0, 0x1bca3}, {0x1d159, 0x1d159},
+        {0x1d173, 0x1d17a},  {0xe0000, 0xe0fff}};
     for (size_t i = 0; i < sizeof ranges / sizeof ranges[0]; i++)
         if (code >= ranges[i][0] && code <= ranges[i][1])
             return true;
-    return false;
+    return (code & 0xfffe) == 0xfffe;
 }
 
 /* Whether a character that can be seen needs a backslash before it. */

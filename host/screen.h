@@ -13,6 +13,7 @@ struct screen {
     FILE *out;
     bool colour;
     size_t most_text; /* texts and bytes longer than this are cut, and the cut is said */
+    size_t columns;   /* of the terminal */
 };
 
 /* A screen on a stream: in colour only if that is a terminal and NO_COLOR is not set. */
@@ -32,7 +33,7 @@ void print_indent(const struct screen *screen, unsigned depth);
  * escaped. BARE: backslashes escaped. AS_IT_IS: for JSON, which has escapes of its own. */
 enum writing { QUOTED, BARE, AS_IT_IS };
 
-/* Prints UTF-8 text. Control characters, characters that show nothing and marks that turn the
+/* Prints UTF-8 text. Control characters, blanks and all else that shows nothing, and marks that turn the
  * direction of writing are printed as escapes, so that no text can move the cursor or hide a part of
  * itself. Bytes that are no UTF-8 are printed as \xNN. */
 void print_text(const struct screen *screen, const uint8_t *text, size_t length,

@@ -36,21 +36,63 @@ static struct part *add_part(struct message *message, const char *name, size_t b
     return part;
 }
 
-/* A descriptor whose id is the field before it. */
-static void compile_part(struct message *message, const char *name, size_t back,
+/* A descriptor whose id is the field before it; whether it is accepted. */
+static bool compile_part(struct message *message, const char *name, size_t back,
                          struct plan *plan) {
     struct part *part = add_part(message, name, back);
     part->kind = DESCRIPTOR_PART;
     part->plan = plan;
     part->answer = plan_compile(plan, message->bytes + field_start(message, back + 1), part->bytes,
                                 part->length);
+    return part->answer.number == 0;
 }
 
-/* A value in the last field, by a plan; unread without one. */
-static void run_part(struct message *message, const char *name, struct plan *plan) {
+/* From the current message on it is not certain what values are read by. If it was not before, the
+ * first message that left it open counts. */
+static void lose(struct description *description, unsigned long message) {
+    description->plan.known = false;
+    if (description->lost == 0)
+        description->lost = message;
+}
+
+static void lose_both(struct session *session) {
+    lose(&session->output, session->message.number);
+    lose(&session->state, session->message.number);
+}
+
+/* A T or s that was read. If a descriptor in it is refused it describes nothing, and what was described
+ * before is out of date all the same. */
+static void settle(struct session *session, struct description *description, bool accepted) {
+    if (accepted)
+        description->lost = 0;
+    else
+        lose_both(session);
+}
+
+/* Whether the rest of a message's record is not read: it is not whole, or its length is not permitted,
+ * so that nobody knows where the next one starts. */
+static bool ends_record(const struct message *message) {
+    uint32_t number = message->answer.number;
+    return number == REMBULFOSE_NOT_WHOLE || number == REMBULFOSE_BAD_LENGTH;
+}
+
+/* Whether a message that is refused may have been a newer description, or hide one: a T or an s, whoever
+ * is said to have sent it; one whose type is not known, unless it is the client's, who sends many that
+ * are none of the ten; and one that leaves the rest of its record unread. */
+static bool may_describe(const struct message *message) {
+    bool unknown = message->answer.number == REMBULFOSE_UNKNOWN_TYPE;
+    bool describes = message->bytes[0] == 'T' || message->bytes[0] == 's';
+    return describes || (unknown && message->record.side != CLIENT) || ends_record(message);
+}
+
+/* A value in the last field, by a plan; without one it is not described, since a message or at all. */
+static void run_part(struct message *message, const char *name, struct plan *plan,
+                     unsigned long lost) {
     struct part *part = add_part(message, name, 1);
-    if (plan == NULL || !plan->known)
+    if (plan == NULL || !plan->known) {
+        part->lost = lost;
         return;
+    }
     part->kind = VALUE_PART;
     part->plan = plan;
     part->answer = rembulfose_run(plan->words, plan->length, part->bytes, part->length,
@@ -59,41 +101,42 @@ static void run_part(struct message *message, const char *name, struct plan *pla
 
 /* The plan of state data: that of the last s, if it has this id; id zero is "no type". */
 static struct plan *state_plan(struct session *session, const uint8_t *id) {
-    if (memcmp(id, session->none.id, 16) == 0)
+    struct plan *plan = &session->state.plan;
+    if (memcmp(id, session->none.id, sizeof session->none.id) == 0)
         return &session->none;
-    return memcmp(id, session->state.id, 16) == 0 ? &session->state : NULL;
+    return memcmp(id, plan->id, sizeof plan->id) == 0 ? plan : NULL;
 }
 
 /* Looks into a message of the server that was read. */
 static void take_parts(struct session *session, struct message *message) {
+    bool good;
     switch (message->bytes[0]) {
     case 'T':
-        compile_part(message, "input descriptor", 3, &session->input);
-        compile_part(message, "output descriptor", 1, &session->output);
+        good = compile_part(message, "input descriptor", 3, &session->input);
+        good = compile_part(message, "output descriptor", 1, &session->output.plan) && good;
+        settle(session, &session->output, good);
         return;
     case 's':
-        compile_part(message, "state descriptor", 1, &session->state);
+        good = compile_part(message, "state descriptor", 1, &session->state.plan);
+        settle(session, &session->state, good);
         return;
     case 'C':
         run_part(message, "state data",
-                 state_plan(session, message->bytes + field_start(message, 2)));
+                 state_plan(session, message->bytes + field_start(message, 2)),
+                 session->state.lost);
         return;
     case 'D':
         message->row = ++session->rows;
-        run_part(message, "row", &session->output);
+        run_part(message, "row", &session->output.plan, session->output.lost);
         return;
     default:
         return;
     }
 }
 
-/* How many bytes of the record a message takes. One that is not whole, or whose length is not
- * permitted, takes all that is left: where the next one starts is not known. */
+/* How many bytes of the record a message takes, of those that are left. */
 static size_t message_length(const struct message *message, size_t left) {
-    uint32_t number = message->answer.number;
-    if (number == REMBULFOSE_NOT_WHOLE || number == REMBULFOSE_BAD_LENGTH)
-        return left;
-    return 1 + (size_t)get_32(message->bytes + 1);
+    return ends_record(message) ? left : 1 + (size_t)get_32(message->bytes + 1);
 }
 
 static void take_message(struct session *session) {
@@ -113,6 +156,8 @@ static void take_message(struct session *session) {
     session->used += message->length;
     if (message->answer.number == 0 && record->side == SERVER)
         take_parts(session, message);
+    else if (message->answer.number != 0 && may_describe(message))
+        lose_both(session);
 }
 
 bool session_next(struct session *session) {

@@ -15,7 +15,9 @@ struct part {
     const uint8_t *bytes;
     size_t length, at;      /* at: where they start in the capture */
     struct plan *plan;      /* that was compiled, or that the value was run by */
-    rembulfose_answer answer; /* the library's; of UNREAD_PART (no plan for it) zero */
+    rembulfose_answer answer; /* the library's; of UNREAD_PART (not described) zero */
+    unsigned long lost;     /* of UNREAD_PART: the message since which its description is lost; 0 if
+                             * none was met */
 };
 
 enum event { MESSAGE, CUT_RECORD };
@@ -34,6 +36,14 @@ struct message {
     uint8_t list[MOST_WORD_BYTES];   /* of its value, if it has one that was accepted */
 };
 
+/* What values of one kind, rows or state data, are read by: the descriptor of the last T or s, as long as
+ * it is certain that it was the last (README.md, "What is read by what"). */
+struct description {
+    struct plan plan;
+    unsigned long lost;       /* the message since which that is not certain; 0 if the plan is known, or
+                               * if no description was met */
+};
+
 struct session {
     const struct capture *capture;
     size_t position;          /* in the capture: the next record */
@@ -41,7 +51,8 @@ struct session {
     size_t used;              /* bytes of the record */
     bool said_cut;            /* whether it was said that the record is cut */
     unsigned long messages, rows;
-    struct plan input, output, state, none; /* of the last T and s; "none" is the plan of "no type" */
+    struct description output, state; /* of rows and of state data */
+    struct plan input, none;  /* of the last T's arguments, only shown; and of "no type" */
     struct message message;   /* the current one */
 };
 

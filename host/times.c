@@ -52,7 +52,7 @@ void print_time(const struct screen *screen, int64_t microseconds) {
     if (microseconds >= 0 && microseconds < DAY)
         print_clock(screen, microseconds);
     else
-        fprintf(screen->out, "%" PRId64 " microseconds, outside of a day", microseconds);
+        fprintf(screen->out, "%" PRId64 " microseconds (outside of a day)", microseconds);
 }
 
 /* One part of a duration with its unit; nothing if it is zero. */

@@ -32,6 +32,8 @@
 extern "C" {
 #endif
 
+#define REMBULFOSE_VERSION "0.1.0"
+
 #define REMBULFOSE_STACK 262144
 
 /* What a call answers. number: 0, or the refusal. place: where, if it is refused. first and second: said at each call;

@@ -1,8 +1,9 @@
 /* Makes the captures of the panel tests from the demo's: some parts of it, and damaged ones.
  *
- *     captures DEMO FOLDER
+ *     captures DEMO FOLDER DESCRIBED
  *
- * Most start from a short form of the demo, with two of its twenty rows. */
+ * Most start from a short form of the demo, with two of its twenty rows. In those that go to the folder
+ * DESCRIBED, descriptions are sent more than once. */
 #include "../../host/bytes.h"
 #include "../../host/capture.h"
 
@@ -13,10 +14,15 @@
 
 enum { HEAD = 5, MOST_RECORDS = 64 };
 
-/* The demo's messages, counted from 0: the description, the first three rows, the last row, and the
- * closing messages. In the short form those after the second row are the same, 18 earlier. */
-enum { DESCRIPTION = 5, ROW_1 = 6, ROW_2 = 7, ROW_3 = 8, LAST_ROW = 25, COMPLETE = 8, TWICE = 12 };
-enum { READY = 3 };
+/* The demo's messages, counted from 0: the state's description, the client's Sync, the description of
+ * rows, the first three rows, the last row, and the closing messages. In the short form those after the
+ * second row are the same, 18 earlier. */
+enum { STATE = 2, READY = 3, SYNC = 4, DESCRIPTION = 5, ROW_1 = 6, ROW_2 = 7, ROW_3 = 8 };
+enum { LAST_ROW = 25, COMPLETE = 8, TWICE = 12 };
+
+/* The short form in which both descriptions and a Sync are sent once more between the two rows: what
+ * is done to these tells by what the second row and the state data after it are read. */
+enum { DESCRIPTION_AGAIN = 7, STATE_AGAIN = 8, SYNC_AGAIN = 9 };
 
 /* A capture in memory, with the place of each record's head. */
 struct copy {
@@ -44,14 +50,22 @@ static void find_records(struct copy *copy) {
     copy->records[copy->count] = copy->length;
 }
 
-/* The demo without the records from one up to, and not with, another. */
-static struct copy without(const struct copy *demo, size_t from, size_t to) {
-    struct copy copy = {malloc(demo->length), 0, {0}, 0};
-    size_t start = demo->records[from], end = demo->records[to];
+/* Records from one up to, and not with, another. */
+struct stretch {
+    size_t from, to;
+};
+
+/* A copy of so many stretches of records, one after the other. */
+static struct copy joined(const struct copy *of, const struct stretch *stretches, size_t count) {
+    struct copy copy = {malloc(2 * of->length), 0, {0}, 0};
     must(copy.bytes != NULL, "memory");
-    memcpy(copy.bytes, demo->bytes, start);
-    memcpy(copy.bytes + start, demo->bytes + end, demo->length - end);
-    copy.length = start + demo->length - end;
+    memcpy(copy.bytes, of->bytes, copy.length = strlen(CAPTURE_MAGIC));
+    for (size_t i = 0; i < count; i++) {
+        size_t start = of->records[stretches[i].from], end = of->records[stretches[i].to];
+        must(copy.length + end - start <= 2 * of->length, "the stretches are too long");
+        memcpy(copy.bytes + copy.length, of->bytes + start, end - start);
+        copy.length += end - start;
+    }
     find_records(&copy);
     return copy;
 }
@@ -100,6 +114,31 @@ static const struct damage head_damages[] = {
     {"record-short", ROW_2, 1, 4, 100},
 };
 
+/* Of what is sent again. In a T the cardinality stands at 43, the input descriptor at 64, the output
+ * descriptor's length at 199 and the descriptor after it; in an s the length at 21. */
+static const struct damage again_damages[] = {
+    {"description-length", DESCRIPTION_AGAIN, 1, 4, 3},
+    {"description-not-whole", DESCRIPTION_AGAIN, 1, 4, 3000},
+    {"description-type", DESCRIPTION_AGAIN, 0, 1, 'Q'},
+    {"description-past-end", DESCRIPTION_AGAIN, 199, 4, 1126},
+    {"description-left", DESCRIPTION_AGAIN, 199, 4, 1124},
+    {"description-field", DESCRIPTION_AGAIN, 43, 1, 'x'},
+    {"description-output", DESCRIPTION_AGAIN, 203, 1, 12},
+    {"description-input", DESCRIPTION_AGAIN, 64, 1, 12},
+    {"state-length", STATE_AGAIN, 1, 4, 65536},
+    {"state-not-whole", STATE_AGAIN, 1, 4, 3000},
+    {"state-past-end", STATE_AGAIN, 21, 4, 203},
+    {"state-descriptor", STATE_AGAIN, 25, 1, 12},
+    {"sync-type", SYNC_AGAIN, 0, 1, 'O'},
+    {"sync-not-whole", SYNC_AGAIN, 1, 4, 9},
+};
+
+static const struct damage again_head_damages[] = {
+    {"description-side-client", DESCRIPTION_AGAIN, 0, 1, CLIENT},
+    {"description-side-unknown", DESCRIPTION_AGAIN, 0, 1, 7},
+    {"state-side-client", STATE_AGAIN, 0, 1, CLIENT},
+};
+
 static void damage(const char *folder, struct copy copy, const struct damage *damage, size_t skip) {
     uint8_t bytes[4], before[4];
     uint8_t *at = copy.bytes + copy.records[damage->record] + skip + damage->offset;
@@ -108,6 +147,22 @@ static void damage(const char *folder, struct copy copy, const struct damage *da
     memcpy(at, bytes + 4 - damage->size, damage->size);
     save(folder, damage->name, copy.bytes, copy.length);
     memcpy(at, before, damage->size);
+}
+
+/* Damages of the message and of the head before it. */
+static void damage_all(const char *folder, struct copy copy, const struct damage *all, size_t count,
+                       size_t skip) {
+    for (size_t i = 0; i < count; i++)
+        damage(folder, copy, &all[i], skip);
+}
+
+/* A record of which only so many bytes were kept, as its head says, and the records after it. */
+static void save_cut(const char *folder, const char *name, struct copy copy, size_t record,
+                     size_t kept) {
+    size_t end = copy.records[record] + HEAD + kept, next = copy.records[record + 1];
+    put_32(copy.bytes + copy.records[record] + 1, (uint32_t)kept);
+    memmove(copy.bytes + end, copy.bytes + next, copy.length - next);
+    save(folder, name, copy.bytes, copy.length - (next - end));
 }
 
 /* The bytes of one side alone, from a record on. */
@@ -139,19 +194,52 @@ static void save_parts(const char *folder, const struct copy *copy) {
     free(out);
 }
 
+/* The short form, its parts, and damaged ones. */
+static struct copy save_short(const char *folder, const struct copy *whole) {
+    const struct stretch stretches[] = {{0, ROW_3}, {LAST_ROW + 1, whole->count}};
+    struct copy copy = joined(whole, stretches, 2);
+    save(folder, "two-rows", copy.bytes, copy.length);
+    save_parts(folder, &copy);
+    damage_all(folder, copy, damages, sizeof damages / sizeof damages[0], HEAD);
+    damage_all(folder, copy, head_damages, sizeof head_damages / sizeof head_damages[0], 0);
+    return copy;
+}
+
+/* A description that is refused, and after it a good one. The demo's last record, which is refused, is
+ * left out here and below. */
+static void save_anew(const char *folder, const struct copy *two_rows) {
+    static const struct damage first = {"description-anew", DESCRIPTION, 43, 1, 'x'};
+    const struct stretch stretches[] = {{0, ROW_1}, {DESCRIPTION, TWICE}};
+    struct copy copy = joined(two_rows, stretches, 2);
+    damage(folder, copy, &first, HEAD);
+    free(copy.bytes);
+}
+
+/* Descriptions that are sent again: good ones, and with each damage that may lose them. */
+static void save_again(const char *folder, const struct copy *two_rows) {
+    const struct stretch stretches[] = {{0, ROW_2},
+                                        {DESCRIPTION, DESCRIPTION + 1},
+                                        {STATE, STATE + 1},
+                                        {SYNC, SYNC + 1},
+                                        {ROW_2, TWICE}};
+    struct copy copy = joined(two_rows, stretches, sizeof stretches / sizeof stretches[0]);
+    save(folder, "good", copy.bytes, copy.length);
+    damage_all(folder, copy, again_damages, sizeof again_damages / sizeof again_damages[0], HEAD);
+    damage_all(folder, copy, again_head_damages,
+               sizeof again_head_damages / sizeof again_head_damages[0], 0);
+    save_cut(folder, "description-cut", copy, DESCRIPTION_AGAIN, 300);
+    free(copy.bytes);
+}
+
 int main(int count, char **words) {
     struct capture demo;
-    must(count == 3, "usage: captures DEMO FOLDER");
+    must(count == 4, "usage: captures DEMO FOLDER DESCRIBED");
     must(capture_load(&demo, words[1], SERVER) && demo.marked, words[1]);
     struct copy whole = {demo.bytes, demo.length, {0}, 0};
     find_records(&whole);
-    struct copy two_rows = without(&whole, ROW_3, LAST_ROW + 1);
-    save(words[2], "two-rows", two_rows.bytes, two_rows.length);
-    save_parts(words[2], &two_rows);
-    for (size_t i = 0; i < sizeof damages / sizeof damages[0]; i++)
-        damage(words[2], two_rows, &damages[i], HEAD);
-    for (size_t i = 0; i < sizeof head_damages / sizeof head_damages[0]; i++)
-        damage(words[2], two_rows, &head_damages[i], 0);
+    struct copy two_rows = save_short(words[2], &whole);
+    save_again(words[3], &two_rows);
+    save_anew(words[3], &two_rows);
     free(two_rows.bytes);
     capture_free(&demo);
     return 0;

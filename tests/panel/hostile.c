@@ -70,7 +70,7 @@ static void run(const uint8_t *bytes, size_t length) {
     where[below(4) == 0 ? 0 : 1 + strcspn(where + 1, below(2) ? "." : "")] = 0;
     count("show", panel_main(3, show), 0);
     count("check", panel_main(3, check), 1);
-    count("check --client", panel_main(4, client), 1);
+    count("check --client", panel_main(4, client), 2); /* 2: the capture is side-marked */
     count("find", panel_main(5, find), 1);
 }
 
@@ -149,18 +149,27 @@ static void prepare(void) {
     snprintf(path, sizeof path, "/proc/self/fd/%d", file);
 }
 
+/* The number of cases; one that is none, or zero, is an error. */
+static long cases_of(const char *word) {
+    char *end;
+    long cases = strtol(word, &end, 10);
+    must(*word != 0 && *end == 0 && cases > 0, "CASES is a number from 1 up");
+    return cases;
+}
+
 int main(int words_count, char **words) {
     struct bytes captures[MOST_CAPTURES];
     uint8_t *bytes = malloc(ROOM);
     int captures_count = words_count - 2;
     must(bytes != NULL && captures_count > 0 && captures_count <= MOST_CAPTURES, "usage");
+    long cases = cases_of(words[1]);
     prepare();
     for (int i = 0; i < captures_count; i++) {
         captures[i] = load(words[i + 2]);
         for (size_t cut = 0; cut < captures[i].length; cut++)
             run(captures[i].at, cut);
     }
-    for (long cases = atol(words[1]); cases > 0; cases--)
+    for (; cases > 0; cases--)
         run(bytes, make(&captures[below((size_t)captures_count)], bytes));
     for (int i = 0; i < captures_count; i++)
         free(captures[i].at);
