@@ -7,6 +7,8 @@
  * Each CAPTURE is first cut at every byte; then so many cases are made from them at random. The
  * program's own main is compiled as panel_main. */
 #define _GNU_SOURCE
+#include "../../host/capture.h"
+
 #include <stdint.h>
 #include <stdio.h>
 #include <stdlib.h>
@@ -16,10 +18,10 @@
 
 int panel_main(int count, char **words);
 
-enum { MOST_CAPTURES = 64, ROOM = 1 << 17, MOST_EDITS = 6 };
+enum { MOST_CAPTURES = 8, ROOM = 1 << 17, MOST_EDITS = 6 };
 
 struct bytes {
-    uint8_t *at;
+    uint8_t at[ROOM];
     size_t length;
 };
 
@@ -58,29 +60,36 @@ static void count(const char *command, int status, int most) {
     fprintf(report, "failed: %s ended with %d, case %lu\n", command, status, passed + failed);
 }
 
-/* Runs the three commands on these bytes. */
+static void store(const uint8_t *bytes, size_t length) {
+    must(ftruncate(file, 0) == 0 && pwrite(file, bytes, length, 0) == (ssize_t)length, path);
+}
+
+/* Runs the three commands on these bytes, and then takes them as the client's: without the first line of
+ * a side-marked capture, which is not taken so. */
 static void run(const uint8_t *bytes, size_t length) {
+    static const char magic[] = CAPTURE_MAGIC;
     char row[16], where[48];
     char *show[] = {"panel", "show", path, NULL}, *check[] = {"panel", "check", path, NULL};
     char *client[] = {"panel", "check", "--client", path, NULL};
     char *find[] = {"panel", "find", path, row, where, NULL};
-    must(ftruncate(file, 0) == 0 && pwrite(file, bytes, length, 0) == (ssize_t)length, path);
+    store(bytes, length);
     snprintf(row, sizeof row, "%zu", 1 + below(3));
     snprintf(where, sizeof where, "%zu.%zu.%zu", below(16), below(4), below(3));
     where[below(4) == 0 ? 0 : 1 + strcspn(where + 1, below(2) ? "." : "")] = 0;
     count("show", panel_main(3, show), 0);
     count("check", panel_main(3, check), 1);
-    count("check --client", panel_main(4, client), 2); /* 2: the capture is side-marked */
     count("find", panel_main(5, find), 1);
+    size_t skip = sizeof magic - 1;
+    if (length >= skip && memcmp(bytes, magic, skip) == 0)
+        store(bytes + skip, length - skip);
+    count("check --client", panel_main(4, client), 1);
 }
 
-static struct bytes load(const char *name) {
-    struct bytes bytes = {malloc(ROOM), 0};
+static void load(struct bytes *bytes, const char *name) {
     FILE *from = fopen(name, "rb");
-    must(from != NULL && bytes.at != NULL, name);
-    bytes.length = fread(bytes.at, 1, ROOM, from);
+    must(from != NULL, name);
+    bytes->length = fread(bytes->at, 1, sizeof bytes->at, from);
     must(!ferror(from) && fclose(from) == 0, name);
-    return bytes;
 }
 
 /* A length that is likely to matter: near the number that stands there, or at an edge. */
@@ -158,22 +167,19 @@ static long cases_of(const char *word) {
 }
 
 int main(int words_count, char **words) {
-    struct bytes captures[MOST_CAPTURES];
-    uint8_t *bytes = malloc(ROOM);
+    static struct bytes captures[MOST_CAPTURES];
+    static uint8_t bytes[ROOM];
     int captures_count = words_count - 2;
-    must(bytes != NULL && captures_count > 0 && captures_count <= MOST_CAPTURES, "usage");
+    must(captures_count > 0 && captures_count <= MOST_CAPTURES, "usage");
     long cases = cases_of(words[1]);
     prepare();
     for (int i = 0; i < captures_count; i++) {
-        captures[i] = load(words[i + 2]);
+        load(&captures[i], words[i + 2]);
         for (size_t cut = 0; cut < captures[i].length; cut++)
             run(captures[i].at, cut);
     }
     for (; cases > 0; cases--)
         run(bytes, make(&captures[below((size_t)captures_count)], bytes));
-    for (int i = 0; i < captures_count; i++)
-        free(captures[i].at);
-    free(bytes);
     fprintf(report, "%lu passed, %lu failed\n", passed, failed);
     fclose(report);
     return failed > 0;
