@@ -4,7 +4,7 @@
 
 use crate::fault;
 use crate::rng::Rng;
-use crate::tally::{demand, Counted, Tally};
+use crate::tally::{Counted, Demand, Tally};
 use second::crossing::Answer;
 use std::fmt::Display;
 use std::process::ExitCode;
@@ -80,7 +80,7 @@ fn run<C: Comparison>(cases: u64, seed: u64) -> ExitCode {
         print!("{tally}");
     }
     println!("seed {seed}, {:.1} s", began.elapsed().as_secs_f64());
-    finish(total, demand(cases), &tallies)
+    finish(total, &Demand::of(cases), &tallies)
 }
 
 /// Shows a case before it is run, since the call may fault.
@@ -105,18 +105,16 @@ fn run_only<C: Comparison>(seed: u64, only: u64) -> ExitCode {
     }
 }
 
-/// A run in which some refusal was hardly seen has not compared enough.
-fn finish(passed: u64, demand: u64, tallies: &[Tally]) -> ExitCode {
-    let mut enough = true;
-    for tally in tallies {
-        for number in tally.scarce(demand) {
-            println!(
-                "{}: refusal {number} was given fewer than {demand} times",
-                tally.call()
-            );
-            enough = false;
-        }
+/// A run in which some answer was hardly seen has not compared enough.
+fn finish(passed: u64, demand: &Demand, tallies: &[Tally]) -> ExitCode {
+    let scarce: Vec<String> = tallies
+        .iter()
+        .flat_map(|tally| tally.scarce(demand))
+        .collect();
+    for line in &scarce {
+        println!("{line}");
     }
-    println!("{passed} passed, {} failed", u8::from(!enough));
-    ExitCode::from(u8::from(!enough))
+    let failed = u8::from(!scarce.is_empty());
+    println!("{passed} passed, {failed} failed");
+    ExitCode::from(failed)
 }
