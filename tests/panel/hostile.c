@@ -18,7 +18,7 @@
 
 int panel_main(int count, char **words);
 
-enum { MOST_CAPTURES = 8, ROOM = 1 << 17, MOST_EDITS = 6 };
+enum { MOST_CAPTURES = 8, ROOM = 1 << 17, MOST_EDITS = 6, LEAST_GOOD = 50 };
 
 struct bytes {
     uint8_t at[ROOM];
@@ -30,6 +30,7 @@ static FILE *report;
 static char path[64]; /* of the file that the commands read */
 static int file;
 static unsigned long passed, failed;
+static unsigned long checked, found; /* how often `check` found nothing wrong, and `find` an element */
 static uint64_t state = 1;
 
 /* The same numbers everywhere (splitmix64). */
@@ -77,8 +78,11 @@ static void run(const uint8_t *bytes, size_t length) {
     snprintf(where, sizeof where, "%zu.%zu.%zu", below(16), below(4), below(3));
     where[below(4) == 0 ? 0 : 1 + strcspn(where + 1, below(2) ? "." : "")] = 0;
     count("show", panel_main(3, show), 0);
-    count("check", panel_main(3, check), 1);
-    count("find", panel_main(5, find), 1);
+    int check_status = panel_main(3, check), find_status = panel_main(5, find);
+    count("check", check_status, 1);
+    count("find", find_status, 1);
+    checked += check_status == 0;
+    found += find_status == 0;
     size_t skip = sizeof magic - 1;
     if (length >= skip && memcmp(bytes, magic, skip) == 0)
         store(bytes + skip, length - skip);
@@ -166,6 +170,14 @@ static long cases_of(const char *word) {
     return cases;
 }
 
+/* A run in which nearly everything is refused has not tried what comes after a good message. */
+static void demand(const char *command, unsigned long good) {
+    if (good >= LEAST_GOOD)
+        return;
+    failed++;
+    fprintf(report, "failed: %s ended well %lu times, fewer than %d\n", command, good, LEAST_GOOD);
+}
+
 int main(int words_count, char **words) {
     static struct bytes captures[MOST_CAPTURES];
     static uint8_t bytes[ROOM];
@@ -180,6 +192,8 @@ int main(int words_count, char **words) {
     }
     for (; cases > 0; cases--)
         run(bytes, make(&captures[below((size_t)captures_count)], bytes));
+    demand("check", checked);
+    demand("find", found);
     fprintf(report, "%lu passed, %lu failed\n", passed, failed);
     fclose(report);
     return failed > 0;
