@@ -105,13 +105,13 @@ static void take_block(struct rest *rest, uint8_t tag, struct name *slots, uint3
 void plan_take_names(struct plan *plan, const uint8_t *descriptor, size_t length) {
     struct rest rest = {descriptor, length};
     uint32_t node = 2, words = (uint32_t)(plan->length / 4);
-    while (rest.left > 0) {
-        uint8_t tag = *take(&rest, 1);
-        uint32_t size = has_values(tag) && node < words ? plan_node_words(plan, node) : 0;
+    const uint8_t *tag;
+    while ((tag = take(&rest, 1)) != NULL) {
+        uint32_t size = has_values(*tag) && node < words ? plan_node_words(plan, node) : 0;
         uint32_t slot_count = size > 2 && node + size <= words ? size - 2 : 0;
-        take_block(&rest, tag, slot_count > 0 ? plan->names + node + 2 : NULL, slot_count);
+        take_block(&rest, *tag, slot_count > 0 ? plan->names + node + 2 : NULL, slot_count);
         if (size > 0)
-            plan->tags[node] = tag;
+            plan->tags[node] = *tag;
         node += size;
     }
 }
