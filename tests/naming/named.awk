@@ -7,12 +7,15 @@
 #                                      of programs: `build/..` is an edit after the word must-fail, and else a program.
 #   `rembulfose_..`, `make target`     a C call; a target of the Makefile
 #   tests/.., host/.., ..              a file or folder, in backticks or not
-# In TRACE and PROMISES no other name may stand in backticks (kind 'unplaced'); elsewhere another one is a name of some crate (kind 'name').
+# In TRACE and PROMISES no other name may stand in backticks (kind 'unplaced'); elsewhere any other is a crate. The variable foreign lists words
+# that are no names of ours.
 # Code that is set apart gives paths and make's targets only; but for README's list of promises, which has names and their file.
 BEGIN {
   TOP = "^(bench|build|crates|demo|docs|examples|host|include|second|tests|[.]ci)/"
   PLACE = "^[a-z_]+/(specs|proofs|src)([/:,;.]|$)"
   EDIT = "^[a-z_]+/[a-z_0-9]+$"
+  n = split(foreign, words, " ")
+  for (i = 1; i <= n; i++) is_foreign[words[i]]
 }
 
 FNR == 1 { begin_document() }
@@ -139,14 +142,13 @@ function name(token,   d) {
   for (d = depth; d > 0 && at[d] == ""; d--);
   if (at[d] != "" && (d == depth || token ~ / \./)) say(kind_of(at[d]), at[d] " " token)
   else if (at[d] != "") say("word", at[d] " " token)
-  else if (section == "Architecture") say("crate", token)
-  else if (doc !~ /host/) some_name(token)
+  else if (doc !~ /host/) bare(token)
 }
 
-# Of an expression the first word. A variable has at most three letters, and signs and figures are no names.
-function some_name(token) {
+# Of an expression the first word. A variable has at most two letters, and signs and figures are no names.
+function bare(token) {
   sub(/ .*/, "", token)
-  if (token ~ /^[A-Za-z]/ && length(token) > 3) say(strict ? "unplaced" : "name", token)
+  if (token ~ /^[A-Za-z]/ && length(token) > 2 && !(token in is_foreign)) say(strict ? "unplaced" : "crate", token)
 }
 
 function kind_of(file) {
