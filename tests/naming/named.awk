@@ -192,7 +192,8 @@ function code_line(   i, w) {
   }
 }
 
-# NAME, NAME  crates/CRATE/FOLDER/FILE  text. After 'ensures' come names of the contract, and shorter ones of its arguments.
+# NAME, NAME  crates/CRATE/FOLDER/FILE  text. A name in backticks is one of the list (kind 'promise'); after 'ensures' come names of the contract,
+# and shorter ones of its arguments.
 function promise_line(   i, file, w, words) {
   for (i = 1; i <= NF && $i !~ /^crates\//; i++);
   file = $i
@@ -202,6 +203,7 @@ function promise_line(   i, file, w, words) {
     sub(/,$/, "", w)
     say(kind_of(file), file " " w)
   }
+  for (i = split($0, words, "`") - 1; i > 1; i -= 2) say("promise", words[i])
   if (!match($0, / ensures /)) return
   i = split(substr($0, RSTART + 9), words, /[^A-Za-z]+/)
   for (; i > 0; i--) if (length(words[i]) > 4) say("word", file " " words[i])
