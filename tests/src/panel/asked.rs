@@ -1,19 +1,60 @@
 //! What `panel check` and `panel find` print, and how they end.
 
-use super::capture::{listed, Described, RowAt, Shown};
+use super::capture::{listed, RowAt, Shown};
+use super::described::Described;
 use super::refused::{self, Within, WORDS};
-use super::texts;
+use super::seen::Outcome;
+use super::texts::{self, Extent};
 use super::tree::Tree;
 use crate::crossed;
 use second::crossing::{find, find_number, Answer};
 use second::descriptor::{self, Descriptor};
 use second::refusal::{Refusal, ABSENT_ELEMENT, NO_ENTRY};
 
-/// Lines and exit status.
-pub type Ended = (Vec<String>, i32);
+/// What a command prints, what it prints as errors, and its exit status.
+#[derive(Default)]
+pub struct Ended {
+    pub lines: Vec<String>,
+    pub errors: Vec<String>,
+    pub status: i32,
+}
+
+/// How `check` ends where nothing was refused but not all is good.
+pub const NOTHING_TO_CHECK: &str = "there was nothing to check";
+pub const NOT_CHECKED: &str = "not checked, as no description of them was met";
 
 const GOOD: i32 = 0;
 const REFUSED: i32 = 1;
+const NOT_UNDERSTOOD: i32 = 2;
+
+impl Ended {
+    pub fn good(lines: Vec<String>) -> Ended {
+        let (errors, status) = (Vec::new(), GOOD);
+        Ended {
+            lines,
+            errors,
+            status,
+        }
+    }
+
+    fn refused(lines: Vec<String>) -> Ended {
+        let status = REFUSED;
+        Ended {
+            status,
+            ..Ended::good(lines)
+        }
+    }
+}
+
+/// A side-marked capture says itself who sent what, so that `--client` is an error.
+pub fn client_of_marked() -> Ended {
+    let why = "panel: --client is for one side's bytes, and this capture is side-marked";
+    Ended {
+        lines: Vec::new(),
+        errors: vec![why.into(), "Try `panel --help`.".into()],
+        status: NOT_UNDERSTOOD,
+    }
+}
 
 fn is_refusal(line: &String) -> bool {
     line.starts_with("    refused with ")
@@ -28,10 +69,10 @@ pub fn checked(shown: &Shown) -> Ended {
         .iter()
         .position(|line| is_refusal(line) || is_cut(line));
     let Some(first) = first else {
-        return unrefused(lines);
+        return unrefused(shown);
     };
     if is_cut(&lines[first]) {
-        return (vec![lines[first].clone()], REFUSED);
+        return Ended::refused(vec![lines[first].clone()]);
     }
     let is_head = |line: &String| line.starts_with("message ");
     let head = lines[..first].iter().rposition(is_head).expect("a message");
@@ -39,42 +80,40 @@ pub fn checked(shown: &Shown) -> Ended {
     let refusal = lines[first + 1..].iter().take_while(goes_on).count();
     let mut printed = vec![lines[head].clone()];
     printed.extend_from_slice(&lines[first..=first + refusal]);
-    (printed, REFUSED)
+    Ended::refused(printed)
 }
 
-fn unrefused(lines: &[String]) -> Ended {
-    let is_unread = |line: &&String| {
-        let what = line
-            .strip_prefix("  row: ")
-            .or(line.strip_prefix("  state data: "));
-        what.is_some_and(|what| what.starts_with("not read"))
-    };
-    let sum = lines.last().expect("a sum").clone();
-    match lines.iter().filter(is_unread).count() {
-        0 => (vec![sum], GOOD),
+/// Nothing was refused, so no description was lost: values that are not described never were.
+fn unrefused(shown: &Shown) -> Ended {
+    let sum = shown.lines.last().expect("a sum").clone();
+    let not_described = |(_, outcome): &&(_, Outcome)| *outcome == Outcome::NeverDescribed;
+    match shown.values.iter().filter(not_described).count() {
+        _ if shown.messages == 0 => Ended::refused(vec![sum, NOTHING_TO_CHECK.into()]),
+        0 => Ended::good(vec![sum]),
         count => {
             let plural = if count == 1 { "" } else { "s" };
-            let why = "not checked, as no description of them was met";
-            (vec![sum, format!("{why}: {count} value{plural}")], REFUSED)
+            let line = format!("{NOT_CHECKED}: {count} value{plural}");
+            Ended::refused(vec![sum, line])
         }
     }
 }
 
 /// The element of a row, counted from 1, that a path leads to.
 pub fn found(shown: &Shown, row: usize, path: &[u32]) -> Ended {
-    let refused = |line| (vec![line], REFUSED);
+    let refused = |line| Ended::refused(vec![line]);
     let Some(at) = row.checked_sub(1).and_then(|row| shown.rows.get(row)) else {
         let rows = shown.rows.len();
         return refused(format!("there is no row {row}: the capture has {rows}"));
     };
-    let Some(by) = at.by.filter(|by| by.accepted) else {
-        return refused(format!("row {row} has no accepted description before it"));
+    let by = match at.by.known() {
+        Ok(by) => by,
+        Err(why) => return refused(format!("row {row} is not described, {why}")),
     };
     let plan = descriptor::compile(by.descriptor, by.id, usize::MAX).expect("accepted");
     let (plan, path_bytes) = (crossed::list(&plan), crossed::list(path));
     let answer = find(&plan, at.bytes, &path_bytes);
     if answer.number != 0 {
-        return (not_found(answer, at), REFUSED);
+        return Ended::refused(not_found(answer, at));
     }
     let (size, start) = (texts::size(answer.second as usize), answer.first);
     let place = at.at + start as usize;
@@ -87,7 +126,7 @@ pub fn found(shown: &Shown, row: usize, path: &[u32]) -> Ended {
         let (format, bits) = (number.format, number.bits);
         lines.push(format!("as one number: format {format}, bits {bits:016x}"));
     }
-    (lines, GOOD)
+    Ended::good(lines)
 }
 
 fn not_found(answer: Answer, row: &RowAt) -> Vec<String> {
@@ -108,12 +147,12 @@ fn not_found(answer: Answer, row: &RowAt) -> Vec<String> {
 fn element(by: Described, row: &RowAt, found: Answer, path: &[u32]) -> Vec<String> {
     let Ok(entries) = listed(by, row.bytes) else {
         let bytes = &row.bytes[found.first as usize..][..found.second as usize];
-        return vec![texts::hex(bytes)];
+        return vec![texts::hex(bytes, Extent::Whole)];
     };
     match descriptor::read(by.descriptor, by.id).expect("accepted") {
         Descriptor::NoType => Vec::new(),
         Descriptor::Typed { blocks, root } => {
-            Tree::lines(&blocks.list, root, row.bytes, &entries, path)
+            Tree::lines(&blocks.list, root, row.bytes, &entries, path, Extent::Whole)
         }
     }
 }

@@ -40,7 +40,7 @@ pub fn date(days: i64) -> String {
 /// The time of day, or that it is none.
 pub fn time(microseconds: i64) -> String {
     if !(0..DAY).contains(&microseconds) {
-        return format!("{microseconds} microseconds, outside of a day");
+        return format!("{microseconds} microseconds (outside of a day)");
     }
     let seconds = microseconds / SECOND;
     let (hours, minutes) = (seconds / 3600, seconds / 60 % 60);

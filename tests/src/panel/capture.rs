@@ -1,8 +1,11 @@
 //! All that `panel show` prints of a capture, as host/README.md says it.
 
+use super::described::{Described, Description, Descriptions, Way};
+use super::fields;
 use super::refused::{self, Within};
+use super::seen::{Kind, Outcome};
+use super::texts::{self, Extent};
 use super::tree::{self, Tree};
-use super::{fields, texts};
 use second::descriptor::{self, Descriptor};
 use second::entry::Entry;
 use second::message::{read_message, SERVER};
@@ -15,17 +18,9 @@ pub const FIRST_LINE: &[u8] = b"rembulfose-capture 1\n";
 /// Words of a list or plan that can cross to a host.
 const MOST_WORDS: usize = 8_192;
 
-/// An accepted or refused description of values.
-#[derive(Clone, Copy)]
-pub struct Described<'a> {
-    pub id: &'a [u8],
-    pub descriptor: &'a [u8],
-    pub accepted: bool,
-}
-
 /// A row: by what it is read, its bytes, and where they start in the capture.
 pub struct RowAt<'a> {
-    pub by: Option<Described<'a>>,
+    pub by: Description<'a>,
     pub bytes: &'a [u8],
     pub at: usize,
 }
@@ -33,17 +28,20 @@ pub struct RowAt<'a> {
 /// All that is known of a capture.
 pub struct Shown<'a> {
     pub lines: Vec<String>,
+    pub messages: usize,
     pub rows: Vec<RowAt<'a>>,
+    /// What came of each value, in the order of the capture.
+    pub values: Vec<(Kind, Outcome)>,
 }
 
 /// What is known so far.
 #[derive(Default)]
 struct Session<'a> {
     capture: &'a [u8],
-    output: Option<Described<'a>>,
-    state: Option<Described<'a>>,
+    descriptions: Descriptions<'a>,
     messages: usize,
     rows: Vec<RowAt<'a>>,
+    values: Vec<(Kind, Outcome)>,
     refused: usize,
     lines: Vec<String>,
 }
@@ -67,7 +65,9 @@ pub fn shown(capture: &[u8], one_side: u32) -> Shown<'_> {
         .push(format!("{messages}, {rows}, {refused} refused"));
     Shown {
         lines: session.lines,
+        messages: session.messages,
         rows: session.rows,
+        values: session.values,
     }
 }
 
@@ -127,23 +127,37 @@ impl<'a> Session<'a> {
             texts::size(length)
         ));
         match read {
-            Ok(read) => {
-                self.lines.extend(fields::lines(side, bytes, &read.words));
-                let before = self.lines.len();
-                if side == SERVER {
-                    self.parts(bytes, &read.words, at);
-                }
-                let part_refused = |line: &String| line.starts_with("    refused with ");
-                self.refused += usize::from(self.lines[before..].iter().any(part_refused));
-            }
-            Err(refusal) => {
-                self.refused += 1;
-                let what = "message";
-                self.lines
-                    .extend(refused::lines(refusal, &Within { what, bytes, at }));
-            }
+            Ok(read) => self.accept(side, bytes, &read.words, at),
+            Err(refusal) => self.refuse(side, bytes, refusal, at),
         }
         length
+    }
+
+    /// A message that was read counts as refused if a part of it is.
+    fn accept(&mut self, side: u32, message: &'a [u8], words: &[u32], at: usize) {
+        self.lines.extend(fields::lines(side, message, words));
+        let before = self.lines.len();
+        if side == SERVER {
+            self.parts(message, words, at);
+        }
+        let part_refused = |line: &String| line.starts_with("    refused with ");
+        if self.lines[before..].iter().any(part_refused) {
+            self.refused += 1;
+        }
+    }
+
+    fn refuse(&mut self, side: u32, message: &'a [u8], refusal: Refusal, at: usize) {
+        self.refused += 1;
+        let within = Within {
+            what: "message",
+            bytes: message,
+            at,
+        };
+        self.lines.extend(refused::lines(refusal, &within));
+        match Way::of_refused(side, message[0], refusal.number) {
+            Some(way) => self.descriptions.lose(self.messages, way),
+            None => self.descriptions.keep(),
+        }
     }
 
     /// Descriptors and values of a message that was read.
@@ -156,42 +170,54 @@ impl<'a> Session<'a> {
         };
         match message[0] {
             b'T' => {
-                self.describe("input descriptor", field(4).0, field(3));
-                self.output = Some(self.describe("output descriptor", field(2).0, field(1)));
+                let input = self.describe("input descriptor", field(4).0, field(3));
+                let output = self.describe("output descriptor", field(2).0, field(1));
+                self.take_rows(input, output);
             }
-            b's' => self.state = Some(self.describe("state descriptor", field(2).0, field(1))),
-            b'C' => self.value("state data", self.state_description(field(2).0), field(1)),
+            b's' => match self.describe("state descriptor", field(2).0, field(1)) {
+                Some(state) => self.descriptions.state = Description::Known(state),
+                None => self.descriptions.lose(self.messages, Way::StateDescriptor),
+            },
+            b'C' => {
+                let by = self.descriptions.of_state(field(2).0);
+                self.value(Kind::State, by, field(1));
+            }
             b'D' => {
-                let (by, (bytes, at)) = (self.output, field(1));
+                let (by, (bytes, at)) = (self.descriptions.rows, field(1));
                 self.rows.push(RowAt { by, bytes, at });
-                self.value("row", by, (bytes, at));
+                self.value(Kind::Row, by, (bytes, at));
             }
             _ => {}
         }
     }
 
-    /// Id zero is "no type"; any other is that of the last s, or of nothing.
-    fn state_description(&self, id: &'a [u8]) -> Option<Described<'a>> {
-        if id == [0; 16] {
-            let (descriptor, accepted) = (&id[..0], true);
-            return Some(Described {
-                id,
-                descriptor,
-                accepted,
-            });
+    /// A T counts as a whole: with either descriptor refused it describes nothing.
+    fn take_rows(&mut self, input: Option<Described<'a>>, output: Option<Described<'a>>) {
+        let lose = |session: &mut Self, way| session.descriptions.lose(session.messages, way);
+        match (input, output) {
+            (Some(_), Some(output)) => self.descriptions.rows = Description::Known(output),
+            (None, _) => lose(self, Way::InputDescriptor),
+            (_, None) => lose(self, Way::OutputDescriptor),
         }
-        self.state.filter(|state| state.id == id)
     }
 
-    fn describe(&mut self, what: &str, id: &'a [u8], field: (&'a [u8], usize)) -> Described<'a> {
-        let (bytes, at) = field;
-        let head = format!("  {what}: {}", texts::size(bytes.len()));
-        let compiled = descriptor::compile(bytes, id, MOST_WORDS);
-        let read = compiled.and_then(|plan| Ok((plan.len(), descriptor::read(bytes, id)?)));
+    /// Compiles and shows a descriptor; `None` if it is refused.
+    fn describe(
+        &mut self,
+        what: &str,
+        id: &'a [u8],
+        field: (&'a [u8], usize),
+    ) -> Option<Described<'a>> {
+        let (descriptor, at) = field;
+        let head = format!("  {what}: {}", texts::size(descriptor.len()));
+        let compiled = descriptor::compile(descriptor, id, MOST_WORDS);
+        let read = compiled.and_then(|plan| Ok((plan.len(), descriptor::read(descriptor, id)?)));
         match &read {
-            Err(refusal) => self
-                .lines
-                .extend(refused::lines(*refusal, &Within { what, bytes, at })),
+            Err(refusal) => {
+                let bytes = descriptor;
+                self.lines
+                    .extend(refused::lines(*refusal, &Within { what, bytes, at }));
+            }
             Ok((_, Descriptor::NoType)) => self.lines.push(format!("{head}, no type")),
             Ok((words, Descriptor::Typed { blocks, root })) => {
                 self.lines.push(format!("{head}, a plan of {words} words"));
@@ -200,26 +226,23 @@ impl<'a> Session<'a> {
                     .extend(lines.iter().map(|line| format!("    {line}")));
             }
         }
-        Described {
-            id,
-            descriptor: bytes,
-            accepted: read.is_ok(),
-        }
+        read.is_ok().then_some(Described::new(id, descriptor))
     }
 
-    fn value(&mut self, what: &str, by: Option<Described>, field: (&'a [u8], usize)) {
-        let (bytes, at) = field;
-        let Some(by) = by.filter(|by| by.accepted) else {
-            let why = "not read, as no accepted description of it was met";
-            self.lines.push(format!("  {what}: {why}"));
-            self.lines.push(format!("    {}", texts::hex(bytes)));
-            return;
-        };
-        match tree_lines(by, bytes) {
-            Err(refusal) => self
+    fn value(&mut self, kind: Kind, by: Description, field: (&'a [u8], usize)) {
+        let ((bytes, at), what) = (field, kind.name());
+        let tree = by.known().map(|by| tree_lines(by, bytes));
+        self.values.push((kind, Outcome::of(by, &tree)));
+        match tree {
+            Err(why) => {
+                self.lines.push(format!("  {what}: not described, {why}"));
+                let bytes = texts::hex(bytes, Extent::Cut);
+                self.lines.push(format!("    {bytes}"));
+            }
+            Ok(Err(refusal)) => self
                 .lines
                 .extend(refused::lines(refusal, &Within { what, bytes, at })),
-            Ok(tree) => {
+            Ok(Ok(tree)) => {
                 let none = if tree.is_empty() { ", no type" } else { "" };
                 self.lines
                     .push(format!("  {what}: {}{none}", texts::size(bytes.len())));
@@ -235,7 +258,9 @@ fn tree_lines(by: Described, value: &[u8]) -> Result<Vec<String>, Refusal> {
     let entries = listed(by, value)?;
     Ok(match descriptor::read(by.descriptor, by.id)? {
         Descriptor::NoType => Vec::new(),
-        Descriptor::Typed { blocks, root } => Tree::lines(&blocks.list, root, value, &entries, &[]),
+        Descriptor::Typed { blocks, root } => {
+            Tree::lines(&blocks.list, root, value, &entries, &[], Extent::Cut)
+        }
     })
 }
 

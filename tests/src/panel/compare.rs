@@ -1,18 +1,22 @@
 //! Runs the panel program on a capture and holds what it prints against what is expected.
 
-use super::asked::{checked, found, Ended};
-use super::capture::{listed, shown, Shown};
+use super::asked::{checked, client_of_marked, found, Ended, NOTHING_TO_CHECK, NOT_CHECKED};
+use super::capture::{listed, shown, Shown, FIRST_LINE};
 use super::refused::WORDS;
+use super::seen::{self, Seen};
 use crate::entries::path_to;
 use crate::rng::Rng;
-use second::message::SERVER;
+use second::message::{CLIENT, SERVER};
 use std::io::{self, Write};
 use std::path::Path;
 use std::process::{Command, Stdio};
 use std::thread;
 
+/// Words that all mean standard input: no file, a dash, and those after two dashes.
+const STANDARD_INPUT: [&[&str]; 4] = [&[], &["-"], &["--"], &["--", "-"]];
+
 /// What the program prints with these arguments and a capture on its standard input, without the
-/// words of refusals, and its status. It must end by itself and say nothing else.
+/// words of refusals, and its status. It must end by itself.
 pub fn printed(panel: &Path, arguments: &[&str], capture: &[u8]) -> Result<Ended, String> {
     let trouble = |error: io::Error| format!("{}: {error}", panel.display());
     let mut child = Command::new(panel)
@@ -29,13 +33,18 @@ pub fn printed(panel: &Path, arguments: &[&str], capture: &[u8]) -> Result<Ended
         child.wait_with_output()
     })
     .map_err(trouble)?;
-    let errors = String::from_utf8_lossy(&output.stderr);
+    let lines = |bytes: Vec<u8>| -> Result<Vec<String>, String> {
+        let text = String::from_utf8(bytes).map_err(|_| "it prints no UTF-8")?;
+        Ok(text.lines().map(without_words).collect())
+    };
+    let (lines, errors) = (lines(output.stdout)?, lines(output.stderr)?);
     match output.status.code() {
-        Some(status) if errors.is_empty() => {
-            let text = String::from_utf8(output.stdout).map_err(|_| "it prints no UTF-8")?;
-            Ok((text.lines().map(without_words).collect(), status))
-        }
-        _ => Err(format!("{}: {errors}", output.status)),
+        Some(status) => Ok(Ended {
+            lines,
+            errors,
+            status,
+        }),
+        None => Err(format!("{}: {errors:?}", output.status)),
     }
 }
 
@@ -52,22 +61,93 @@ fn without_words(line: &str) -> String {
 }
 
 /// Whether the program prints of a capture what the second program comes to, with each command:
-/// `find` on some elements and paths that lead nowhere.
-pub fn same(panel: &Path, capture: &[u8], rng: &mut Rng) -> Result<(), String> {
+/// `find` on some elements and paths that lead nowhere. What was the same is counted.
+pub fn same(panel: &Path, capture: &[u8], rng: &mut Rng, seen: &mut Seen) -> Result<(), String> {
     let shown = shown(capture, SERVER);
-    let expected = (shown.lines.clone(), 0);
-    agree("show", printed(panel, &["show"], capture)?, expected)?;
-    let check = printed(panel, &["check"], capture)?;
-    agree("check", check, checked(&shown))?;
+    let asking = Asking { panel, capture };
+    asking.show(&shown, rng)?;
+    shown
+        .values
+        .iter()
+        .for_each(|value| seen.count_value(*value));
+    asking.check(&shown, rng, seen)?;
     for _ in 0..2 {
-        let (row, path) = asked(&shown, rng);
+        asking.find(&shown, rng, seen)?;
+    }
+    asking.as_client(rng, seen)
+}
+
+/// A capture that the program is asked about.
+struct Asking<'a> {
+    panel: &'a Path,
+    capture: &'a [u8],
+}
+
+impl Asking<'_> {
+    fn agree(&self, arguments: &[&str], expected: Ended) -> Result<(), String> {
+        let printed = printed(self.panel, arguments, self.capture)?;
+        agree(&arguments.join(" "), &printed, &expected)
+    }
+
+    fn show(&self, shown: &Shown, rng: &mut Rng) -> Result<(), String> {
+        let arguments = [&["show"][..], rng.pick(&STANDARD_INPUT)].concat();
+        self.agree(&arguments, Ended::good(shown.lines.clone()))
+    }
+
+    fn check(&self, shown: &Shown, rng: &mut Rng, seen: &mut Seen) -> Result<(), String> {
+        let arguments = [&["check"][..], rng.pick(&STANDARD_INPUT)].concat();
+        let expected = checked(shown);
+        let outcome = match expected.lines.last().expect("a sum").as_str() {
+            _ if expected.status == 0 => seen::CHECKED_GOOD,
+            line if line == NOTHING_TO_CHECK => seen::CHECKED_NOTHING,
+            line if line.starts_with(NOT_CHECKED) => seen::CHECKED_UNDESCRIBED,
+            _ => seen::CHECKED_REFUSED,
+        };
+        self.agree(&arguments, expected)?;
+        seen.count(outcome);
+        Ok(())
+    }
+
+    fn find(&self, shown: &Shown, rng: &mut Rng, seen: &mut Seen) -> Result<(), String> {
+        let (row, path) = asked(shown, rng);
         let words: Vec<String> = path.iter().map(u32::to_string).collect();
         let (row_word, path_word) = (row.to_string(), words.join("."));
-        let arguments = ["find", "-", &row_word, &path_word];
-        let find = printed(panel, &arguments, capture)?;
-        agree(&arguments.join(" "), find, found(&shown, row, &path))?;
+        let dashes: &[&str] = rng.pick(&[&[], &["--"]]);
+        let arguments = [&["find"][..], dashes, &["-", &row_word, &path_word]].concat();
+        let expected = found(shown, row, &path);
+        let is_described = shown
+            .rows
+            .get(row - 1)
+            .is_none_or(|row| row.by.known().is_ok());
+        let outcome = match expected.status {
+            0 => seen::FOUND,
+            _ if is_described => seen::NOT_FOUND,
+            _ => seen::NOT_DESCRIBED,
+        };
+        self.agree(&arguments, expected)?;
+        seen.count(outcome);
+        Ok(())
     }
-    Ok(())
+
+    /// The capture as the client's bytes, with one of the commands.
+    fn as_client(&self, rng: &mut Rng, seen: &mut Seen) -> Result<(), String> {
+        let shown = shown(self.capture, CLIENT);
+        let commands: [(&[&str], Ended); 3] = [
+            (&["show", "--client"], Ended::good(shown.lines.clone())),
+            (&["check", "--client"], checked(&shown)),
+            (&["find", "--client", "-", "1"], found(&shown, 1, &[])),
+        ];
+        let number = rng.below(commands.len());
+        let (arguments, expected) = commands.into_iter().nth(number).expect("one of them");
+        if self.capture.starts_with(FIRST_LINE) {
+            self.agree(arguments, client_of_marked())?;
+            seen.count(seen::CLIENT_REFUSED);
+        } else {
+            self.agree(arguments, expected)?;
+            seen.count(seen::CLIENT_READ);
+        }
+        Ok(())
+    }
 }
 
 /// A row, or one more than there are, and a path: mostly to an element that is there.
@@ -76,7 +156,7 @@ fn asked(shown: &Shown, rng: &mut Rng) -> (usize, Vec<u32>) {
     let row = 1 + rng.below(shown.rows.len().max(1) + one_more);
     let at = shown.rows.get(row - 1);
     let entries = at
-        .and_then(|at| listed(at.by?, at.bytes).ok())
+        .and_then(|at| listed(at.by.known().ok()?, at.bytes).ok())
         .unwrap_or_default();
     let mut path = match entries.len() {
         0 => Vec::new(),
@@ -88,27 +168,25 @@ fn asked(shown: &Shown, rng: &mut Rng) -> (usize, Vec<u32>) {
     (row, path)
 }
 
-fn agree(what: &str, printed: Ended, expected: Ended) -> Result<(), String> {
-    let lines = printed.0.iter().zip(&expected.0);
-    let different = |(one, other): (&String, &String)| !is_same(one, other);
-    if let Some(line) = lines.clone().position(different) {
-        let (number, printed, expected) = (line + 1, &printed.0[line], &expected.0[line]);
-        let report =
-            format!("{what}, line {number}\n  printed:  {printed}\n  expected: {expected}");
-        return Err(report);
-    }
-    let (printed, expected) = ((printed.0.len(), printed.1), (expected.0.len(), expected.1));
-    match printed == expected {
-        true => Ok(()),
-        false => Err(format!(
-            "{what}: lines and status are {printed:?} and not {expected:?}"
-        )),
+fn agree(what: &str, printed: &Ended, expected: &Ended) -> Result<(), String> {
+    agree_on(what, &printed.errors, &expected.errors)?;
+    agree_on(what, &printed.lines, &expected.lines)?;
+    match (printed.status, expected.status) {
+        (printed, expected) if printed == expected => Ok(()),
+        (printed, expected) => Err(format!("{what}: status {printed} and not {expected}")),
     }
 }
 
-/// What is cut in `show` is whole in `find`: then what comes before the cut must be the same.
-fn is_same(printed: &str, expected: &str) -> bool {
-    let cut = expected.rsplit_once(" ... and ");
-    let start = cut.map(|(start, _)| start.strip_suffix('"').unwrap_or(start));
-    printed == expected || start.is_some_and(|start| printed.starts_with(start))
+fn agree_on(what: &str, printed: &[String], expected: &[String]) -> Result<(), String> {
+    let most = printed.len().max(expected.len());
+    let line = |of: &[String], at: usize| of.get(at).cloned().unwrap_or("(no line)".into());
+    match (0..most).find(|&at| printed.get(at) != expected.get(at)) {
+        None => Ok(()),
+        Some(at) => Err(format!(
+            "{what}, line {}\n  printed:  {}\n  expected: {}",
+            at + 1,
+            line(printed, at),
+            line(expected, at)
+        )),
+    }
 }

@@ -1,6 +1,7 @@
 //! The fields of the ten messages by name, as source document 003 has them.
 
-use super::{human, texts};
+use super::human;
+use super::texts::{self, Extent};
 use second::message::{CLIENT, SERVER};
 use Form::{Bits, Bytes, Code, Number, Run, Text, Uuid};
 
@@ -157,8 +158,8 @@ fn shown(form: &Form, content: &[u8]) -> String {
         Number | Run(_) => number(content).to_string(),
         Bits => format!("{:0width$x}", number(content), width = 2 * content.len()),
         Uuid => texts::uuid(content),
-        Text => texts::quoted(human::text(content)),
-        Bytes if is_printable(content) => texts::quoted(human::text(content)),
+        Text => texts::quoted(human::text(content), Extent::Cut),
+        Bytes if is_printable(content) => texts::quoted(human::text(content), Extent::Cut),
         Bytes => texts::size(content.len()),
         Code(codes) => {
             let known = codes.iter().find(|(code, _)| *code == content[0]);

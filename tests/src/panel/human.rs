@@ -1,8 +1,9 @@
 //! Scalars in human form: source document 000 says what the bytes mean.
 
-use super::{calendar, texts};
+use super::calendar;
+use super::float;
+use super::texts::{self, Extent};
 use second::scalar::Format;
-use std::fmt::LowerExp;
 use std::str;
 
 /// More zeros than these, where the wire has none, are not written out.
@@ -38,16 +39,16 @@ pub fn name(format: Format) -> &'static str {
 }
 
 /// A permitted scalar.
-pub fn scalar(format: Format, bytes: &[u8]) -> String {
+pub fn scalar(format: Format, bytes: &[u8], extent: Extent) -> String {
     match format {
         Format::Uuid => texts::uuid(bytes),
-        Format::Str => texts::quoted(text(bytes)),
-        Format::Bytes => texts::hex(bytes),
+        Format::Str => texts::quoted(text(bytes), extent),
+        Format::Bytes => texts::hex(bytes, extent),
         Format::Int16 => i16::from_be_bytes(sized(bytes)).to_string(),
         Format::Int32 => int32(bytes).to_string(),
         Format::Int64 => int64(bytes).to_string(),
-        Format::Float32 => float32(f32::from_be_bytes(sized(bytes))),
-        Format::Float64 => float64(f64::from_be_bytes(sized(bytes))),
+        Format::Float32 => float::float32(f32::from_be_bytes(sized(bytes))),
+        Format::Float64 => float::float64(f64::from_be_bytes(sized(bytes))),
         Format::Decimal | Format::Bigint => decimal(bytes),
         Format::Bool => (bytes == [1]).to_string(),
         Format::Datetime => calendar::date_time(int64(bytes)) + "Z",
@@ -58,7 +59,7 @@ pub fn scalar(format: Format, bytes: &[u8]) -> String {
         // The first 8 bytes are reserved.
         Format::DateDuration => duration(0, &bytes[8..]),
         Format::Json if bytes.len() == 1 => "no text".into(),
-        Format::Json => texts::as_it_is(text(&bytes[1..])),
+        Format::Json => texts::as_it_is(text(&bytes[1..]), extent),
         Format::Memory => memory(int64(bytes)),
     }
 }
@@ -84,45 +85,8 @@ fn duration(microseconds: i64, days_and_months: &[u8]) -> String {
     calendar::duration(microseconds, int32(days), int32(months))
 }
 
-fn float64(number: f64) -> String {
-    if number.is_nan() {
-        return format!("nan (bits {:016x})", number.to_bits());
-    }
-    float(number, 15, |written| written.parse() == Ok(number))
-}
-
-fn float32(number: f32) -> String {
-    if number.is_nan() {
-        return format!("nan (bits {:08x})", number.to_bits());
-    }
-    float(number, 7, |written| written.parse() == Ok(number))
-}
-
-/// The fewest digits that give the number again; without an exponent from 0.00001 up to so many
-/// digits before the point.
-fn float<F: LowerExp>(number: F, most_whole: i32, gives_again: impl Fn(&str) -> bool) -> String {
-    let written = (0..17)
-        .map(|after| format!("{number:.after$e}"))
-        .find(|written| gives_again(written))
-        .expect("17 digits are enough");
-    let Some((digits, exponent)) = written.split_once('e') else {
-        return written; // inf
-    };
-    let exponent: i32 = exponent.parse().expect("a number");
-    if exponent < -5 || exponent >= most_whole {
-        let sign = if exponent < 0 { '-' } else { '+' };
-        return format!("{digits}e{sign}{:02}", exponent.abs());
-    }
-    let (sign, digits) = match digits.strip_prefix('-') {
-        Some(rest) => ("-", rest),
-        None => ("", digits),
-    };
-    let digits = digits.replace('.', "");
-    format!("{sign}{}", with_point(&digits, 1 + i64::from(exponent)))
-}
-
 /// Digits with the point after so many of them, which may be none or more than there are.
-fn with_point(digits: &str, before: i64) -> String {
+pub fn with_point(digits: &str, before: i64) -> String {
     let before_all = "0".repeat(usize::try_from(-before).unwrap_or(0));
     let after_all = "0".repeat(usize::try_from(before - digits.len() as i64).unwrap_or(0));
     let all = before_all + digits + &after_all;
@@ -148,7 +112,11 @@ fn decimal(bytes: &[u8]) -> String {
         .collect();
     let unit = weight + 1 - count; // the power of the last digit
     if count > 0 && (4 * unit > MOST_ZEROS || -4 * weight > MOST_ZEROS) {
-        return format!("{sign}{} x 10000^{unit}", with_point(&digits, 4 * count));
+        let power = format!("{sign}{} x 10000^{unit}", with_point(&digits, 4 * count));
+        return match short(3) {
+            0 => power,
+            scale => with_scale(&power, scale),
+        };
     }
     let number = with_point(&digits, 4 * (weight + 1));
     format!("{sign}{}", to_scale(&number, short(3)))
@@ -160,8 +128,12 @@ fn to_scale(number: &str, scale: u16) -> String {
     match i64::from(scale) - part.len() as i64 {
         ..=0 => number.into(),
         zeros @ ..=MOST_ZEROS => format!("{whole}.{part}{}", "0".repeat(zeros as usize)),
-        _ => format!("{number} (scale {scale})"),
+        _ => with_scale(number, scale),
     }
+}
+
+fn with_scale(number: &str, scale: u16) -> String {
+    format!("{number} (scale {scale})")
 }
 
 /// In the largest unit that divides it.

@@ -1,5 +1,7 @@
-//! Captures made at random: descriptions with rows of them, good and damaged, among other messages.
+//! Captures made at random: descriptions with rows of them, good and damaged, among other messages, and
+//! descriptions that are sent again.
 
+use super::again::{self, Record};
 use super::capture::FIRST_LINE;
 use super::table::{complete, data, description, state};
 use crate::descriptor::{Descriptors, Second};
@@ -11,15 +13,13 @@ use crate::rng::Rng;
 const MOST_BODY: usize = 65_000;
 
 pub fn capture(rng: &mut Rng) -> Vec<u8> {
-    let mut capture = if rng.once_in(4) {
-        Vec::new()
-    } else {
-        FIRST_LINE.to_vec()
-    };
-    let marked = !capture.is_empty();
-    for _ in 0..rng.between(1, 6) {
-        let (side, bytes) = messages(rng);
-        if marked {
+    let is_marked = !rng.once_in(4);
+    let mut capture = if is_marked { FIRST_LINE } else { &[] }.to_vec();
+    if rng.once_in(30) {
+        return capture; // nothing to check
+    }
+    for (side, bytes) in records(rng) {
+        if is_marked {
             capture.push(side);
             capture.extend((bytes.len() as u32).to_be_bytes());
         }
@@ -31,8 +31,35 @@ pub fn capture(rng: &mut Rng) -> Vec<u8> {
     capture
 }
 
+/// Records of descriptions that are sent again, or of any messages, or both.
+fn records(rng: &mut Rng) -> Vec<Record> {
+    let mut records = Vec::new();
+    if rng.once_in(2) {
+        records.extend((0..rng.between(1, 6)).map(|_| messages(rng)));
+    }
+    if !rng.once_in(3) || records.is_empty() {
+        records.extend(again::records(rng));
+    }
+    match rng.once_in(3) {
+        true => joined(records),
+        false => records,
+    }
+}
+
+/// With the records of one side after another in one.
+fn joined(records: Vec<Record>) -> Vec<Record> {
+    let mut all: Vec<Record> = Vec::new();
+    for (side, bytes) in records {
+        match all.last_mut() {
+            Some((last, before)) if *last == side => before.extend(bytes),
+            _ => all.push((side, bytes)),
+        }
+    }
+    all
+}
+
 /// Messages of one side: a description and a value by it, or one message of any type.
-fn messages(rng: &mut Rng) -> (u8, Vec<u8>) {
+fn messages(rng: &mut Rng) -> Record {
     if rng.once_in(3) {
         let draft = Draft::make(rng);
         return (draft.side as u8, draft.message());

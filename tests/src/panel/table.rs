@@ -30,8 +30,8 @@ fn row(line: &str) -> Result<Row, String> {
     })
 }
 
-/// A message of the server: type, length, body.
-fn message(type_byte: u8, body: &[u8]) -> Vec<u8> {
+/// A message: type, length, body.
+pub fn message(type_byte: u8, body: &[u8]) -> Vec<u8> {
     let length = 4 + body.len() as u32;
     [&[type_byte], &length.to_be_bytes()[..], body].concat()
 }
@@ -41,14 +41,25 @@ fn long(bytes: &[u8]) -> Vec<u8> {
     [&(bytes.len() as u32).to_be_bytes()[..], bytes].concat()
 }
 
+/// A descriptor and its root.
+pub type Rooted<'a> = (&'a [u8], &'a [u8]);
+
+/// "No type": no bytes, and id zero.
+pub const NO_TYPE: Rooted<'static> = (&[], &[0; 16]);
+
 /// A T whose output has this descriptor and root; the input has no type.
 pub fn description(descriptor: &[u8], root: &[u8]) -> Vec<u8> {
-    let before = [0, 0, 0, 0, 0, 0, 0, 0, 0, 0, b'm'];
-    let no_type = [0; 16 + 4];
-    message(
-        b'T',
-        &[&before, &no_type[..], root, &long(descriptor)].concat(),
-    )
+    description_of(NO_TYPE, (descriptor, root))
+}
+
+/// A T with these descriptors, many rows, and no annotations.
+pub fn description_of(input: Rooted, output: Rooted) -> Vec<u8> {
+    let mut body = [&[0; 2 + 8][..], b"m"].concat();
+    for (descriptor, root) in [input, output] {
+        body.extend(root);
+        body.extend(long(descriptor));
+    }
+    message(b'T', &body)
 }
 
 /// A D with this value.

@@ -1,25 +1,46 @@
 //! Texts and bytes as they stand on a line.
 
+use super::unseen::is_unseen;
+
 /// Of a text `show` prints so many bytes, and the rest of the last letter.
 const MOST_TEXT: usize = 160;
 const MOST_BYTES: usize = 40;
 
-/// In quotation marks; those inside and backslashes are escaped.
-pub fn quoted(text: &str) -> String {
-    written(text, "\"", &['"', '\\'])
+/// How much is printed of what is long.
+#[derive(Clone, Copy)]
+pub enum Extent {
+    /// As in `show`: a start, and how many bytes were cut off.
+    Cut,
+    /// As in `find`.
+    Whole,
 }
 
-pub fn bare(text: &str) -> String {
-    written(text, "", &['\\'])
+impl Extent {
+    /// Of so many bytes, at most so many where they are cut.
+    fn of(self, bytes: usize, most: usize) -> usize {
+        match self {
+            Extent::Cut => bytes.min(most),
+            Extent::Whole => bytes,
+        }
+    }
+}
+
+/// In quotation marks; those inside and backslashes are escaped.
+pub fn quoted(text: &str, extent: Extent) -> String {
+    written(text, "\"", &['"', '\\'], extent)
+}
+
+pub fn bare(text: &str, extent: Extent) -> String {
+    written(text, "", &['\\'], extent)
 }
 
 /// JSON has escapes of its own.
-pub fn as_it_is(text: &str) -> String {
-    written(text, "", &[])
+pub fn as_it_is(text: &str, extent: Extent) -> String {
+    written(text, "", &[], extent)
 }
 
-fn written(text: &str, mark: &str, escaped: &[char]) -> String {
-    let mut end = text.len().min(MOST_TEXT);
+fn written(text: &str, mark: &str, escaped: &[char], extent: Extent) -> String {
+    let mut end = extent.of(text.len(), MOST_TEXT);
     while !text.is_char_boundary(end) {
         end += 1;
     }
@@ -53,21 +74,13 @@ fn shown(letter: char, escaped: &[char]) -> String {
     }
 }
 
-/// Controls, and what shows nothing or turns the direction of writing.
-fn is_unseen(letter: char) -> bool {
-    letter.is_control()
-        || matches!(letter, '\u{ad}' | '\u{61c}' | '\u{180e}' | '\u{feff}')
-        || matches!(letter, '\u{200b}'..='\u{200f}' | '\u{2028}'..='\u{202e}')
-        || matches!(letter, '\u{2060}'..='\u{206f}' | '\u{fff9}'..='\u{fffb}')
-        || matches!(letter, '\u{e0000}'..='\u{e0fff}')
-}
-
-pub fn hex(bytes: &[u8]) -> String {
+pub fn hex(bytes: &[u8], extent: Extent) -> String {
     if bytes.is_empty() {
         return "no bytes".into();
     }
-    let pairs: Vec<String> = bytes.iter().take(MOST_BYTES).map(pair).collect();
-    pairs.join(" ") + &cut(bytes.len().saturating_sub(MOST_BYTES))
+    let end = extent.of(bytes.len(), MOST_BYTES);
+    let pairs: Vec<String> = bytes[..end].iter().map(pair).collect();
+    pairs.join(" ") + &cut(bytes.len() - end)
 }
 
 fn pair(byte: &u8) -> String {

@@ -1,6 +1,7 @@
 //! Values as trees, and what a descriptor's root accepts.
 
-use super::{human, texts};
+use super::human;
+use super::texts::{self, Extent};
 use second::descriptor::block::{Block, Body};
 use second::entry::Entry;
 
@@ -92,12 +93,16 @@ fn whole_kind(blocks: &[Block], block: usize) -> String {
 }
 
 /// Index, and name if there is one.
-fn label(index: u32, name: &str) -> String {
+fn label(index: u32, name: &str, extent: Extent) -> String {
     if name.is_empty() {
         return format!("{index:<2} ");
     }
     let width = NAME_WIDTH.saturating_sub(name.chars().count());
-    format!("{index:<2} {}{} ", texts::bare(name), " ".repeat(width))
+    format!(
+        "{index:<2} {}{} ",
+        texts::bare(name, extent),
+        " ".repeat(width)
+    )
 }
 
 /// The lines of a plan: its root, and each element directly below.
@@ -112,7 +117,7 @@ pub fn plan(blocks: &[Block], root: usize) -> Vec<String> {
     }
     for (index, element) in (0..).zip(elements(body)) {
         let (label, kind) = (
-            label(index, element.name),
+            label(index, element.name, Extent::Cut),
             whole_kind(blocks, element.block),
         );
         lines.push(match element.cardinality {
@@ -130,6 +135,7 @@ pub struct Tree<'a> {
     entries: &'a [Entry],
     /// The entry that comes next.
     next: usize,
+    extent: Extent,
     lines: Vec<String>,
 }
 
@@ -141,12 +147,14 @@ impl<'a> Tree<'a> {
         value: &'a [u8],
         entries: &'a [Entry],
         path: &[u32],
+        extent: Extent,
     ) -> Vec<String> {
         let mut tree = Tree {
             blocks,
             value,
             entries,
             next: 0,
+            extent,
             lines: Vec::new(),
         };
         let (block, name) = tree.descend(root, path);
@@ -188,11 +196,12 @@ impl<'a> Tree<'a> {
     fn element(&mut self, block: usize, name: &str, depth: usize) {
         let entry = self.take();
         let body = &self.blocks[block].body;
-        let (label, kind) = (label(entry.index, name), whole_kind(self.blocks, block));
+        let label = label(entry.index, name, self.extent);
+        let kind = whole_kind(self.blocks, block);
         let content = match body {
             _ if entry.is_absent() => "absent".into(),
-            Body::Scalar { format, .. } => human::scalar(*format, self.bytes(entry)),
-            Body::Enumeration { .. } => texts::quoted(human::text(self.bytes(entry))),
+            Body::Scalar { format, .. } => human::scalar(*format, self.bytes(entry), self.extent),
+            Body::Enumeration { .. } => texts::quoted(human::text(self.bytes(entry)), self.extent),
             Body::Range { bound, .. } => self.range(entry, usize::from(*bound)),
             _ => counted(entry.below),
         };
@@ -222,7 +231,7 @@ impl<'a> Tree<'a> {
         let mut bounds = ["unbounded".to_string(), "unbounded".to_string()];
         for _ in 0..entry.below {
             let entry = self.take();
-            bounds[entry.index as usize] = human::scalar(*format, self.bytes(entry));
+            bounds[entry.index as usize] = human::scalar(*format, self.bytes(entry), self.extent);
         }
         let flags = self.value[entry.start as usize];
         if flags == 1 {
