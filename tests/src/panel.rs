@@ -8,7 +8,8 @@
 //! * [`capture`] puts them together: all that is printed of a capture. [`asked`] has what `check` and
 //!   `find` print.
 //! * [`table`] reads the table of values and their texts, and makes rows of them; [`made`] makes
-//!   captures at random, with descriptions that are sent again by `again`.
+//!   captures at random, with descriptions that are sent again by `again`; [`sweep`] has every code
+//!   point, and floats about each power of two.
 //! * [`compare`] runs the program and holds what it prints against all of these; [`seen`] counts what
 //!   was compared.
 
@@ -24,6 +25,7 @@ pub mod human;
 pub mod made;
 mod refused;
 pub mod seen;
+pub mod sweep;
 pub mod table;
 pub mod texts;
 mod tree;

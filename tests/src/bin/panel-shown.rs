@@ -4,12 +4,12 @@
 //!     panel-shown PANEL TABLE CASES CAPTURE..
 //!
 //! Each CAPTURE and so many random ones are shown by both; each row of TABLE too, and both must
-//! print its text. A run that has hardly seen something that it is to compare has failed.
+//! print its text. Every code point and the floats about each power of two are shown too. A run that has hardly seen something that it is to compare has failed.
 
 use compare::panel::capture::shown;
-use compare::panel::compare::{printed, same};
+use compare::panel::compare::{printed, same, same_shown};
 use compare::panel::seen::Seen;
-use compare::panel::{made, table};
+use compare::panel::{made, sweep, table};
 use compare::rng::Rng;
 use second::message::SERVER;
 use std::env;
@@ -54,6 +54,9 @@ fn main() -> ExitCode {
     hold_captures(panel, captures, &mut count, &mut seen);
     if let Err(why) = hold_table(panel, table, &mut count) {
         count.add(table, Err(why));
+    }
+    for (name, capture) in sweep::captures(&mut Rng::new(SEED)) {
+        count.add(name, same_shown(panel, &capture));
     }
     for number in 0..cases {
         let mut rng = Rng::of_case(SEED, number);

@@ -77,6 +77,9 @@ impl Described {
 /// Descriptions, some of them sent again, with values after each.
 pub fn records(rng: &mut Rng) -> Vec<Record> {
     let described = Described::make(rng);
+    if rng.once_in(4) {
+        return calm(rng, &described);
+    }
     let mut records = Vec::new();
     if rng.once_in(4) {
         records.extend(values(rng, &described));
@@ -93,6 +96,21 @@ pub fn records(rng: &mut Rng) -> Vec<Record> {
     }
     records.extend(values(rng, &described));
     records
+}
+
+/// Good values, with or without good descriptions before them: mostly nothing is refused.
+fn calm(rng: &mut Rng, described: &Described) -> Vec<Record> {
+    let mut messages = Vec::new();
+    if !rng.once_in(3) {
+        messages.push(described.description(rng));
+    }
+    if !rng.once_in(3) {
+        messages.push(described.state());
+    }
+    messages.push(data(&described.value));
+    messages.push(complete(&described.root, &described.value));
+    let of_server = |message| (SERVER_SIDE, message);
+    messages.into_iter().map(of_server).collect()
 }
 
 /// A row and state data, or one of them, each damaged at times.
@@ -127,7 +145,7 @@ fn again(rng: &mut Rng, described: &Described) -> Record {
         true => described.description(rng),
         false => described.state(),
     };
-    match rng.below(8) {
+    match rng.below(9) {
         0 => (SERVER_SIDE, message),
         1 if rng.once_in(2) => (CLIENT_SIDE, message),
         1 => (rng.pick(&UNKNOWN_SIDES), message),

@@ -77,6 +77,12 @@ pub fn same(panel: &Path, capture: &[u8], rng: &mut Rng, seen: &mut Seen) -> Res
     asking.as_client(rng, seen)
 }
 
+/// Whether both come to the same with `show`.
+pub fn same_shown(panel: &Path, capture: &[u8]) -> Result<(), String> {
+    let expected = Ended::good(shown(capture, SERVER).lines);
+    Asking { panel, capture }.agree(&["show"], expected)
+}
+
 /// A capture that the program is asked about.
 struct Asking<'a> {
     panel: &'a Path,
