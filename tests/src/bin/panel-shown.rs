@@ -4,10 +4,11 @@
 //!     panel-shown PANEL TABLE CASES CAPTURE..
 //!
 //! Each CAPTURE and so many random ones are shown by both; each row of TABLE too, and both must
-//! print its text. Every code point and the floats about each power of two are shown too. A run that has hardly seen something that it is to compare has failed.
+//! print its text. Every code point and the floats about each power of two are shown too. A run that
+//! has hardly seen something that it is to compare has failed.
 
 use compare::panel::capture::shown;
-use compare::panel::compare::{printed, same, same_shown};
+use compare::panel::compare::{printed, same, same_found, same_shown};
 use compare::panel::seen::Seen;
 use compare::panel::{made, sweep, table};
 use compare::rng::Rng;
@@ -58,6 +59,8 @@ fn main() -> ExitCode {
     for (name, capture) in sweep::captures(&mut Rng::new(SEED)) {
         count.add(name, same_shown(panel, &capture));
     }
+    count.add("long texts, show", same_shown(panel, &sweep::long()));
+    count.add("long texts, find", same_found(panel, &sweep::long()));
     for number in 0..cases {
         let mut rng = Rng::of_case(SEED, number);
         let capture = made::capture(&mut rng);

@@ -1,5 +1,5 @@
-//! Descriptions that are sent more than once, with values before and after: good ones, and such as are
-//! refused in each way that host/README.md names, among messages whose refusal loses nothing.
+//! Descriptions that are sent more than once, with values before and after: good ones, and such as
+//! are refused in each way that host/README.md names, among messages whose refusal loses nothing.
 
 use super::table::{complete, data, description_of, message, state, NO_TYPE};
 use crate::descriptor::{Descriptors, Second};
@@ -145,15 +145,17 @@ fn again(rng: &mut Rng, described: &Described) -> Record {
         true => described.description(rng),
         false => described.state(),
     };
-    match rng.below(9) {
+    let unknown_side = rng.pick(&UNKNOWN_SIDES);
+    let any_side = rng.pick(&[SERVER_SIDE, SERVER_SIDE, CLIENT_SIDE, unknown_side]);
+    match rng.below(15) {
         0 => (SERVER_SIDE, message),
-        1 if rng.once_in(2) => (CLIENT_SIDE, message),
-        1 => (rng.pick(&UNKNOWN_SIDES), message),
+        1 => (rng.pick(&[CLIENT_SIDE, unknown_side]), message),
         2 => (SERVER_SIDE, with_type(message, rng.pick(&UNKNOWN_TYPES))),
-        3 => (SERVER_SIDE, with_bad_fields(rng, message)),
-        4 => (SERVER_SIDE, with_spoilt(rng, described)),
-        5 => (SERVER_SIDE, with_bad_length(rng, message)),
-        6 => (SERVER_SIDE, not_whole(rng, message)),
+        3 => (unknown_side, data(&described.value)),
+        4 => (SERVER_SIDE, with_bad_fields(rng, message)),
+        5 | 6 => (SERVER_SIDE, with_spoilt(rng, described)),
+        7 | 8 => (any_side, with_bad_length(rng, message)),
+        9 | 10 => (any_side, not_whole(rng, message)),
         _ => describing_nothing(rng),
     }
 }

@@ -56,7 +56,7 @@ pub fn client_of_marked() -> Ended {
     }
 }
 
-fn is_refusal(line: &String) -> bool {
+fn is_refusal(line: &str) -> bool {
     line.starts_with("    refused with ")
 }
 

@@ -83,6 +83,17 @@ pub fn same_shown(panel: &Path, capture: &[u8]) -> Result<(), String> {
     Asking { panel, capture }.agree(&["show"], expected)
 }
 
+/// Whether both come to the same with `find` of each row.
+pub fn same_found(panel: &Path, capture: &[u8]) -> Result<(), String> {
+    let shown = shown(capture, SERVER);
+    let asking = Asking { panel, capture };
+    for row in 1..=shown.rows.len() {
+        let arguments = ["find", "-", &row.to_string()];
+        asking.agree(&arguments, found(&shown, row, &[]))?;
+    }
+    Ok(())
+}
+
 /// A capture that the program is asked about.
 struct Asking<'a> {
     panel: &'a Path,
@@ -145,13 +156,13 @@ impl Asking<'_> {
         ];
         let number = rng.below(commands.len());
         let (arguments, expected) = commands.into_iter().nth(number).expect("one of them");
-        if self.capture.starts_with(FIRST_LINE) {
-            self.agree(arguments, client_of_marked())?;
-            seen.count(seen::CLIENT_REFUSED);
-        } else {
-            self.agree(arguments, expected)?;
-            seen.count(seen::CLIENT_READ);
-        }
+        let (expected, outcome) = match self.capture.starts_with(FIRST_LINE) {
+            true => (client_of_marked(), seen::CLIENT_REFUSED),
+            false if checked(&shown).status == 0 => (expected, seen::CLIENT_GOOD),
+            false => (expected, seen::CLIENT_READ),
+        };
+        self.agree(arguments, expected)?;
+        seen.count(outcome);
         Ok(())
     }
 }

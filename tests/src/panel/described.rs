@@ -1,6 +1,6 @@
 //! By what a value is read: host/README.md, "What is read by what".
 
-use second::message::CLIENT;
+use second::message::{CLIENT, SERVER};
 use second::refusal;
 
 /// An accepted descriptor with its id.
@@ -52,12 +52,16 @@ pub enum Way {
     StateDescriptor,
     NotWhole,
     BadLength,
-    /// A type that is not known, in a record that is not the client's.
+    /// A message of the client that is not whole or whose length is not permitted.
+    ClientUnread,
+    /// A type that the server does not know.
     UnknownType,
+    /// Any message of a side that is neither client nor server.
+    UnknownSide,
 }
 
 impl Way {
-    pub const ALL: [Way; 8] = [
+    pub const ALL: [Way; 10] = [
         Way::Fields,
         Way::OtherSide,
         Way::InputDescriptor,
@@ -65,7 +69,9 @@ impl Way {
         Way::StateDescriptor,
         Way::NotWhole,
         Way::BadLength,
+        Way::ClientUnread,
         Way::UnknownType,
+        Way::UnknownSide,
     ];
 
     pub fn name(self) -> &'static str {
@@ -77,18 +83,23 @@ impl Way {
             Way::StateDescriptor => "an s's descriptor",
             Way::NotWhole => "a message not whole",
             Way::BadLength => "a length not permitted",
+            Way::ClientUnread => "what was not read of the client",
             Way::UnknownType => "a type not known",
+            Way::UnknownSide => "a side not known",
         }
     }
 
     /// How a message that is refused as a whole loses them, if it may have been a description.
     pub fn of_refused(side: u32, type_byte: u8, number: u32) -> Option<Way> {
         let describes = matches!(type_byte, b'T' | b's');
-        match number {
-            refusal::NOT_WHOLE => Some(Way::NotWhole),
-            refusal::BAD_LENGTH => Some(Way::BadLength),
-            refusal::UNKNOWN_TYPE if describes => Some(Way::OtherSide),
-            refusal::UNKNOWN_TYPE if side != CLIENT => Some(Way::UnknownType),
+        match (number, side) {
+            (refusal::NOT_WHOLE | refusal::BAD_LENGTH, CLIENT) => Some(Way::ClientUnread),
+            (refusal::NOT_WHOLE, _) => Some(Way::NotWhole),
+            (refusal::BAD_LENGTH, _) => Some(Way::BadLength),
+            (refusal::UNKNOWN_TYPE, _) if describes => Some(Way::OtherSide),
+            (refusal::UNKNOWN_TYPE, SERVER) => Some(Way::UnknownType),
+            (refusal::UNKNOWN_TYPE, CLIENT) => None,
+            (refusal::UNKNOWN_TYPE, _) => Some(Way::UnknownSide),
             _ if describes => Some(Way::Fields),
             _ => None,
         }

@@ -1,11 +1,13 @@
 //! Floats with the fewest digits that read back.
 //!
 //! The digits are had from the number's exact decimal expansion, which is finite, by cutting it off
-//! after one digit, after two, and so on. The number cut off and the one above it are the only two of
-//! so many digits that can be the nearest. Which of them read back is asked of the standard library,
-//! whose parsing rounds to the nearest.
+//! after one digit, after two, and so on. The number cut off and the one above it are the only two
+//! of so many digits that can be the nearest. Which of them read back is asked of the standard
+//! library, whose parsing rounds to the nearest. Its own shortest digits are not taken: of two
+//! equally near numbers they are the larger, and not the even one.
 
 use super::human::with_point;
+use std::cmp::Ordering;
 use std::fmt::LowerExp;
 
 /// No float has more digits that are not zero: the longest is a float64 of 767.
@@ -67,7 +69,8 @@ impl Written {
     }
 }
 
-/// Of numbers of so many digits that read back, the nearest, and of two equally near ones the even one.
+/// Of numbers of so many digits that read back, the nearest, and of two equally near ones the one
+/// whose last digit is even.
 fn nearest(
     exact: &Written,
     count: usize,
@@ -81,7 +84,7 @@ fn nearest(
     let above = below.clone().above();
     let half = [b"5", &vec![b'0'; rest.len()][1..]].concat();
     let above_is_first = match rest.cmp(&half[..]) {
-        std::cmp::Ordering::Equal => above.is_even(),
+        Ordering::Equal => above.is_even(),
         order => order.is_gt(),
     };
     let in_order = if above_is_first {
@@ -106,7 +109,7 @@ fn float<F: LowerExp>(number: F, most_whole: i32, reads_back: impl Fn(&str) -> b
         exponent: exponent.parse().expect("a number"),
     };
     let reads_back = |other: &Written| reads_back(&format!("{sign}{}", other.text()));
-    let found = (1..EXACT_DIGITS).find_map(|count| nearest(&exact, count, &reads_back));
+    let found = (1..EXACT_DIGITS).find_map(|count| nearest(&exact, count, reads_back));
     let found = found.expect("all digits read back");
     format!("{sign}{}", with_exponent(&found, most_whole))
 }

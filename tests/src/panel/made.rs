@@ -1,5 +1,5 @@
-//! Captures made at random: descriptions with rows of them, good and damaged, among other messages, and
-//! descriptions that are sent again.
+//! Captures made at random: descriptions with rows of them, good and damaged, among other messages,
+//! and descriptions that are sent again.
 
 use super::again::{self, Record};
 use super::capture::FIRST_LINE;
@@ -8,6 +8,8 @@ use crate::descriptor::{Descriptors, Second};
 use crate::message::draft::Draft;
 use crate::program::Comparison;
 use crate::rng::Rng;
+use second::message::CLIENT;
+use std::iter;
 
 /// Bytes of a message's body, so that its length is permitted.
 const MOST_BODY: usize = 65_000;
@@ -17,6 +19,9 @@ pub fn capture(rng: &mut Rng) -> Vec<u8> {
     let mut capture = if is_marked { FIRST_LINE } else { &[] }.to_vec();
     if rng.once_in(30) {
         return capture; // nothing to check
+    }
+    if !is_marked && rng.once_in(3) {
+        return of_client(rng);
     }
     for (side, bytes) in records(rng) {
         if is_marked {
@@ -29,6 +34,16 @@ pub fn capture(rng: &mut Rng) -> Vec<u8> {
         damage(rng, &mut capture);
     }
     capture
+}
+
+/// Messages of the client alone.
+fn of_client(rng: &mut Rng) -> Vec<u8> {
+    let mut bytes = Vec::new();
+    for _ in 0..rng.between(1, 4) {
+        let draft = iter::repeat_with(|| Draft::make(rng)).find(|draft| draft.side == CLIENT);
+        bytes.extend(draft.expect("one of the client").message());
+    }
+    bytes
 }
 
 /// Records of descriptions that are sent again, or of any messages, or both.

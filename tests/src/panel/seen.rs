@@ -60,9 +60,10 @@ pub const CHECKED_GOOD: &str = "check: nothing refused";
 pub const CHECKED_REFUSED: &str = "check: refused";
 pub const CHECKED_UNDESCRIBED: &str = "check: not described";
 pub const CHECKED_NOTHING: &str = "check: nothing to check";
-pub const CLIENT_READ: &str = "--client: read";
+pub const CLIENT_GOOD: &str = "--client: nothing refused";
+pub const CLIENT_READ: &str = "--client: refused, or nothing to read";
 pub const CLIENT_REFUSED: &str = "--client: side-marked";
-const COMMANDS: [&str; 9] = [
+const COMMANDS: [&str; 10] = [
     FOUND,
     NOT_FOUND,
     NOT_DESCRIBED,
@@ -70,6 +71,7 @@ const COMMANDS: [&str; 9] = [
     CHECKED_REFUSED,
     CHECKED_UNDESCRIBED,
     CHECKED_NOTHING,
+    CLIENT_GOOD,
     CLIENT_READ,
     CLIENT_REFUSED,
 ];

@@ -1,4 +1,4 @@
-//! Captures of every code point and of floats about each power of two: few enough to be compared whole.
+//! Captures of every code point, and of floats about each power of two.
 
 use super::human::NAMES;
 use super::table::{capture, data, Row};
@@ -9,7 +9,7 @@ const TEXT_BYTES: usize = 150;
 /// So many floats of each width are of random bits.
 const RANDOM_FLOATS: usize = 3_000;
 
-/// The names of the captures, with what they hold.
+/// What is in each capture, and its bytes.
 pub fn captures(rng: &mut Rng) -> [(&'static str, Vec<u8>); 3] {
     let float64 = about_powers(0x7ff, 52).map(u64::to_be_bytes);
     let float32 = about_powers(0xff, 23).map(|bits| (bits as u32).to_be_bytes());
@@ -18,6 +18,22 @@ pub fn captures(rng: &mut Rng) -> [(&'static str, Vec<u8>); 3] {
         ("float64", of("float64", float64.chain(random(rng)))),
         ("float32", of("float32", float32.chain(random(rng)))),
     ]
+}
+
+/// Values about as long as `show` prints whole, and longer ones, for `show` and `find`.
+pub fn long() -> Vec<u8> {
+    let mut rows = Vec::new();
+    for length in [39, 40, 41, 42, 157, 158, 159, 160, 161, 162, 400, 5_000] {
+        for letter in ["a", "\u{e4}", "\u{3164}", "\u{1f642}", "\""] {
+            let text = "a".repeat(length % letter.len()) + &letter.repeat(length / letter.len());
+            for (kind, before) in [("str", ""), ("bytes", ""), ("json", "\u{1}")] {
+                let value = (before.to_owned() + &text).into();
+                let (kind, text) = (kind.into(), String::new());
+                rows.push(Row { kind, value, text });
+            }
+        }
+    }
+    capture(&rows).expect("known kinds")
 }
 
 /// A description of one scalar, and a row of each value.
@@ -52,7 +68,7 @@ fn texts() -> impl Iterator<Item = String> {
     })
 }
 
-/// The bits of each power of two, and of the numbers next to it, down to the smallest and up to infinity.
+/// The bits of each power of two, and of the numbers next to it, from the smallest up to infinity.
 fn about_powers(exponents: u64, width: u32) -> impl Iterator<Item = u64> {
     let subnormal = (1..width).map(|power| 1 << power);
     let normal = (1..=exponents).map(move |exponent| exponent << width);

@@ -1,8 +1,8 @@
 //! What shows nothing or moves the cursor, by Unicode 15.
 
-/// First and last code points, in order, with all between them: the general categories Cc, Cf, Zl, Zp
-/// and Zs but for U+0020; Default_Ignorable_Code_Point, which also has some that are not assigned;
-/// noncharacters that do not end a plane; and blanks that count as letters, marks or signs.
+/// First and last code points, in order, with all between them: the general categories Cc, Cf, Zl,
+/// Zp and Zs but for U+0020; Default_Ignorable_Code_Point, which also has some that are not
+/// assigned; noncharacters that do not end a plane; and blanks that count as letters, marks or signs.
 const RANGES: [(u32, u32); 34] = [
     (0x0000, 0x001f),   // controls
     (0x007f, 0x00a0),   // controls, a space that does not break
