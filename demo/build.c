@@ -137,7 +137,7 @@ void open_range(struct supply *supply, uint32_t node, uint32_t index, uint8_t fl
 }
 
 void add_absent(struct supply *supply, uint32_t node, uint32_t index) {
-    add_entry(supply, node, index, UINT32_MAX, 0);
+    add_entry(supply, node, index, REMBULFOSE_ABSENT, 0);
 }
 
 void write_supply(const struct plan *plan, const struct supply *supply, struct run *value) {

@@ -1,6 +1,10 @@
 #include "descriptors.h"
 
-enum { ONE = 0x41, AT_MOST_ONE = 0x6f, MANY = 0x6d };
+enum {
+    ONE = REMBULFOSE_CARDINALITY_ONE,
+    AT_MOST_ONE = REMBULFOSE_CARDINALITY_AT_MOST_ONE,
+    MANY = REMBULFOSE_CARDINALITY_MANY
+};
 
 /* Tags of blocks. */
 enum { SET_TAG = 0, SHAPE_TAG = 1, NAMED_TAG = 5, ARRAY_TAG = 6, ENUM_TAG = 7, INPUT_TAG = 8 };

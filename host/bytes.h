@@ -2,7 +2,6 @@
 #ifndef BYTES_H
 #define BYTES_H
 
-#include <stddef.h>
 #include <stdint.h>
 
 static inline uint16_t get_16(const uint8_t *at) {
@@ -15,11 +14,6 @@ static inline uint32_t get_32(const uint8_t *at) {
 
 static inline uint64_t get_64(const uint8_t *at) {
     return (uint64_t)get_32(at) << 32 | get_32(at + 4);
-}
-
-/* Word number `index` of a run of words, four bytes to a word. */
-static inline uint32_t get_word(const uint8_t *words, size_t index) {
-    return get_32(words + 4 * index);
 }
 
 static inline void put_32(uint8_t *at, uint32_t number) {

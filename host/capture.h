@@ -12,13 +12,15 @@
 #ifndef CAPTURE_H
 #define CAPTURE_H
 
+#include "../include/rembulfose.h"
+
 #include <stdbool.h>
 #include <stddef.h>
 #include <stdint.h>
 
 #define CAPTURE_MAGIC "rembulfose-capture 1\n"
 
-enum { CLIENT = 0, SERVER = 1 };
+enum { CLIENT = REMBULFOSE_CLIENT, SERVER = REMBULFOSE_SERVER };
 
 struct capture {
     uint8_t *bytes;

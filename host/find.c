@@ -31,7 +31,8 @@ static void print_one_number(const struct screen *screen, rembulfose_number numb
 static void print_found(const struct screen *screen, const struct message *message,
                         rembulfose_answer found, const uint8_t *path, size_t path_words) {
     const struct part *part = &message->parts[0];
-    struct listed listed = {part->plan, part->bytes, message->list, part->answer.first / 5};
+    struct listed listed = {part->plan, part->bytes, message->list,
+                            part->answer.first / REMBULFOSE_ENTRY_WORDS};
     size_t entry;
     uint32_t parent;
     print_size(screen, PLAIN, found.second);

@@ -10,9 +10,13 @@ static const struct code states[] = {{0x49, "not in a transaction"},
                                      {0x54, "in a transaction"},
                                      {0x45, "in a failed transaction"},
                                      {0, NULL}};
-static const struct code cardinalities[] = {{0x6e, "none"}, {0x6f, "at most one"},
-                                            {0x41, "one"},  {0x6d, "many"},
-                                            {0x4d, "at least one"}, {0, NULL}};
+static const struct code cardinalities[] = {
+    {REMBULFOSE_CARDINALITY_NONE, "none"},
+    {REMBULFOSE_CARDINALITY_AT_MOST_ONE, "at most one"},
+    {REMBULFOSE_CARDINALITY_ONE, "one"},
+    {REMBULFOSE_CARDINALITY_MANY, "many"},
+    {REMBULFOSE_CARDINALITY_AT_LEAST_ONE, "at least one"},
+    {0, NULL}};
 
 #define END {NULL, NUMBER, NULL, NULL}
 

@@ -1,6 +1,5 @@
 #include "messages.h"
 
-#include "bytes.h"
 #include "hexview.h"
 #include "layouts.h"
 #include "tree.h"
@@ -91,8 +90,8 @@ static void print_fields(const struct screen *screen, unsigned depth, const stru
                          struct fields *fields) {
     const struct message *message = fields->message;
     for (; field->name != NULL && fields->next + 2 <= message->answer.second; field++) {
-        const uint8_t *bytes = message->bytes + get_word(message->fields, fields->next);
-        size_t length = get_word(message->fields, fields->next + 1);
+        const uint8_t *bytes = message->bytes + rembulfose_word(message->fields, fields->next);
+        size_t length = rembulfose_word(message->fields, fields->next + 1);
         fields->next += 2;
         print_indent(screen, depth);
         fprintf(screen->out, "%-*s ", FIELD_WIDTH, field->name);
@@ -136,7 +135,8 @@ static void print_descriptor(const struct screen *screen, const struct part *par
 
 static void print_value(const struct screen *screen, const struct message *message,
                         const struct part *part) {
-    struct listed listed = {part->plan, part->bytes, message->list, part->answer.first / 5};
+    struct listed listed = {part->plan, part->bytes, message->list,
+                            part->answer.first / REMBULFOSE_ENTRY_WORDS};
     print_indent(screen, 1);
     fprintf(screen->out, "%s: ", part->name);
     print_size(screen, PLAIN, part->length);

@@ -1,7 +1,5 @@
 #include "plan.h"
 
-#include "bytes.h"
-
 #include <string.h>
 
 rembulfose_answer plan_compile(struct plan *plan, const uint8_t *id, const uint8_t *descriptor,
@@ -19,32 +17,32 @@ rembulfose_answer plan_compile(struct plan *plan, const uint8_t *id, const uint8
 }
 
 uint32_t plan_root(const struct plan *plan) {
-    return get_word(plan->words, 1);
+    return rembulfose_word(plan->words, 1);
 }
 
-enum kind plan_kind(const struct plan *plan, uint32_t node) {
-    return (enum kind)get_word(plan->words, node);
+enum rembulfose_kind plan_kind(const struct plan *plan, uint32_t node) {
+    return (enum rembulfose_kind)rembulfose_word(plan->words, node);
 }
 
 uint32_t plan_format(const struct plan *plan, uint32_t node) {
-    return get_word(plan->words, node + 1);
+    return rembulfose_word(plan->words, node + 1);
 }
 
 uint32_t plan_count(const struct plan *plan, uint32_t node) {
-    return get_word(plan->words, node + 1);
+    return rembulfose_word(plan->words, node + 1);
 }
 
 /* The word that refers to an element; 0 if the node has no such element. */
 static uint32_t reference(const struct plan *plan, uint32_t node, uint32_t index) {
     switch (plan_kind(plan, node)) {
-    case SET_OR_ARRAY:
-    case SET_OF_ARRAYS:
-    case RANGE:
+    case REMBULFOSE_KIND_SET_OR_ARRAY:
+    case REMBULFOSE_KIND_SET_OF_ARRAYS:
+    case REMBULFOSE_KIND_RANGE:
         return node + 1;
-    case TUPLE:
+    case REMBULFOSE_KIND_TUPLE:
         return index < plan_count(plan, node) ? node + 2 + index : 0;
-    case OBJECT:
-    case INPUT_OBJECT:
+    case REMBULFOSE_KIND_OUTPUT_OBJECT:
+    case REMBULFOSE_KIND_INPUT_OBJECT:
         return index < plan_count(plan, node) ? node + 2 + 2 * index : 0;
     default:
         return 0;
@@ -53,12 +51,12 @@ static uint32_t reference(const struct plan *plan, uint32_t node, uint32_t index
 
 uint32_t plan_element(const struct plan *plan, uint32_t node, uint32_t index) {
     uint32_t word = reference(plan, node, index);
-    return word == 0 ? 0 : get_word(plan->words, word);
+    return word == 0 ? 0 : rembulfose_word(plan->words, word);
 }
 
 uint32_t plan_cardinality(const struct plan *plan, uint32_t node, uint32_t index) {
     uint32_t word = reference(plan, node, index);
-    return word == 0 ? 0 : get_word(plan->words, word + 1);
+    return word == 0 ? 0 : rembulfose_word(plan->words, word + 1);
 }
 
 struct name plan_name(const struct plan *plan, uint32_t node, uint32_t index) {
@@ -72,12 +70,12 @@ bool plan_is_set(const struct plan *plan, uint32_t node) {
 
 uint32_t plan_node_words(const struct plan *plan, uint32_t node) {
     switch (plan_kind(plan, node)) {
-    case ENUMERATION:
+    case REMBULFOSE_KIND_ENUMERATION:
         return 1;
-    case TUPLE:
+    case REMBULFOSE_KIND_TUPLE:
         return 2 + plan_count(plan, node);
-    case OBJECT:
-    case INPUT_OBJECT:
+    case REMBULFOSE_KIND_OUTPUT_OBJECT:
+    case REMBULFOSE_KIND_INPUT_OBJECT:
         return 2 + 2 * plan_count(plan, node);
     default:
         return 2;

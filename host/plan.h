@@ -6,21 +6,6 @@
 
 #include <stdbool.h>
 
-/* The library's most words for a plan or a list, in bytes. */
-enum { MOST_WORD_BYTES = 4 * 8192 };
-
-/* What a plan's node is: document 01's node numbers. */
-enum kind {
-    LEAF = 1,
-    SET_OR_ARRAY = 2,
-    SET_OF_ARRAYS = 3,
-    TUPLE = 4,
-    OBJECT = 5,
-    INPUT_OBJECT = 6,
-    RANGE = 7,
-    ENUMERATION = 8
-};
-
 /* An element's name in the descriptor; length 0 where it has none. */
 struct name {
     const uint8_t *text;
@@ -30,10 +15,10 @@ struct name {
 struct plan {
     bool known;                   /* whether there is a plan: a descriptor was met and accepted */
     uint8_t id[16];               /* the descriptor's */
-    uint8_t words[MOST_WORD_BYTES];
+    uint8_t words[REMBULFOSE_ROOM];
     size_t length;                /* bytes of words */
-    struct name names[MOST_WORD_BYTES / 4]; /* at the word that refers to the element */
-    uint8_t tags[MOST_WORD_BYTES / 4];      /* at a node's first word, its block's tag */
+    struct name names[REMBULFOSE_MOST_WORDS]; /* at the word that refers to the element */
+    uint8_t tags[REMBULFOSE_MOST_WORDS];      /* at a node's first word, its block's tag */
 };
 
 /* Compiles a descriptor for the id of 16 bytes. The answer is the library's; a plan that was known
@@ -44,7 +29,7 @@ rembulfose_answer plan_compile(struct plan *plan, const uint8_t *id, const uint8
 /* The plan's root node; 0 for "no type". */
 uint32_t plan_root(const struct plan *plan);
 
-enum kind plan_kind(const struct plan *plan, uint32_t node);
+enum rembulfose_kind plan_kind(const struct plan *plan, uint32_t node);
 
 /* A leaf's format; of other nodes the second word. */
 uint32_t plan_format(const struct plan *plan, uint32_t node);
@@ -60,7 +45,7 @@ uint32_t plan_cardinality(const struct plan *plan, uint32_t node, uint32_t index
 
 struct name plan_name(const struct plan *plan, uint32_t node, uint32_t index);
 
-/* Whether a node that is SET_OR_ARRAY is a set. */
+/* Whether a node that is a set or array is a set. */
 bool plan_is_set(const struct plan *plan, uint32_t node);
 
 /* How many words a node has. */

@@ -17,11 +17,11 @@ struct session *session_new(const struct capture *capture) {
 
 /* The last fields of the message, counted back from the end: 1 is the last. */
 static size_t field_start(const struct message *message, size_t back) {
-    return get_word(message->fields, message->answer.second - 2 * back);
+    return rembulfose_word(message->fields, message->answer.second - 2 * back);
 }
 
 static size_t field_length(const struct message *message, size_t back) {
-    return get_word(message->fields, message->answer.second - 2 * back + 1);
+    return rembulfose_word(message->fields, message->answer.second - 2 * back + 1);
 }
 
 /* A new part that lies in the field so far back from the message's end. */

@@ -29,11 +29,11 @@ struct message {
     const uint8_t *bytes;
     size_t length, at;        /* if it is refused with 1 or 2, all that is left of the record */
     rembulfose_answer answer; /* of reading it */
-    uint8_t fields[MOST_WORD_BYTES]; /* the list of its fields */
+    uint8_t fields[REMBULFOSE_ROOM]; /* the list of its fields */
     struct part parts[2];
     unsigned part_count;
     unsigned long row;        /* of a D, counted from 1; otherwise 0 */
-    uint8_t list[MOST_WORD_BYTES];   /* of its value, if it has one that was accepted */
+    uint8_t list[REMBULFOSE_ROOM];   /* of its value, if it has one that was accepted */
 };
 
 /* What values of one kind, rows or state data, are read by: the descriptor of the last T or s, as long as

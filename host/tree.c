@@ -1,10 +1,7 @@
 #include "tree.h"
 
-#include "bytes.h"
 #include "scalars.h"
 
-static const uint32_t ABSENT = UINT32_MAX;
-enum { ENTRY_WORDS = 5 };
 enum { EMPTY_RANGE = 1, LOWER_IN = 2, UPPER_IN = 4, NO_LOWER = 8, NO_UPPER = 16 };
 enum { NAME_WIDTH = 12, KIND_WIDTH = 18 };
 
@@ -13,29 +10,32 @@ struct entry {
 };
 
 static struct entry entry_at(const struct listed *listed, size_t entry) {
-    const uint8_t *words = listed->list + 4 * ENTRY_WORDS * entry;
-    return (struct entry){get_word(words, 0), get_word(words, 1), get_word(words, 2),
-                          get_word(words, 3), get_word(words, 4)};
+    const uint8_t *words = listed->list + 4 * REMBULFOSE_ENTRY_WORDS * entry;
+    return (struct entry){.node = rembulfose_word(words, REMBULFOSE_ENTRY_NODE),
+                          .index = rembulfose_word(words, REMBULFOSE_ENTRY_INDEX),
+                          .start = rembulfose_word(words, REMBULFOSE_ENTRY_START),
+                          .length = rembulfose_word(words, REMBULFOSE_ENTRY_LENGTH),
+                          .below = rembulfose_word(words, REMBULFOSE_ENTRY_BELOW)};
 }
 
 /* What a node is called alone: a leaf by its format. */
 static const char *kind_name(const struct plan *plan, uint32_t node) {
     switch (plan_kind(plan, node)) {
-    case LEAF:
+    case REMBULFOSE_KIND_LEAF:
         return format_name(plan_format(plan, node));
-    case SET_OR_ARRAY:
+    case REMBULFOSE_KIND_SET_OR_ARRAY:
         return plan_is_set(plan, node) ? "set" : "array";
-    case SET_OF_ARRAYS:
+    case REMBULFOSE_KIND_SET_OF_ARRAYS:
         return "set";
-    case TUPLE:
+    case REMBULFOSE_KIND_TUPLE:
         return "tuple";
-    case OBJECT:
+    case REMBULFOSE_KIND_OUTPUT_OBJECT:
         return "object";
-    case INPUT_OBJECT:
+    case REMBULFOSE_KIND_INPUT_OBJECT:
         return "input object";
-    case RANGE:
+    case REMBULFOSE_KIND_RANGE:
         return "range";
-    case ENUMERATION:
+    case REMBULFOSE_KIND_ENUMERATION:
         return "enumeration";
     }
     return "unknown kind";
@@ -45,8 +45,9 @@ static const char *kind_name(const struct plan *plan, uint32_t node) {
  * after a name that is longer ("range of relative_duration"). */
 static void print_kind(const struct screen *screen, const struct plan *plan, uint32_t node,
                        bool followed) {
-    enum kind kind = plan_kind(plan, node);
-    bool has_of = kind == SET_OR_ARRAY || kind == SET_OF_ARRAYS || kind == RANGE;
+    enum rembulfose_kind kind = plan_kind(plan, node);
+    bool has_of = kind == REMBULFOSE_KIND_SET_OR_ARRAY || kind == REMBULFOSE_KIND_SET_OF_ARRAYS ||
+                  kind == REMBULFOSE_KIND_RANGE;
     const char *of = has_of ? kind_name(plan, plan_element(plan, node, 0)) : "";
     char text[64];
     snprintf(text, sizeof text, "%s%s%s", kind_name(plan, node), has_of ? " of " : "", of);
@@ -68,7 +69,7 @@ static void print_label(const struct screen *screen, const struct plan *plan, ui
 static void print_leaf(const struct screen *screen, const struct listed *listed,
                        struct entry entry) {
     const uint8_t *bytes = listed->value + entry.start;
-    if (plan_kind(listed->plan, entry.node) == ENUMERATION)
+    if (plan_kind(listed->plan, entry.node) == REMBULFOSE_KIND_ENUMERATION)
         print_text(screen, bytes, entry.length, QUOTED);
     else
         print_scalar(screen, plan_format(listed->plan, entry.node), bytes, entry.length);
@@ -106,12 +107,12 @@ static void print_count(const struct screen *screen, uint32_t count) {
 /* The last column of an entry's line. */
 static void print_content(const struct screen *screen, const struct listed *listed, size_t at) {
     struct entry entry = entry_at(listed, at);
-    enum kind kind = plan_kind(listed->plan, entry.node);
-    if (entry.length == ABSENT)
+    enum rembulfose_kind kind = plan_kind(listed->plan, entry.node);
+    if (entry.length == REMBULFOSE_ABSENT)
         print(screen, FAINT, "absent");
-    else if (kind == LEAF || kind == ENUMERATION)
+    else if (kind == REMBULFOSE_KIND_LEAF || kind == REMBULFOSE_KIND_ENUMERATION)
         print_leaf(screen, listed, entry);
-    else if (kind == RANGE)
+    else if (kind == REMBULFOSE_KIND_RANGE)
         print_range(screen, listed, at);
     else
         print_count(screen, entry.below);
@@ -128,7 +129,7 @@ size_t print_tree(const struct screen *screen, unsigned depth, const struct list
     print_kind(screen, listed->plan, entry.node, true);
     print_content(screen, listed, at);
     at++;
-    if (plan_kind(listed->plan, entry.node) == RANGE)
+    if (plan_kind(listed->plan, entry.node) == REMBULFOSE_KIND_RANGE)
         return at + entry.below;
     for (uint32_t i = 0; i < entry.below; i++)
         at = print_tree(screen, depth + 1, listed, at, entry.node);
@@ -149,7 +150,7 @@ bool tree_entry(const struct listed *listed, const uint8_t *path, size_t path_wo
     for (size_t step = 0; step < path_words; step++) {
         struct entry container = entry_at(listed, at);
         uint32_t left = container.below;
-        for (at++; left > 0 && entry_at(listed, at).index != get_word(path, step); left--)
+        for (at++; left > 0 && entry_at(listed, at).index != rembulfose_word(path, step); left--)
             at = past(listed, at);
         if (left == 0)
             return false;
@@ -161,15 +162,15 @@ bool tree_entry(const struct listed *listed, const uint8_t *path, size_t path_wo
 
 static const char *cardinality_name(uint32_t cardinality) {
     switch (cardinality) {
-    case 0x6e:
+    case REMBULFOSE_CARDINALITY_NONE:
         return "none";
-    case 0x6f:
+    case REMBULFOSE_CARDINALITY_AT_MOST_ONE:
         return "at most one";
-    case 0x41:
+    case REMBULFOSE_CARDINALITY_ONE:
         return "one";
-    case 0x6d:
+    case REMBULFOSE_CARDINALITY_MANY:
         return "many";
-    case 0x4d:
+    case REMBULFOSE_CARDINALITY_AT_LEAST_ONE:
         return "at least one";
     default:
         return "";
@@ -180,12 +181,13 @@ void print_plan(const struct screen *screen, unsigned depth, const struct plan *
     uint32_t root = plan_root(plan);
     if (root == 0)
         return;
-    enum kind kind = plan_kind(plan, root);
-    bool object = kind == OBJECT || kind == INPUT_OBJECT;
+    enum rembulfose_kind kind = plan_kind(plan, root);
+    bool object = kind == REMBULFOSE_KIND_OUTPUT_OBJECT || kind == REMBULFOSE_KIND_INPUT_OBJECT;
+    bool tuple = kind == REMBULFOSE_KIND_TUPLE;
     print_indent(screen, depth);
     print_kind(screen, plan, root, false);
     fputc('\n', screen->out);
-    for (uint32_t i = 0; (object || kind == TUPLE) && i < plan_count(plan, root); i++) {
+    for (uint32_t i = 0; (object || tuple) && i < plan_count(plan, root); i++) {
         print_indent(screen, depth + 1);
         print_label(screen, plan, root, i);
         print_kind(screen, plan, plan_element(plan, root, i), object);

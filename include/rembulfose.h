@@ -36,14 +36,23 @@ extern "C" {
 
 #define REMBULFOSE_STACK 262144
 
+/* The most words of a plan, list or path, and the bytes of a room that holds as many. */
+#define REMBULFOSE_MOST_WORDS 8192
+#define REMBULFOSE_ROOM 32768
+
+/* The most bytes of a value, of a descriptor, and of a message with its type byte. */
+#define REMBULFOSE_MOST_VALUE 65535
+#define REMBULFOSE_MOST_DESCRIPTOR 65535
+#define REMBULFOSE_MOST_MESSAGE 65536
+
 /* What a call answers. number: 0, or the refusal. place: where, if it is refused. first and second: said at each call;
  * a call that names no second leaves it 0. */
 typedef struct {
     uint32_t number, place, first, second;
 } rembulfose_answer;
 
-/* An element as one number. format: 3 int16, 4 int32, 5 int64, 6 float32, 7 float64, 9 bool, 19 memory. bits: an
- * integer's two's complement in 64 bits, 0 or 1 for a bool, a float's own bits (a float32's in the low 32). */
+/* An element as one number. format: REMBULFOSE_FORMAT_INT16, _INT32, _INT64, _FLOAT32, _FLOAT64, _BOOL or _MEMORY. bits:
+ * an integer's two's complement in 64 bits, 0 or 1 for a bool, a float's own bits (a float32's in the low 32). */
 typedef struct {
     uint32_t number, place, format;
     uint64_t bits;
@@ -84,6 +93,79 @@ enum {
     REMBULFOSE_ABSENT_ELEMENT = 36, /* path ends at an absent element; place 0 */
     REMBULFOSE_NO_NUMBER = 37      /* element has no single number; place 0 */
 };
+
+/* Who sent a message. */
+enum rembulfose_side { REMBULFOSE_CLIENT = 0, REMBULFOSE_SERVER = 1 };
+
+/* A plan's words: how many there are, the root's number, then the nodes. A node's number is that of its first word in the
+ * plan; this word is its kind. What follows it is said at each kind, where a ref is the number of another node. */
+enum rembulfose_kind {
+    REMBULFOSE_KIND_LEAF = 1,          /* format: a scalar */
+    REMBULFOSE_KIND_SET_OR_ARRAY = 2,  /* ref of its elements */
+    REMBULFOSE_KIND_SET_OF_ARRAYS = 3, /* ref of its arrays */
+    REMBULFOSE_KIND_TUPLE = 4,         /* count, then so many refs */
+    REMBULFOSE_KIND_OUTPUT_OBJECT = 5, /* count, then so many pairs of ref and cardinality */
+    REMBULFOSE_KIND_INPUT_OBJECT = 6,  /* the same; sparse: a value gives the index of each element that it has */
+    REMBULFOSE_KIND_RANGE = 7,         /* ref of its bounds */
+    REMBULFOSE_KIND_ENUMERATION = 8    /* nothing: a text */
+};
+
+/* The formats of scalars, the second word of a leaf's node. REMBULFOSE_FORMATS: how many there are. */
+#define REMBULFOSE_FORMATS 20
+enum rembulfose_format {
+    REMBULFOSE_FORMAT_UUID = 0,
+    REMBULFOSE_FORMAT_STR = 1,
+    REMBULFOSE_FORMAT_BYTES = 2,
+    REMBULFOSE_FORMAT_INT16 = 3,
+    REMBULFOSE_FORMAT_INT32 = 4,
+    REMBULFOSE_FORMAT_INT64 = 5,
+    REMBULFOSE_FORMAT_FLOAT32 = 6,
+    REMBULFOSE_FORMAT_FLOAT64 = 7,
+    REMBULFOSE_FORMAT_DECIMAL = 8,
+    REMBULFOSE_FORMAT_BOOL = 9,
+    REMBULFOSE_FORMAT_DATETIME = 10,
+    REMBULFOSE_FORMAT_LOCAL_DATETIME = 11,
+    REMBULFOSE_FORMAT_LOCAL_DATE = 12,
+    REMBULFOSE_FORMAT_LOCAL_TIME = 13,
+    REMBULFOSE_FORMAT_DURATION = 14,
+    REMBULFOSE_FORMAT_JSON = 15,
+    REMBULFOSE_FORMAT_BIGINT = 16,
+    REMBULFOSE_FORMAT_RELATIVE_DURATION = 17,
+    REMBULFOSE_FORMAT_DATE_DURATION = 18,
+    REMBULFOSE_FORMAT_MEMORY = 19
+};
+
+/* Cardinalities: of an object's element in a plan, and of a query's result in T. ONE and AT_LEAST_ONE are required. */
+enum rembulfose_cardinality {
+    REMBULFOSE_CARDINALITY_NONE = 0x6e,
+    REMBULFOSE_CARDINALITY_AT_MOST_ONE = 0x6f,
+    REMBULFOSE_CARDINALITY_ONE = 0x41,
+    REMBULFOSE_CARDINALITY_MANY = 0x6d,
+    REMBULFOSE_CARDINALITY_AT_LEAST_ONE = 0x4d
+};
+
+/* The words of an entry in a value's list: how many an entry has, and which is which. */
+#define REMBULFOSE_ENTRY_WORDS 5
+enum rembulfose_entry {
+    REMBULFOSE_ENTRY_NODE = 0,   /* in the plan */
+    REMBULFOSE_ENTRY_INDEX = 1,  /* in its parent; sparse: the index sent; range: 0 lower, 1 upper; top: 0 */
+    REMBULFOSE_ENTRY_START = 2,  /* of its bytes in the value; absent: just past its head */
+    REMBULFOSE_ENTRY_LENGTH = 3, /* of its bytes, or REMBULFOSE_ABSENT */
+    REMBULFOSE_ENTRY_BELOW = 4   /* number of entries directly below */
+};
+
+/* The length of an absent element. */
+#define REMBULFOSE_ABSENT 0xffffffffu
+
+/* Word number `index`, from 0, of a plan, list or path: the four bytes at 4 * index, big-endian, which must be there. Plain
+ * C, compiled with the host. */
+static inline uint32_t rembulfose_word(const uint8_t *words, size_t index) {
+    const uint8_t *at = words + 4 * index;
+    uint32_t word = at[0];
+    word = word << 8 | at[1];
+    word = word << 8 | at[2];
+    return word << 8 | at[3];
+}
 
 /* Reads the message at the start of src. Bytes after the message are not looked at.
  * side: who sent it, 0 client, 1 server. src: the bytes received so far. list: room for two words for each body field,

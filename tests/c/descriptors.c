@@ -10,7 +10,7 @@
 #define _DEFAULT_SOURCE
 #include "cases.h"
 
-enum { MOST_DESCRIPTOR = 65535 };
+enum { MOST_DESCRIPTOR = REMBULFOSE_MOST_DESCRIPTOR };
 enum { TUPLE = 4, ENUMERATION = 7, INPUT = 8 };
 
 /* Compiles a descriptor in a room of so many bytes. */

@@ -10,7 +10,15 @@
 #define _DEFAULT_SOURCE
 #include "large.h"
 
-enum { INT16 = 3, INT32 = 4, INT64 = 5, FLOAT32 = 6, FLOAT64 = 7, BOOL = 9, MEMORY = 19 };
+enum {
+    INT16 = REMBULFOSE_FORMAT_INT16,
+    INT32 = REMBULFOSE_FORMAT_INT32,
+    INT64 = REMBULFOSE_FORMAT_INT64,
+    FLOAT32 = REMBULFOSE_FORMAT_FLOAT32,
+    FLOAT64 = REMBULFOSE_FORMAT_FLOAT64,
+    BOOL = REMBULFOSE_FORMAT_BOOL,
+    MEMORY = REMBULFOSE_FORMAT_MEMORY
+};
 
 static int same_number(rembulfose_number one, rembulfose_number other) {
     return one.number == other.number && one.place == other.place && one.format == other.format &&

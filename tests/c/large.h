@@ -6,9 +6,17 @@
 #include "cases.h"
 
 /* MOST_LISTED: an entry more than a list from C can have. */
-enum { MOST_VALUE = 65535, MOST_LISTED = MOST_WORDS + 3 };
-enum { LEAF = 1, SET = 2, TUPLE = 4, OUTPUT = 5, INPUT = 6, ENUMERATION = 8 };
-enum { STR = 1, BYTES = 2, ONE = 65 };
+enum { MOST_VALUE = REMBULFOSE_MOST_VALUE, MOST_LISTED = MOST_WORDS + 3 };
+enum {
+    LEAF = REMBULFOSE_KIND_LEAF,
+    SET = REMBULFOSE_KIND_SET_OR_ARRAY,
+    TUPLE = REMBULFOSE_KIND_TUPLE,
+    OUTPUT = REMBULFOSE_KIND_OUTPUT_OBJECT,
+    INPUT = REMBULFOSE_KIND_INPUT_OBJECT,
+    ENUMERATION = REMBULFOSE_KIND_ENUMERATION
+};
+enum { STR = REMBULFOSE_FORMAT_STR, BYTES = REMBULFOSE_FORMAT_BYTES };
+enum { ONE = REMBULFOSE_CARDINALITY_ONE };
 
 static uint8_t plan[4 * (MOST_WORDS + 1)], value[MOST_VALUE + 1], expected[4 * MOST_LISTED];
 static uint32_t plan_words, value_bytes, list_words;
@@ -37,8 +45,8 @@ static inline void put_value(uint32_t word) {
 /* Entries far past those that a list from C can hold are left out. */
 static inline void expect_entry(uint32_t node, uint32_t index, uint32_t start, uint32_t length,
                                 uint32_t below) {
-    const uint32_t entry[5] = {node, index, start, length, below};
-    for (int i = 0; i < 5 && list_words < MOST_LISTED; i++)
+    const uint32_t entry[REMBULFOSE_ENTRY_WORDS] = {node, index, start, length, below};
+    for (int i = 0; i < REMBULFOSE_ENTRY_WORDS && list_words < MOST_LISTED; i++)
         put_word(expected + 4 * list_words++, entry[i]);
 }
 

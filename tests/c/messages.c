@@ -10,7 +10,7 @@
 #define _DEFAULT_SOURCE
 #include "cases.h"
 
-enum { CLIENT = 0, SERVER = 1 };
+enum { CLIENT = REMBULFOSE_CLIENT, SERVER = REMBULFOSE_SERVER };
 
 /* Reads `source`; the room of so many bytes must then start with `list`. */
 static void reading(const char *name, uint32_t side, const char *source, size_t room,

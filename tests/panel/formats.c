@@ -6,7 +6,7 @@
 
 #include <string.h>
 
-enum { FORMATS = 20, ROWS = 4, SET_OF_ARRAYS_AT = FORMATS, ELEMENTS = FORMATS + 1 };
+enum { FORMATS = REMBULFOSE_FORMATS, ROWS = 4, SET_OF_ARRAYS_AT = FORMATS, ELEMENTS = FORMATS + 1 };
 enum { INT16_BLOCK = 3, ARRAY_BLOCK = FORMATS, SET_BLOCK, TUPLE_BLOCK };
 
 /* The scalars of each row, in hex, in the order of the formats. */
@@ -99,7 +99,7 @@ static void send_description(struct work *work) {
     must(answer.number == 0, rembulfose_refusal_text(answer.number));
     add_field_number(fields, 0, 2);
     add_field_number(fields, 0, 8);
-    add_field_number(fields, 'm', 1);
+    add_field_number(fields, REMBULFOSE_CARDINALITY_MANY, 1);
     add_field(fields, zero, 16);
     add_field(fields, NULL, 0);
     add_field(fields, work->id.bytes, 16);

@@ -28,7 +28,7 @@ static void send_description(struct work *work) {
     add_id(&work->id, ARRAY_ID);
     add_field_number(&work->fields, 0, 2);
     add_field_number(&work->fields, 0, 8);
-    add_field_number(&work->fields, 'A', 1);
+    add_field_number(&work->fields, REMBULFOSE_CARDINALITY_ONE, 1);
     add_field(&work->fields, zero, 16);
     add_field(&work->fields, NULL, 0);
     add_field(&work->fields, work->id.bytes, 16);
