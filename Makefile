@@ -1,7 +1,11 @@
 # make run: builds everything and shows the demo's capture. make panel: the panel program alone, build/panel.
-# make test: the gate. make bench: the benchmark's ratios. make install PREFIX=..: header, archive and pkg-config file.
-# make soak: 10,000,000 cases against the second program, not in the gate.
-.PHONY: run panel demo panel-tests test bench soak install clean compiler
+# make test: the gate. make bench: the benchmark's ratios. make soak: 10,000,000 cases against the second program, not in the gate.
+# make install PREFIX=.. DESTDIR=..: header, archive, pkg-config file and panel program. make uninstall, with the same: removes them.
+# CC and AR: the C compiler and the archiver, cc and ar if they are not given.
+.PHONY: run panel demo panel-tests test bench soak install uninstall clean compiler
+
+# No half-made file is left where a command failed.
+.DELETE_ON_ERROR:
 
 CFLAGS = -std=c11 -O2 -Wall -Wextra -Werror
 LIBRARY = target/staticlib/libpanel.a
@@ -22,31 +26,38 @@ demo: build/make-capture
 
 build/panel: $(PANEL) $(HEADERS) $(LIBRARY) | compiler
 	mkdir -p build
-	cc $(CFLAGS) $(PANEL) $(LIBRARY) -o $@
+	$(CC) $(CFLAGS) $(PANEL) $(LIBRARY) -o $@
 
 build/make-capture: $(MAKER) $(HEADERS) $(LIBRARY) | compiler
 	mkdir -p build
-	cc $(CFLAGS) $(MAKER) $(LIBRARY) -o $@
+	$(CC) $(CFLAGS) $(MAKER) $(LIBRARY) -o $@
 
 # What tests/panel/run needs besides.
 panel-tests: build/panel-captures build/panel-formats build/panel-long-row
 
 build/panel-captures: tests/panel/captures.c host/capture.c $(HEADERS) | compiler
 	mkdir -p build
-	cc $(CFLAGS) tests/panel/captures.c host/capture.c -o $@
+	$(CC) $(CFLAGS) tests/panel/captures.c host/capture.c -o $@
 
 build/panel-%: tests/panel/%.c tests/hex.h $(BUILDER) $(HEADERS) $(LIBRARY) | compiler
 	mkdir -p build
-	cc $(CFLAGS) $< $(BUILDER) $(LIBRARY) -o $@
+	$(CC) $(CFLAGS) $< $(BUILDER) $(LIBRARY) -o $@
 
-$(LIBRARY): crates.txt $(wildcard crates/*/src/*.rt) | compiler
-	@command -v rt >/dev/null || { echo 'rt is missing: install the Rattle toolchain first' >&2; exit 1; }
-	@echo 'proving and building the library: the first time this takes some minutes'
-	rt staticlib panel
+# Code, contracts, definitions and proofs: what was changed is proved before the library is used.
+PROVED := crates.txt $(shell find crates -name '*.rt' -o -name '*.antt')
 
-# A missing C compiler is installed from Debian's packages.
+$(LIBRARY): $(PROVED) | compiler
+	@bash tools/build-library
+
+# An archive whose build was cut off is not taken, though it is newer than the code.
+ifneq ($(wildcard $(LIBRARY:.a=.unfinished)),)
+.PHONY: $(LIBRARY)
+endif
+
+# A missing C compiler is installed from Debian's packages; one that was chosen with CC is not.
 compiler:
-	@command -v cc >/dev/null || { echo 'installing gcc'; apt-get update -qq && apt-get install -y -qq gcc libc6-dev; }
+	@command -v $(firstword $(CC)) >/dev/null || { test '$(CC)' = cc && echo 'installing gcc' && \
+		apt-get update -qq && apt-get install -y -qq gcc libc6-dev; } || { echo '$(CC) is missing' >&2; exit 1; }
 
 test:
 	bash .ci/run
@@ -59,22 +70,31 @@ soak:
 	bash tests/soak
 
 PREFIX = /usr/local
-VERSION = 0.1.0
 place := $(abspath $(PREFIX))
+# The header's, so that there is one version and not two.
+version := $(shell sed -n 's/^.define REMBULFOSE_VERSION "\(.*\)"$$/\1/p' include/rembulfose.h)
 
 # The library and the refusals in words, as one archive.
 build/librembulfose.a: $(LIBRARY) host/refusal.c include/rembulfose.h | compiler
 	mkdir -p build
-	cc $(CFLAGS) -c host/refusal.c -o build/refusal.o
+	$(CC) $(CFLAGS) -c host/refusal.c -o build/refusal.o
 	cp $(LIBRARY) $@
-	ar rsD $@ build/refusal.o
+	$(AR) rsD $@ build/refusal.o
 
-install: build/librembulfose.a
-	install -d $(place)/include $(place)/lib/pkgconfig
-	install -m 644 include/rembulfose.h $(place)/include/
-	install -m 644 $< $(place)/lib/librembulfose.a
-	sed 's|@PREFIX@|$(place)|; s|@VERSION@|$(VERSION)|' rembulfose.pc.in > $(place)/lib/pkgconfig/rembulfose.pc
-	chmod 644 $(place)/lib/pkgconfig/rembulfose.pc
+# Files are put below DESTDIR, if it is given, and say that they are in PREFIX: for packages.
+to = $(DESTDIR)$(place)
+
+install: build/librembulfose.a build/panel
+	install -d '$(to)/include' '$(to)/lib/pkgconfig' '$(to)/bin'
+	install -m 644 include/rembulfose.h '$(to)/include/rembulfose.h'
+	install -m 644 build/librembulfose.a '$(to)/lib/librembulfose.a'
+	sed 's|@PREFIX@|$(place)|; s|@VERSION@|$(version)|' rembulfose.pc.in >'$(to)/lib/pkgconfig/rembulfose.pc'
+	chmod 644 '$(to)/lib/pkgconfig/rembulfose.pc'
+	install -m 755 build/panel '$(to)/bin/panel'
+
+# The files that install puts there; folders stay.
+uninstall:
+	rm -f '$(to)/include/rembulfose.h' '$(to)/lib/librembulfose.a' '$(to)/lib/pkgconfig/rembulfose.pc' '$(to)/bin/panel'
 
 clean:
 	rm -rf target build

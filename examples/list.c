@@ -14,10 +14,6 @@ static const uint8_t value[] = "\0\0\0\1\0\0\0\0\0\0\0\0\0\0\0\2\0\0\0\1"
                                "\0\0\0\10\0\0\0\0\0\0\0\7"
                                "\0\0\0\10\377\377\377\377\377\377\377\377";
 
-static uint32_t word(const uint8_t *at) {
-    return (uint32_t)at[0] << 24 | (uint32_t)at[1] << 16 | (uint32_t)at[2] << 8 | at[3];
-}
-
 static int refused(const char *call, rembulfose_answer answer) {
     if (answer.number != 0)
         fprintf(stderr, "%s: refused with %u at %u: %s\n", call, answer.number, answer.place,
@@ -27,7 +23,7 @@ static int refused(const char *call, rembulfose_answer answer) {
 
 /* A text has a zero after its last byte, which is not lent. */
 int main(void) {
-    uint8_t plan[64], list[256];
+    static uint8_t plan[REMBULFOSE_ROOM], list[REMBULFOSE_ROOM];
     rembulfose_answer compiled = rembulfose_compile(descriptor, sizeof descriptor - 1, root,
                                                     sizeof root - 1, plan, sizeof plan);
     if (refused("compile", compiled))
@@ -36,8 +32,12 @@ int main(void) {
                                               list, sizeof list);
     if (refused("run", listed))
         return 1;
-    for (const uint8_t *entry = list; entry < list + 4 * listed.first; entry += 20)
-        printf("node %u, index %u, start %u, length %u, below %u\n", word(entry), word(entry + 4),
-               word(entry + 8), word(entry + 12), word(entry + 16));
+    for (size_t entry = 0; entry < listed.first; entry += REMBULFOSE_ENTRY_WORDS)
+        printf("node %u, index %u, start %u, length %u, below %u\n",
+               rembulfose_word(list, entry + REMBULFOSE_ENTRY_NODE),
+               rembulfose_word(list, entry + REMBULFOSE_ENTRY_INDEX),
+               rembulfose_word(list, entry + REMBULFOSE_ENTRY_START),
+               rembulfose_word(list, entry + REMBULFOSE_ENTRY_LENGTH),
+               rembulfose_word(list, entry + REMBULFOSE_ENTRY_BELOW));
     return 0;
 }
