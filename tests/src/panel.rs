@@ -1,17 +1,17 @@
-//! What the panel program prints, worked out a second time: from document 01, the source documents and
-//! host/README.md, on the second program and with none of the panel program's code.
+//! What the panel program prints, worked out a second time: from document 01, the source documents
+//! and host/README.md, on the second program and with none of the panel program's code.
 //!
 //! * [`human`] has scalars in human form, with [`calendar`], `float` and [`texts`], which knows by
 //!   `unseen` what is escaped.
-//! * `tree` has values and plans, `fields` messages, `refused` refusals. [`described`] has the rule by
-//!   which description a value is read.
-//! * [`capture`] puts them together: all that is printed of a capture. [`asked`] has what `check` and
-//!   `find` print.
+//! * `tree` has values and plans, `fields` messages, `refused` refusals. [`described`] has the rule
+//!   by which description a value is read.
+//! * [`capture`] puts them together: all that is printed of a capture. [`asked`] has what `check`
+//!   and `find` print.
 //! * [`table`] reads the table of values and their texts, and makes rows of them; [`made`] makes
 //!   captures at random, with descriptions that are sent again by `again`; [`sweep`] has every code
 //!   point, and floats about each power of two.
-//! * [`compare`] runs the program and holds what it prints against all of these; [`seen`] counts what
-//!   was compared.
+//! * [`compare`] runs the program and holds what it prints against all of these; [`seen`] counts
+//!   what was compared.
 
 mod again;
 pub mod asked;

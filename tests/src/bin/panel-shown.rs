@@ -4,8 +4,8 @@
 //!     panel-shown PANEL TABLE CASES CAPTURE..
 //!
 //! Each CAPTURE and so many random ones are shown by both; each row of TABLE too, and both must
-//! print its text. Every code point and the floats about each power of two are shown too. A run that
-//! has hardly seen something that it is to compare has failed.
+//! print its text. Every code point and the floats about each power of two are shown too. A run
+//! that has hardly seen something that it is to compare has failed.
 
 use compare::panel::capture::shown;
 use compare::panel::compare::{printed, same, same_found, same_shown};

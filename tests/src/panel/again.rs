@@ -81,7 +81,7 @@ pub fn records(rng: &mut Rng) -> Vec<Record> {
         return calm(rng, &described);
     }
     let mut records = Vec::new();
-    if rng.once_in(4) {
+    if rng.once_in(3) {
         records.extend(values(rng, &described));
     }
     if !rng.once_in(4) {

@@ -2,7 +2,7 @@
 
 /// First and last code points, in order, with all between them: the general categories Cc, Cf, Zl,
 /// Zp and Zs but for U+0020; Default_Ignorable_Code_Point, which also has some that are not
-/// assigned; noncharacters that do not end a plane; and blanks that count as letters, marks or signs.
+/// assigned; noncharacters that do not end a plane; and blanks that count as letters or signs.
 const RANGES: [(u32, u32); 34] = [
     (0x0000, 0x001f),   // controls
     (0x007f, 0x00a0),   // controls, a space that does not break
@@ -33,7 +33,7 @@ const RANGES: [(u32, u32); 34] = [
     (0x110cd, 0x110cd), // Kaithi number sign above
     (0x13430, 0x1343f), // Egyptian format controls
     (0x13441, 0x13442), // Egyptian blanks: letters
-    (0x16fe4, 0x16fe4), // Khitan filler: a mark
+    (0x16fe4, 0x16fe4), // Khitan filler
     (0x1bca0, 0x1bca3), // shorthand format controls
     (0x1d159, 0x1d159), // musical null notehead: a sign
     (0x1d173, 0x1d17a), // musical format controls
