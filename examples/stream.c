@@ -102,7 +102,7 @@ int main(int count, char **words) {
     }
     if (got < 0)
         perror("stream");
-    if (held > 0)
-        printf("%zu bytes were not read as messages\n", held);
+    if (got == 0 && held > 0)
+        printf("%zu bytes of a message that is not whole\n", held);
     return got < 0 ? 2 : all_good && held == 0 ? 0 : 1;
 }

@@ -157,8 +157,8 @@ enum rembulfose_entry {
 /* The length of an absent element. */
 #define REMBULFOSE_ABSENT 0xffffffffu
 
-/* Word number `index`, from 0, of a plan, list or path: the four bytes at 4 * index, big-endian, which must be there. Plain
- * C, compiled with the host. */
+/* Word number `index`, from 0, of a plan, list or path: the four bytes at 4 * index, big-endian, which must be there. This one
+ * is plain C, compiled with the host, and nothing about it is proved. */
 static inline uint32_t rembulfose_word(const uint8_t *words, size_t index) {
     const uint8_t *at = words + 4 * index;
     uint32_t word = at[0];
