@@ -52,13 +52,14 @@ static void list_row(const uint8_t *row, size_t length) {
     }
 }
 
-/* A message that was read or refused. One that is refused and may have been a newer description, a T or a
- * message of unknown type, leaves rows not described: a row is never listed by a plan that is out of date.
+/* A message that was read or refused. One that is refused and may have been a newer description, a T, an s or
+ * one of unknown type, leaves rows not described: a row is never listed by a plan that is out of date.
  * `fields` has two words a field, start and length. */
 static void take_message(const uint8_t *message, rembulfose_answer answer) {
     uint32_t last = answer.second - 2;
     if (refused("message", answer)) {
-        if (message[0] == 'T' || answer.number == REMBULFOSE_UNKNOWN_TYPE)
+        bool describes = message[0] == 'T' || message[0] == 's';
+        if (describes || answer.number == REMBULFOSE_UNKNOWN_TYPE)
             plan_length = 0;
     } else if (message[0] == 'T') {
         describe(message + rembulfose_word(fields, last - 2),

@@ -90,6 +90,12 @@ static bool unseen(uint32_t code) {
     return (code & 0xfffe) == 0xfffe;
 }
 
+/* Whether a character could not be seen where it stands: without quotation marks a space at either end of a
+ * text could not. */
+static bool hidden(uint32_t code, enum writing writing) {
+    return unseen(code) || (code == ' ' && writing == BARE);
+}
+
 /* Whether a character that can be seen needs a backslash before it. */
 static bool escaped(uint32_t code, enum writing writing) {
     return (code == '\\' && writing != AS_IT_IS) || (code == '"' && writing == QUOTED);
@@ -107,7 +113,7 @@ static size_t print_character(FILE *out, const uint8_t *text, size_t length, enu
         fputs("\\n", out);
     else if (code == '\t')
         fputs("\\t", out);
-    else if (unseen(code))
+    else if (hidden(code, writing))
         fprintf(out, "\\u{%x}", (unsigned)code);
     else if (escaped(code, writing))
         fprintf(out, "\\%c", (int)code);

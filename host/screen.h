@@ -30,7 +30,7 @@ void print_size(const struct screen *screen, enum ink ink, size_t bytes);
 void print_indent(const struct screen *screen, unsigned depth);
 
 /* How a text stands on its line. QUOTED: in quotation marks, with those inside and backslashes
- * escaped. BARE: backslashes escaped. AS_IT_IS: for JSON, which has escapes of its own. */
+ * escaped. BARE: backslashes and spaces escaped. AS_IT_IS: for JSON, which has escapes of its own. */
 enum writing { QUOTED, BARE, AS_IT_IS };
 
 /* Prints UTF-8 text. Control characters, blanks and all else that shows nothing, and marks that turn the

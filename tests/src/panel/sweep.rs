@@ -1,20 +1,23 @@
-//! Captures of every code point, and of floats about each power of two.
+//! Captures of every code point in texts and in names, and of floats about each power of two.
 
 use super::human::NAMES;
-use super::table::{capture, data, Row};
+use super::table::{capture, data, named, Row};
 use crate::rng::Rng;
 
 /// Bytes of a text, so that `show` does not cut it.
 const TEXT_BYTES: usize = 150;
+/// Names in an object, so that its description is no longer than a message may be.
+const NAMES_OF_ONE: usize = 200;
 /// So many floats of each width are of random bits.
 const RANDOM_FLOATS: usize = 3_000;
 
 /// What is in each capture, and its bytes.
-pub fn captures(rng: &mut Rng) -> [(&'static str, Vec<u8>); 3] {
+pub fn captures(rng: &mut Rng) -> [(&'static str, Vec<u8>); 4] {
     let float64 = about_powers(0x7ff, 52).map(u64::to_be_bytes);
     let float32 = about_powers(0xff, 23).map(|bits| (bits as u32).to_be_bytes());
     [
         ("every code point", of("str", texts())),
+        ("every code point in a name", names()),
         ("float64", of("float64", float64.chain(random(rng)))),
         ("float32", of("float32", float32.chain(random(rng)))),
     ]
@@ -66,6 +69,12 @@ fn texts() -> impl Iterator<Item = String> {
         }
         Some(text)
     })
+}
+
+/// Descriptions with all letters in their elements' names.
+fn names() -> Vec<u8> {
+    let texts: Vec<String> = texts().collect();
+    texts.chunks(NAMES_OF_ONE).flat_map(named).collect()
 }
 
 /// The bits of each power of two, and of the numbers next to it, from the smallest up to infinity.

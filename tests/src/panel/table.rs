@@ -113,11 +113,16 @@ impl Blocks {
     }
 }
 
-/// A free shape with one element, at most one of it.
-fn shape(id: [u8; 16], of: [u8; 2]) -> Vec<u8> {
-    let (free, no_type, one, flags, name) = ([1], [0; 2], [0, 1], [0; 4], [0; 4]);
-    let element = [&flags[..], &[0x6f], &name, &of, &no_type].concat();
-    [&[1], &id[..], &free, &no_type, &one, &element].concat()
+/// A free shape with an element of each name, at most one of it.
+fn shape(id: [u8; 16], of: [u8; 2], names: &[String]) -> Vec<u8> {
+    let (free, no_type, flags) = ([1], [0; 2], [0; 4]);
+    let count = (names.len() as u16).to_be_bytes();
+    let element = |name: &String| {
+        let name = long(name.as_bytes());
+        [&flags[..], &[0x6f], &name, &of, &no_type].concat()
+    };
+    let elements: Vec<u8> = names.iter().flat_map(element).collect();
+    [&[1], &id[..], &free, &no_type, &count, &elements].concat()
 }
 
 /// An input shape with one element, at most one of it.
@@ -129,7 +134,8 @@ fn input_shape(id: [u8; 16], of: [u8; 2]) -> Vec<u8> {
 /// The descriptor of a row's kind.
 fn descriptor(kind: &str) -> Result<Blocks, String> {
     if let Some(of) = kind.strip_prefix("optional ") {
-        return Ok(descriptor(of)?.and(shape));
+        let no_name = [String::new()];
+        return Ok(descriptor(of)?.and(|id, of| shape(id, of, &no_name)));
     }
     if let Some(of) = kind.strip_prefix("sparse ") {
         return Ok(descriptor(of)?.and(input_shape));
@@ -155,6 +161,13 @@ pub fn capture(rows: &[Row]) -> Result<Vec<u8>, String> {
         capture.extend(data(&row.value));
     }
     Ok(capture)
+}
+
+/// A T whose rows are objects with a text of each name.
+pub fn named(names: &[String]) -> Vec<u8> {
+    let text = descriptor("str").expect("a known kind");
+    let blocks = text.and(|id, of| shape(id, of, names));
+    description(&blocks.bytes, &blocks.root)
 }
 
 /// Of lines that were printed, those of each row's tree.

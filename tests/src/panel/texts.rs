@@ -30,8 +30,9 @@ pub fn quoted(text: &str, extent: Extent) -> String {
     written(text, "\"", &['"', '\\'], extent)
 }
 
+/// Without quotation marks, where a space at either end could not be seen.
 pub fn bare(text: &str, extent: Extent) -> String {
-    written(text, "", &['\\'], extent)
+    written(text, "", &['\\', ' '], extent)
 }
 
 /// JSON has escapes of its own.
@@ -68,7 +69,9 @@ fn shown(letter: char, escaped: &[char]) -> String {
     match letter {
         '\n' => "\\n".into(),
         '\t' => "\\t".into(),
-        _ if is_unseen(letter) => format!("\\u{{{:x}}}", letter as u32),
+        _ if is_unseen(letter) || (letter == ' ' && escaped.contains(&' ')) => {
+            format!("\\u{{{:x}}}", letter as u32)
+        }
         _ if escaped.contains(&letter) => format!("\\{letter}"),
         _ => letter.into(),
     }
