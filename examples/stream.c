@@ -2,12 +2,11 @@
  * entry a line.
  *
  *     cc examples/stream.c $(pkg-config --cflags --libs rembulfose) -o stream
- *     ./stream FILE, or ./stream with the messages on standard input
+ *     ./stream <FILE
  *
  * The exit status is 0 if every row was listed and nothing refused, 1 if not, 2 if reading fails.
  */
 #include <errno.h>
-#include <fcntl.h>
 #include <rembulfose.h>
 #include <stdbool.h>
 #include <stdio.h>
@@ -72,35 +71,30 @@ static void take_message(const uint8_t *message, rembulfose_answer answer) {
     }
 }
 
-static rembulfose_answer read_at(size_t at, size_t held) {
-    return rembulfose_read_message(REMBULFOSE_SERVER, bytes + at, held - at, fields, sizeof fields);
-}
-
 /* Takes the messages that are whole; what is left is kept for the next read. False if a length is not
  * permitted, since nobody knows then where the next message starts. */
 static bool take_all(size_t *held) {
+    rembulfose_answer answer;
     size_t at = 0;
-    rembulfose_answer answer = read_at(at, *held);
-    while (answer.number != REMBULFOSE_NOT_WHOLE && answer.number != REMBULFOSE_BAD_LENGTH) {
+    for (;;) {
+        answer = rembulfose_read_message(REMBULFOSE_SERVER, bytes + at, *held - at, fields, sizeof fields);
+        if (answer.number == REMBULFOSE_NOT_WHOLE || answer.number == REMBULFOSE_BAD_LENGTH)
+            break;
         take_message(bytes + at, answer);
         at += 1 + (size_t)rembulfose_word(bytes + at + 1, 0); /* its length does not count the type */
-        answer = read_at(at, *held);
     }
     memmove(bytes, bytes + at, *held - at);
     *held -= at;
     return answer.number == REMBULFOSE_NOT_WHOLE || !refused("message", answer);
 }
 
-int main(int count, char **words) {
-    int from = count > 1 ? open(words[1], O_RDONLY) : STDIN_FILENO;
+int main(void) {
     size_t held = 0;
-    ssize_t got = from < 0 ? -1 : 1;
-    while (got > 0 || (got < 0 && errno == EINTR)) {
-        got = read(from, bytes + held, sizeof bytes - held);
+    ssize_t got;
+    do {
+        got = read(STDIN_FILENO, bytes + held, sizeof bytes - held);
         held += got > 0 ? (size_t)got : 0;
-        if (got > 0 && !take_all(&held))
-            break;
-    }
+    } while (got > 0 ? take_all(&held) : got < 0 && errno == EINTR);
     if (got < 0)
         perror("stream");
     if (got == 0 && held > 0)
