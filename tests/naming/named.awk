@@ -11,7 +11,7 @@
 # that are no names of ours.
 # Code that is set apart gives paths and make's targets only; but for README's list of promises, which has names and their file.
 BEGIN {
-  TOP = "^(bench|build|crates|demo|docs|examples|host|include|second|tests|[.]ci)/"
+  TOP = "^(bench|build|crates|demo|docs|examples|host|include|second|tests|tools|[.]ci)/"
   PLACE = "^[a-z_]+/(specs|proofs|src)([/:,;.]|$)"
   EDIT = "^[a-z_]+/[a-z_0-9]+$"
   n = split(foreign, words, " ")
