@@ -12,67 +12,64 @@ pub fn end_of(h: Head) -> usize
     requires { ⌜ endOf h < 2 ^ 64 ⌝ }
     ensures { λ r. ⌜ r ≡ endOf h ⌝ }
 {
-    match h {
-        Head::Present {
-            index: _,
-            start,
-            size,
-        } => start + size,
-        Head::Absent { index: _, start } => start,
-        Head::Fault(_) => 0,
-    }
+    let Head::Present {
+        index: _,
+        start,
+        size,
+    } = h
+    else {
+        let Head::Absent { index: _, start } = h else {
+            return 0;
+        };
+        return start;
+    };
+    start + size
 }
 
 // Which element the head is of.
 pub fn index_of(h: Head) -> usize
     ensures { λ r. ⌜ r ≡ indexOf h ⌝ }
 {
-    match h {
-        Head::Present {
-            index,
-            start: _,
-            size: _,
-        } => index,
-        Head::Absent { index, start: _ } => index,
-        Head::Fault(_) => 0,
-    }
+    let Head::Present {
+        index,
+        start: _,
+        size: _,
+    } = h
+    else {
+        let Head::Absent { index, start: _ } = h else {
+            return 0;
+        };
+        return index;
+    };
+    index
 }
 
 // The number of a refusal of the container, or 0.
 pub fn opening_fault(o: Opening) -> u32
     ensures { λ r. ⌜ r ≡ openingFault o ⌝ }
 {
-    match o {
-        Opening::Elements {
-            count: _,
-            first: _,
-            at: _,
-        } => 0,
-        Opening::Wrong(n) => n,
-    }
+    let Opening::Wrong(n) = o else {
+        return 0;
+    };
+    n
 }
 
 // The number of a refusal of the element, or 0.
 pub fn head_fault(h: Head) -> u32
     ensures { λ r. ⌜ r ≡ headFault h ⌝ }
 {
-    match h {
-        Head::Present {
-            index: _,
-            start: _,
-            size: _,
-        } => 0,
-        Head::Absent { index: _, start: _ } => 0,
-        Head::Fault(n) => n,
-    }
+    let Head::Fault(n) = h else {
+        return 0;
+    };
+    n
 }
 
 // The number of a refusal of the index, or 0.
 pub fn index_fault(x: Index) -> u32
     ensures { λ r. ⌜ r ≡ indexFault x ⌝ }
 {
-    match x {
-        Index::Known(_) => 0,
-        Index::Bad(n) => n,
-    }
+    let Index::Bad(n) = x else {
+        return 0;
+    };
+    n
 }

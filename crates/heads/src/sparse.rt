@@ -6,8 +6,13 @@ ghost use mathlib.Core.List.{[]};
 ghost use Prim.Native.Nat.{_≤_, _<_};
 ghost use lib.ListN.{length, getD, set, replicate};
 ghost use Rattle.heads.specs.Heads.{sparseIndex};
+ghost use Rattle.heads.specs.Marks.{marked, repeats};
 
-// Which indexes of a sparse object were given, and whether the last of them had been given before.
+// How many marks a set has: "512 elements .. in a block".
+pub const MOST: usize = 512;
+
+// Which indexes of a sparse object were given, and whether one of those that came last had been given before. The marks are read and written
+// by the methods here alone: each takes the set by value, and hands the marked set back.
 pub struct Seen {
     pub marks: [bool; 512],
     pub twice: bool,
@@ -16,7 +21,7 @@ pub struct Seen {
 impl Seen {
     // None.
     pub fn new() -> Self
-        ensures { λ r. ⌜ r .marks ≡ replicate 512 false ⌝ }
+        ensures { λ r. ⌜ (r .marks ≡ replicate 512 false) × (r .twice ≡ false) ⌝ }
     {
         Seen {
             marks: [false; 512],
@@ -32,6 +37,27 @@ impl Seen {
         let mut marks = self.marks;
         let twice = marks[i];
         marks[i] = true;
+        Seen { marks, twice }
+    }
+
+    // Tests and marks the indexes of a stretch of elements, one after the other: the set is taken and handed back once for all of them. An
+    // index that has no mark is passed over.
+    pub fn mark_all(self, indexes: &[u32]) -> Self
+        ensures { λ r. ⌜ (r .twice ≡ repeats (self .marks) (now (indexes .entry))) × (r .marks ≡ marked (self .marks) (now (indexes .entry))) ⌝ }
+    {
+        let mut marks = self.marks;
+        let mut twice = false;
+        let mut k: usize = 0;
+        while k < indexes.len() {
+            let i = indexes[k] as usize;
+            if i < MOST {
+                if marks[i] {
+                    twice = true;
+                }
+                marks[i] = true;
+            }
+            k += 1;
+        }
         Seen { marks, twice }
     }
 }

@@ -2,33 +2,48 @@
 use mathlib.Core.Path.{_≡_}
 use mathlib.Core.Bool.{Bool, true, false}
 use mathlib.Core.List.{List, []}
-use mathlib.Core.Option.{some}
 use Prim.Native.Nat.{ℕ, _+_, _-_, _*_, _<_, _≤_}
 use lib.Dec.{eqb, ltb}
 use lib.ListN.{length, take, drop, getD}
 use Rattle.wire.specs.Choice.{pick}
-use Rattle.heads.specs.Heads.{word, plainHead, optional, requires, sparseIndex, given}
-use Rattle.heads.specs.declared.Index.the-variants.{Known}
-use Rattle.heads.specs.declared.Head.the-variants.{Present}
-use Rattle.rules.specs.Node.{refAt}
+use Rattle.heads.specs.Heads.{word, plainHead, optional, requires, sparseIndex}
+use Rattle.heads.specs.declared.Index.{Index}
+use Rattle.heads.specs.declared.Index.the-variants.{Known, Bad}
+use Rattle.heads.specs.declared.Head.{Head}
+use Rattle.heads.specs.declared.Head.the-variants.{Present, Absent, Fault}
+use Rattle.scalars.specs.Sizes.{fixedSize}
+use Rattle.rules.specs.Node.{Node, leaf, enum, row, arrays, tuple, object, sparse, range, refAt}
 use Rattle.rules.specs.Values.{elements, rowForm, sparseForm, noMarks, valueOf}
-use Rattle.plan.specs.Plan.{look, cardsAt, At}
-use Rattle.value.specs.Walk.{led, leafKind, leafGood, Container}
+use Rattle.plan.specs.Plan.{look, pairRef, cardsAt, At}
+use Rattle.value.specs.Walk.{stopped, led, leafKind, leafGood, Container}
 use Rattle.value.specs.Counted.{Counted}
 use Rattle.leaves.specs.declared.Leaf.{Leaf}
 use Rattle.leaves.specs.declared.Leaf.the-variants.{Good, Other}
 use Rattle.leaves.specs.declared.Given.{Given}
 use Rattle.leaves.specs.declared.Given.the-variants.{Whole, Unknown}
 
--- the size of a leaf whose values are any bytes of that size; 0 says nothing
+-- the size of a leaf whose values are any bytes of that size, and 0 for each other node
+unfoldable pub fixedOf : Node → ℕ
+fixedOf (leaf f) = fixedSize f
+fixedOf enum = 0
+fixedOf (row r) = 0
+fixedOf (arrays r) = 0
+fixedOf (tuple refs) = 0
+fixedOf (object refs cards) = 0
+fixedOf (sparse refs cards) = 0
+fixedOf (range r) = 0
+
+-- what it says of the node's values
 pub record FixedAt (p : List ℕ) (k size : ℕ) : Type 0 where
+  pub is : size ≡ fixedOf (look p k)
   pub small : size ≤ 16
-  pub leaf : 0 < size → leafKind (getD p k 0) ≡ true
+  pub kind : 0 < size → leafKind (getD p k 0) ≡ true
   pub rule : 0 < size → (s : List ℕ) → leafGood (look p k) s ≡ eqb (length s) size
 
--- an element of a size that is not 0 stands at a position, its length before it
-unfoldable pub stands : List ℕ → ℕ → ℕ → Bool
-stands s at size = pick (eqb size 0) false (pick (ltb (length s - at) (size + 4)) false (eqb (word s at) size))
+-- an element of a size that is not 0 that stands at a position, its length before it
+unfoldable pub fixedLeaf : List ℕ → ℕ → ℕ → Leaf
+fixedLeaf s at size =
+    pick (eqb size 0) Other (pick (ltb (length s - at) (size + 4)) Other (pick (eqb (word s at) size) (Good (at + 4) size) Other))
 
 -- the reserved bytes before an element's length, by the kind of its container
 unfoldable pub gapOf : ℕ → ℕ
@@ -40,11 +55,15 @@ pub record Ordered (p : List ℕ) (k : ℕ) : Type 0 where
   pub kind : Container p k (getD p k 0)
   pub dense : getD p k 0 ≡ 6 → ⊥
 
--- an element that is there, is a leaf and is permitted, whatever its index
-unfoldable pub GoodLeaf : List ℕ → ℕ → List ℕ → ℕ → ℕ → Leaf → Type 0
-GoodLeaf p k s gap at Other = Unit {0}
-GoodLeaf p k s gap at (Good start size) =
-    ((i : ℕ) → plainHead s gap i at ≡ Present i start size) × (leafKind (getD p k 0) ≡ true) × (leafGood (look p k) (take size (drop start s)) ≡ true)
+-- what an element's head leads to, by its node: a leaf that is there and is permitted, or another element
+unfoldable pub leafIn : Node → List ℕ → Head → Leaf
+leafIn v s (Present i start size) = pick (leafGood v (take size (drop start s))) (Good start size) Other
+leafIn v s (Absent i start) = Other
+leafIn v s (Fault n) = Other
+
+-- of an element in a row, after `gap` reserved bytes: its index does not count
+unfoldable pub leafAt : Node → List ℕ → ℕ → ℕ → Leaf
+leafAt v s gap at = leafIn v s (plainHead s gap 0 at)
 
 -- Of n elements from the index `first` on, which stand at `from`, `left` are left, which stand at `pos`: from there on they lead to the same
 -- place. How many of them are left is free.
@@ -55,19 +74,24 @@ pub record Stretched (p : List ℕ) (k base : ℕ) (s : List ℕ) (end n first f
   pub leads : led (elements (rowForm (look p k) s) (valueOf (look p)) (refAt (look p k)) base s n first from) at l
       ≡ led (elements (rowForm (look p k) s) (valueOf (look p)) (refAt (look p k)) base s left (end - left) pos) to l′
 
--- an element of a sparse object whose index is known, that is there, is a leaf and is permitted
-unfoldable pub GivenLeaf : List ℕ → ℕ → List ℕ → ℕ → Given → Type 0
-GivenLeaf p k s at Unknown = Unit {0}
-GivenLeaf p k s at (Whole i child start size) =
-    (sparseIndex s (getD p (k + 1) 0) [] at ≡ Known i) × (refAt (look p k) i ≡ some child)
-    × (optional s (requires (getD (cardsAt p k) i 0)) i (at + 8) (word s (at + 4)) ≡ Present i start size) × (leafKind (getD p child 0) ≡ true)
-    × (leafGood (look p child) (take size (drop start s)) ≡ true)
+-- of an element of a sparse object, whose index must be known
+unfoldable pub wholeOf : ℕ → ℕ → Leaf → Given
+wholeOf i child (Good start size) = Whole i child start size
+wholeOf i child Other = Unknown
+
+unfoldable pub givenBy : List ℕ → ℕ → List ℕ → ℕ → Index → Given
+givenBy p k s at (Bad n) = Unknown
+givenBy p k s at (Known i) =
+    wholeOf i (pairRef p k i) (leafIn (look p (pairRef p k i)) s (optional s (requires (getD (cardsAt p k) i 0)) i (at + 8) (word s (at + 4))))
+
+unfoldable pub givenAt : List ℕ → ℕ → List ℕ → ℕ → Given
+givenAt p k s at = givenBy p k s at (sparseIndex s (getD p (k + 1) 0) [] at)
 
 -- The same as `Stretched` of a sparse object, from its first element on: those that were passed are marked, and how many of them are
--- required is counted.
-pub record Gathers (p : List ℕ) (k base : ℕ) (s : List ℕ) (n from at : ℕ) (l : List ℕ) (marks : List Bool) (count left pos to : ℕ) (l′ : List ℕ) : Type 0 where
+-- required is counted. Or an index was given twice: then the object is refused (26).
+pub record Gathers (p : List ℕ) (k base : ℕ) (s : List ℕ) (n from at : ℕ) (l : List ℕ) (marks : List Bool) (twice : Bool) (count left pos to : ℕ) (l′ : List ℕ) : Type 0 where
   pub inside : pos ≤ length s
   pub few : 4 * to ≤ 5 * (base + pos) + 20
-  pub counted : Counted p k marks count
+  pub counted : twice ≡ false → Counted p k marks count
   pub leads : led (elements (sparseForm (cardsAt p k) s) (valueOf (look p)) (refAt (look p k)) base s n noMarks from) at l
-      ≡ led (elements (sparseForm (cardsAt p k) s) (valueOf (look p)) (refAt (look p k)) base s left marks pos) to l′
+      ≡ pick twice (stopped 26 base) (led (elements (sparseForm (cardsAt p k) s) (valueOf (look p)) (refAt (look p k)) base s left marks pos) to l′)

@@ -3,6 +3,7 @@
 // time alone: what is left after it leads to the same place.
 use heads::Head;
 use heads::Index;
+use heads::sparse::MOST;
 use heads::sparse::Seen;
 use value::Gathered;
 use value::entry;
@@ -13,7 +14,7 @@ ghost use Prim.Native.Nat.{_+_, _*_, _^_, _<_, _≤_};
 ghost use lib.ListN.{length, take, drop, getD};
 ghost use Rattle.plan.specs.Plan.{look, At};
 ghost use Rattle.value.specs.Walk.{Holds, leafGood, leafKind};
-ghost use Rattle.leaves.specs.Leaves.{FixedAt, Ordered, Stretched, GoodLeaf, GivenLeaf, Gathers, gapOf, stands};
+ghost use Rattle.leaves.specs.Leaves.{FixedAt, Ordered, Stretched, leafAt, fixedLeaf, givenAt, Gathers, gapOf};
 ghost use mathlib.Core.Bool.{true};
 
 // An element that is a leaf, is there and is permitted: where its bytes start, and how many they are. Or another.
@@ -33,7 +34,12 @@ pub struct Stretch {
 // An element of a sparse object that is a leaf, is there and is permitted: its index, its node, where its bytes start and how many they are.
 // Or another.
 pub enum Given {
-    Whole(usize, usize, usize, usize),
+    Whole {
+        index: usize,
+        node: usize,
+        start: usize,
+        size: usize,
+    },
     Unknown,
 }
 
@@ -49,18 +55,24 @@ fn fixed_at(plan: &[u32], node: usize) -> usize
     0
 }
 
-// Whether an element of this size stands at `pos`, its length before it; none does of size 0.
-fn element_stands(part: &[u8], pos: usize, size: usize) -> bool
+// The element at `pos`, its length before it, where it is of this size; none is of size 0.
+fn fixed_leaf(part: &[u8], pos: usize, size: usize) -> Leaf
     requires { ⌜ (pos ≤ length (now part)) × (size ≤ 16) ⌝ }
-    ensures { λ b. ⌜ b ≡ stands (now (part .entry)) pos size ⌝ }
+    ensures { λ r. ⌜ r ≡ fixedLeaf (now (part .entry)) pos size ⌝ }
 {
     if size == 0 {
-        return false;
+        return Leaf::Other;
     }
     if part.len() - pos < size + 4 {
-        return false;
+        return Leaf::Other;
     }
-    wire::be::u32_at(part, pos) == size as u32
+    if wire::be::u32_at(part, pos) == size as u32 {
+        return Leaf::Good {
+            start: pos + 4,
+            size,
+        };
+    }
+    Leaf::Other
 }
 
 // Elements of a set or an array, which share one node and so one size.
@@ -85,13 +97,13 @@ fn same_leaves(
     let mut pos = from;
     let mut to = at;
     while 0 < left {
-        if !element_stands(part, pos, size) {
+        let leaf = fixed_leaf(part, pos, size);
+        let Leaf::Good { start, size: n } = leaf else {
             return Stretch { left, pos, at: to };
-        }
-        let start = pos + 4;
-        entry::put_entry(list, to, child, i, base + start, size, 0);
+        };
+        entry::put_entry(list, to, child, i, base + start, n, 0);
         to += entry::WORDS;
-        pos = start + size;
+        pos = start + n;
         i += 1;
         left -= 1;
     }
@@ -128,7 +140,7 @@ fn gap_of(kind: u32) -> usize
 // its sign, larger than what is left, so one test tells both: a row is listed in an eighth less of the time.
 fn leaf_at(plan: &[u32], child: usize, part: &[u8], gap: usize, pos: usize) -> Leaf
     requires { ⌜ (At (now plan) child) × (pos ≤ length (now part)) × (length (now part) ≤ 65535) × (gap ≤ 16) ⌝ }
-    ensures { λ r. ⌜ GoodLeaf (now (plan .entry)) child (now (part .entry)) gap pos r ⌝ }
+    ensures { λ r. ⌜ r ≡ leafAt (look (now (plan .entry)) child) (now (part .entry)) gap pos ⌝ }
 {
     let kind = plan::node::kind_at(plan, child);
     if !node::is_leaf(kind) {
@@ -219,7 +231,7 @@ pub fn walk_leaves(
 // The element of a sparse object at `pos`, where its index is known, it is there, is a leaf and is permitted.
 fn given_leaf(plan: &[u32], node: usize, part: &[u8], pos: usize) -> Given
     requires { ⌜ (At (now plan) node) × (getD (now plan) node 0 ≡ 6) × (pos ≤ length (now part)) ⌝ }
-    ensures { λ r. ⌜ GivenLeaf (now (plan .entry)) node (now (part .entry)) pos r ⌝ }
+    ensures { λ r. ⌜ r ≡ givenAt (now (plan .entry)) node (now (part .entry)) pos ⌝ }
 {
     let known = node::index_at(plan, node, part, pos);
     let Index::Known(index) = known else {
@@ -240,13 +252,19 @@ fn given_leaf(plan: &[u32], node: usize, part: &[u8], pos: usize) -> Given
         return Given::Unknown;
     }
     if is_good(plan, child, kind, part, start, size) {
-        return Given::Whole(index, child, start, size);
+        return Given::Whole {
+            index,
+            node: child,
+            start,
+            size,
+        };
     }
     Given::Unknown
 }
 
-// The leaves that a sparse object starts with: in most such objects, all of its elements. The set of seen indexes is marked in place here,
-// since its method copies it for each index.
+// The leaves that a sparse object starts with: in most such objects, all of its elements. Their indexes are kept, and the set of seen indexes
+// is handed them all at once, since each of its methods copies it. No more are taken than a shape has elements: with one more an index is
+// given twice. If the set says that one was, the object is refused.
 pub fn sparse_leaves(
     plan: &[u32],
     node: usize,
@@ -258,27 +276,32 @@ pub fn sparse_leaves(
     at: usize,
 ) -> Gathered
     requires { ⌜ (At (now plan) node) × (getD (now plan) node 0 ≡ 6) × (base + length (now part) ≤ 65535) × (from ≤ length (now part)) × (4 * at ≤ 5 * (base + from) + 20) ⌝ }
-    ensures { λ r. ⌜ Gathers (now (plan .entry)) node base (now (part .entry)) count from at (now (list .entry)) (r .seen .marks) (r .given) (r .left) (r .pos) (r .at) (now (list .exit)) ⌝ }
+    ensures { λ r. ⌜ Gathers (now (plan .entry)) node base (now (part .entry)) count from at (now (list .entry)) (r .seen .marks) (r .seen .twice) (r .given) (r .left) (r .pos) (r .at) (now (list .exit)) ⌝ }
 {
-    let mut seen = Seen::new();
+    let most = wire::copy::least(count, MOST);
+    let mut indexes = [0u32; MOST];
+    let mut n: usize = 0;
     let mut given: usize = 0;
-    let mut left = count;
     let mut pos = from;
     let mut to = at;
-    while 0 < left {
+    while n < most {
         let leaf = given_leaf(plan, node, part, pos);
-        let Given::Whole(index, child, start, size) = leaf else {
+        let Given::Whole {
+            index,
+            node: child,
+            start,
+            size,
+        } = leaf
+        else {
             break;
         };
-        if seen.marks[index] {
-            break;
-        }
-        seen.marks[index] = true;
+        indexes[n] = index as u32;
+        n += 1;
         given = node::count_given(plan, node, index, given);
         entry::put_entry(list, to, child, index, base + start, size, 0);
         to += entry::WORDS;
         pos = start + size;
-        left -= 1;
     }
-    gather(seen, given, left, pos, to)
+    let seen = Seen::new().mark_all(&indexes[..n]);
+    gather(seen, given, count - n, pos, to)
 }

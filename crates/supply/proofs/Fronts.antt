@@ -25,7 +25,7 @@ use Rattle.supply.specs.Supply.{Claim}
 use Rattle.supply.specs.Build.{Front, faulty, front, setBytes, boundsFront, rangeFront, countFront, frontOf}
 use Rattle.supply.specs.Emitting.{shut, begins, begin-at}
 use Rattle.supply.proofs.Stores.{put-eight}
-use Rattle.supply.proofs.Containers.{by-kind}
+use Rattle.value.proofs.Containers.{by-kind}
 
 -- ---- whether it fits
 

@@ -19,7 +19,7 @@ use Rattle.supply.specs.Supply.{zeros}
 use Rattle.supply.specs.Build.{headBytes, mayLack}
 use Rattle.supply.specs.Emitting.{headOf, headSize}
 use Rattle.supply.proofs.Stores.{put-eight}
-use Rattle.supply.proofs.Containers.{by-kind}
+use Rattle.value.proofs.Containers.{by-kind}
 
 -- ---- as the code puts it
 

@@ -24,7 +24,7 @@ use Rattle.value.proofs.Members.{inner-kind}
 use Rattle.supply.specs.Supply.{Claim, next, nextOf}
 use Rattle.supply.specs.Build.{Made, wrong, made, before, andThen, Builder, rowOrder, partMade, memberMade, stateAfter, elementsMade, buildOf}
 use Rattle.supply.specs.Emitting.{Stand, stands, put-at, headOf, headSize}
-use Rattle.supply.proofs.Containers.{by-kind}
+use Rattle.value.proofs.Containers.{leaf-only}
 use Rattle.supply.proofs.Parts.{leaf-done, member-go}
 use Rattle.supply.proofs.Values.{value-leaf}
 use Rattle.supply.proofs.Elements.{done}
@@ -38,19 +38,6 @@ unfolding sized
 fits-size p k kind is one f ef size fixed z src s e low high =
     let n : length (take (e - s) (drop s src)) ≡ e - s = simp (length-take, length-drop) (omega arith) in
     ap (λ (m : ℕ). eqb m size) (sym n) ∙ sym (fixed .rule z (take (e - s) (drop s src))) ∙ good-scalar p k kind is (take (e - s) (drop s src)) f ef one
-
--- a container has none
-pub fits-none : (p : List ℕ) (k kind : ℕ) → Container p k kind → (b : List ℕ) → false ≡ leafGood (look p k) b
-unfolding leafGood
-fits-none p k kind c b = by-kind p k kind c (λ m v. false ≡ leafGood v b) refl refl refl refl refl refl
-
-fits-leaf : (p : List ℕ) (k : ℕ) → KindAt p k (getD p k 0) → (b : List ℕ) → leafGood (look p k) b ≡ true → leafKind (getD p k 0) ≡ true
-fits-leaf p k a b g = go (leafKind (getD p k 0)) refl
-  where
-    go : (t : Bool) → leafKind (getD p k 0) ≡ t → leafKind (getD p k 0) ≡ true
-    go true e = e
-    go false e =
-        let x : false ≡ true = fits-none p k (getD p k 0) (inner-kind p k (getD p k 0) a e) b ∙ g in let z : _≡_ {A = ℕ} 0 1 = cc in absurd (omega arith)
 
 -- ---- its head and its bytes
 
@@ -70,7 +57,7 @@ module _ (src p : List ℕ) (k kind : ℕ) (is : Container p k kind) (c : Claim)
       let q : stands rest (at + h + c .size) out₁ ≡ put-at (buildOf src (look p) r (c .index) ws) (at + h) out =
       leaf-done (leafGood (look p r)) src c rest (at + h) out z inside (take (c .start + c .size - c .start) (drop (c .start) src)) refl
       (leafGood (look p r) (take (c .start + c .size - c .start) (drop (c .start) src))) refl fit few out₁ o₁
-      ∙ value-leaf src p r a c rest ws e there (at + h) out en (fits-leaf p r (kind-gives p r a) (take (c .start + c .size - c .start) (drop (c .start) src)) fit) in
+      ∙ value-leaf src p r a c rest ws e there (at + h) out en (leaf-only p r (kind-gives p r a) (take (c .start + c .size - c .start) (drop (c .start) src)) fit) in
       ap (λ (m : ℕ). stands rest (at + h + m) out₂) n
       ∙ member-go p k kind is (buildOf src (look p)) c rest ws r er at out there h eh rest (at + h + c .size) out₁ q out₂
       (o₂ ∙ ap (λ (m : ℕ). sets out₁ at (headOf kind (c .index) m)) (sym (add-sub-cancel-left (at + h) (c .size))))

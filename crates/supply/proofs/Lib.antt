@@ -1,7 +1,6 @@
 -- The laws of supplies. Assumes nothing.
 pub mod Stores
 pub mod Entries
-pub mod Containers
 pub mod Heads
 pub mod Fronts
 pub mod Stands

@@ -3,3 +3,4 @@ pub mod Walks
 pub mod Nodes
 pub mod Members
 pub mod Counted
+pub mod Containers

@@ -7,6 +7,8 @@ use mathlib.Core.Option.{Option, none, some}
 use Prim.Native.Nat.{ℕ, zero, suc, _+_, _-_, _*_, _^_, _<_, _≤_}
 use native.Mathlib.Omega.{arith}
 use native.Mathlib.Nat.{add-sub-cancel-left}
+use denote.Enum.Declared.{tagOf}
+use types.Run.{OneOf}
 use lib.ListN.{length, getD, set as store, take, drop, getElem?, length-take, length-drop}
 use lib.Seq.{sets}
 use Rattle.wire.specs.Choice.{pick}
@@ -21,6 +23,8 @@ use Rattle.heads.specs.declared.Head.{Head}
 use Rattle.heads.specs.declared.Head.the-variants.{Present, Absent, Fault}
 use Rattle.heads.specs.declared.Opening.{Opening}
 use Rattle.heads.specs.declared.Opening.the-variants.{Elements, Wrong}
+use Rattle.heads.proofs.Head.{the-type}
+use Rattle.heads.proofs.Told.{is-fault}
 use Rattle.heads.proofs.Bounds.{known-new, optional-index, set-opened, count-opened, range-opened, sparse-opened, inside-end, plain-inside, plain-from, plain-index, object-inside, object-from, object-index, envelope-inside, envelope-from, envelope-index, sparse-inside, sparse-from, sparse-index-below, plain-refuses, object-refuses, envelope-refuses, sparse-refuses}
 use Rattle.rules.specs.Node.{Node, leaf, enum, row, arrays, tuple, object, sparse, range, refAt}
 use Rattle.rules.specs.Forest.{Entry, Forest, entryWords}
@@ -231,9 +235,11 @@ module _ (p : List ℕ) (k : ℕ) (a : At p k) (x : leafKind (getD p k 0) ≡ tr
 -- ---- one element, by its head
 
 module _ (rule : Rule) (ref : ℕ → Option ℕ) (base : ℕ) (s : List ℕ) (h : Head) (at : ℕ) (l : List ℕ) where
-  pub member-fault : (n : ℕ) → h ≡ Fault n → (x : Step) → x ≡ Refused n base → walkOf x l ≡ led (member rule ref base s h) at l
-  unfolding member led walkOf
-  member-fault n e x ex = rw (e, ex)
+  pub member-fault : OneOf (1 ∷ 2 ∷ []) (tagOf the-type h) → OneOf (0 ∷ 2 ∷ []) (tagOf the-type h) → (x : Step) → x ≡ Refused (headFault h) base
+      → walkOf x l ≡ led (member rule ref base s h) at l
+  unfolding member led walkOf headFault
+  member-fault present absent x =
+      is-fault (λ q. x ≡ Refused (headFault q) base → walkOf x l ≡ led (member rule ref base s q) at l) (λ n e. rw e) h present absent
 
   module _ (i start k : ℕ) (r : ref i ≡ some k) where
     pub member-absent : h ≡ Absent i start → led (absent (some k) i (base + start)) at l ≡ led (member rule ref base s h) at l

@@ -132,6 +132,9 @@ fn walk_container(
     let to = at + entry::WORDS;
     if kind == 6 {
         let run = leaves::sparse_leaves(plan, node, count, base, from, part, list, to);
+        if run.seen.twice {
+            return refused(26, base);
+        }
         return walk_sparse(plan, needs, node, base, part, run, list);
     }
     walk_row(plan, needs, node, count, first, base, from, part, list, to)
@@ -233,22 +236,24 @@ fn walk_member(
     requires { ⌜ (At (now plan) node) × (base + length (now part) ≤ 65535) × (HeadIn (look (now plan) node) (length (now part)) pos head) × (4 * at ≤ 5 * (base + pos) + 20) × (Memo (now plan) (now needs)) ⌝ }
     ensures { λ r. ⌜ (walkOf r (now (list .exit)) ≡ led (member (valueOf (look (now (plan .entry)))) (refAt (look (now (plan .entry)) node)) base (now (part .entry)) head) at (now (list .entry))) × (WithinHead base head r) ⌝ }
 {
-    match head {
-        Head::Fault(n) => refused(n, base),
-        Head::Absent { index, start } => {
-            let child = plan::node::ref_of(plan, node, index);
-            walk_absent(child, index, base + start, list, at)
-        }
-        Head::Present { index, start, size } => {
-            let child = plan::node::ref_of(plan, node, index);
-            let kind = plan::node::kind_at(plan, child);
-            let end = start + size;
-            let bytes = &part[start..end];
-            let place = base + start;
-            if node::is_leaf(kind) {
-                return walk_leaf(plan, child, kind, index, place, bytes, list, at);
-            }
-            walk_value(plan, needs, child, index, place, bytes, list, at)
-        }
+    let Head::Present { index, start, size } = head else {
+        let Head::Absent {
+            index: absent,
+            start: after,
+        } = head
+        else {
+            return refused(heads::parts::head_fault(head), base);
+        };
+        let node = plan::node::ref_of(plan, node, absent);
+        return walk_absent(node, absent, base + after, list, at);
+    };
+    let child = plan::node::ref_of(plan, node, index);
+    let kind = plan::node::kind_at(plan, child);
+    let end = start + size;
+    let bytes = &part[start..end];
+    let place = base + start;
+    if node::is_leaf(kind) {
+        return walk_leaf(plan, child, kind, index, place, bytes, list, at);
     }
+    walk_value(plan, needs, child, index, place, bytes, list, at)
 }

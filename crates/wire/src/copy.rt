@@ -4,7 +4,7 @@ ghost use Prim.Native.Nat.{min};
 ghost use lib.Seq.{sets};
 
 // The smaller of two numbers.
-fn least(a: usize, b: usize) -> usize
+pub fn least(a: usize, b: usize) -> usize
     ensures { λ r. ⌜ r ≡ min a b ⌝ }
 {
     if a < b { a } else { b }

@@ -15,7 +15,7 @@ use Rattle.value.proofs.Members.{inner-kind, sparse-holds}
 use Rattle.supply.specs.Build.{rowOrder, sparseOrder, elementsMade, buildOf}
 use Rattle.supply.specs.Emitting.{put-at, standOf, Gathers}
 use Rattle.supply.proofs.Entries.{no-entry, entry-at, entry-inside, known-is}
-use Rattle.supply.proofs.Containers.{refers-inner}
+use Rattle.value.proofs.Containers.{refers-inner}
 use Rattle.supply.proofs.Heads.{size-few}
 use Rattle.supply.proofs.Stands.{failed-is, done-is, stood}
 use Rattle.supply.proofs.Parts.{member-absent, member-stop, member-go}

@@ -1,6 +1,6 @@
 -- `build::may_lack` meets its contract, by its tests of the kind. Assumes nothing.
 use native.Mathlib.Omega.{arith}
-use Rattle.supply.proofs.Containers.{refers-below}
+use Rattle.value.proofs.Containers.{refers-below}
 use Rattle.supply.proofs.Heads.{may-lack, never-lacks}
 use borrow.Author.Needs.{needs}
 use Rattle.build.proofs.may_lack.Statement.{statement}

@@ -1,7 +1,8 @@
+-- `leaves::fixed_at` meets its contract: a scalar has the size of its format, and no other node has one. Assumes nothing.
 use native.Mathlib.Omega.{arith}
 use mathlib.Core.Path.{sym, _∙_}
 use Rattle.plan.proofs.Nodes.{at-format}
-use Rattle.leaves.proofs.Stretches.{none-fixed, some-fixed}
+use Rattle.leaves.proofs.Single.{none-fixed, some-fixed}
 use borrow.Author.Needs.{needs}
 use Rattle.leaves.proofs.fixed_at.Statement.{statement}
 use Rattle.leaves.proofs.fixed_at.Tie as tie
@@ -24,7 +25,7 @@ returns c =
     some-fixed _ _ _ (c .before .before .before .kind-at .ensures .is) (c .before .before .if1 .taken) _ _ (c .before .second-at .ensures) (c .fixed-size .ensures)
 
 returns-2 : tie.Need-returns-2
-returns-2 c = none-fixed _ _
+returns-2 c = none-fixed _ _ _ (c .before .kind-at .ensures .is) (c .if1 .left)
 
 pub fixed-at-spec : {M : Type 1} → statement M
 fixed-at-spec =

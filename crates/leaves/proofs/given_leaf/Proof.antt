@@ -1,15 +1,28 @@
--- `leaves::given_leaf` meets its contract: what was read is an element's head with a known index, a leaf and permitted. Assumes nothing.
 use native.Mathlib.Omega.{arith}
-use mathlib.Core.Path.{_≡_, refl, sym, _∙_}
-use borrow.Author.Tests.{not-false}
-use Rattle.plan.proofs.Looks.{cards-length}
+use mathlib.Core.Path.{_≡_, refl, sym, ap, _∙_}
+use mathlib.Core.Logic.{inr}
+use borrow.Author.Tests.{not-false, not-true}
+use Rattle.wire.specs.Choice.{pick}
+use Rattle.heads.proofs.Told.{not-present}
+use Rattle.plan.proofs.Looks.{cards-length, ref-pairs}
 use Rattle.plan.proofs.Nodes.{at-ref}
-use Rattle.leaves.specs.Leaves.{GivenLeaf}
-use Rattle.value.proofs.Members.{known-in, sparse-holds}
-use Rattle.leaves.proofs.Stretches.{head-there, given-there}
+use Rattle.value.proofs.Members.{known-in, sparse-holds, inner-kind}
+use Rattle.value.proofs.Containers.{container-none}
+use Rattle.leaves.specs.Leaves.{leafIn, wholeOf}
+use Rattle.leaves.specs.declared.Leaf.the-variants.{Other}
+use Rattle.leaves.proofs.Single.{pair-is, head-there, given-bad, given-absent, given-none, given-there}
+use borrow.Author.Needs.{needs}
 use borrow.Author.Needs.{needs}
 use Rattle.leaves.proofs.given_leaf.Statement.{statement}
 use Rattle.leaves.proofs.given_leaf.Tie as tie
+use Rattle.leaves.proofs.given_leaf.Reads as reads
+use Rattle.leaves.proofs.given_leaf.Lts as lts
+use Rattle.leaves.proofs.is_good.Reads as is-good-reads
+use Rattle.plan.proofs.node.kind_at.Reads as kind-at-reads
+use Rattle.plan.proofs.node.ref_of.Reads as ref-of-reads
+use Rattle.value.proofs.node.index_at.Reads as index-at-reads
+use Rattle.value.proofs.node.is_leaf.Reads as is-leaf-reads
+use Rattle.value.proofs.node.sparse_head.Reads as sparse-head-reads
 
 index-at-requires : tie.Need-index-at-requires
 index-at-requires c κs = (c .before .before .pre .0, c .before .before .pre .1, c .before .before .pre .2)
@@ -21,8 +34,7 @@ enum-told : tie.Need-enum-told
 enum-told c = search needs
 
 returns : tie.Need-returns
-unfolding GivenLeaf
-returns c = tt
+returns c = given-bad _ _ _ _ _ (c .before .before .index-at .ensures) _ (c .enum-told .given .1)
 
 sparse-head-requires : tie.Need-sparse-head-requires
 sparse-head-requires c κs =
@@ -32,12 +44,14 @@ enum-known-head : tie.Need-enum-known-head
 enum-known-head c = search needs
 
 returns-2 : tie.Need-returns-2
-unfolding GivenLeaf
-returns-2 c = tt
+returns-2 c =
+    given-absent _ _ _ _ _ (c .before .before .before .before .before .index-at .ensures) _ (c .before .before .before .known .given .1) _ refl _ (c .before .sparse-head .ensures)
+    (c .match2 .keys2)
 
 ref-of-requires : tie.Need-ref-of-requires
 ref-of-requires c κs =
-    let w = known-in _ _ (c .before .before .before .before .before .before .before .before .before .before .pre .0) (c .before .before .before .before .before .before .before .before .before .before .pre .1) _ _ _ _ refl _ (c .before .before .before .before .before .before .before .index-at .ensures) (c .before .before .before .before .before .known .given .1) (c .before .before .before .before .before .before .before .before .before .before .pre .2) in (c .before .before .before .before .before .before .before .before .before .before .pre .0, sparse-holds _ _ (c .before .before .before .before .before .before .before .before .before .before .pre .0) (c .before .before .before .before .before .before .before .before .before .before .pre .1) _ (omega (arith, w .0, cards-length (c .before .before .before .before .before .before .before .before .before .before .args .plan .now) (c .before .before .before .before .before .before .before .before .before .before .args .node))))
+    let w = known-in _ _ (c .before .before .before .before .before .before .before .before .before .before .pre .0) (c .before .before .before .before .before .before .before .before .before .before .pre .1) _ _ _ _ refl _ (c .before .before .before .before .before .before .before .index-at .ensures) (c .before .before .before .before .before .known .given .1) (c .before .before .before .before .before .before .before .before .before .before .pre .2) in
+    (c .before .before .before .before .before .before .before .before .before .before .pre .0, sparse-holds _ _ (c .before .before .before .before .before .before .before .before .before .before .pre .0) (c .before .before .before .before .before .before .before .before .before .before .pre .1) _ (omega (arith, w .0, cards-length (c .before .before .before .before .before .before .before .before .before .before .args .plan .now) (c .before .before .before .before .before .before .before .before .before .before .args .node))))
 
 kind-at-requires : tie.Need-kind-at-requires
 kind-at-requires c κs =
@@ -47,20 +61,29 @@ is-leaf-requires : tie.Need-is-leaf-requires
 is-leaf-requires c κs = search needs
 
 returns-3 : tie.Need-returns-3
-unfolding GivenLeaf
-returns-3 c = tt
+returns-3 c =
+    let w = known-in _ _ (c .before .before .before .before .before .before .before .before .before .before .before .before .before .before .pre .0) (c .before .before .before .before .before .before .before .before .before .before .before .before .before .before .pre .1) _ _ _ _ refl _ (c .before .before .before .before .before .before .before .before .before .before .before .index-at .ensures) (c .before .before .before .before .before .before .before .before .before .known .given .1) (c .before .before .before .before .before .before .before .before .before .before .before .before .before .before .pre .2) in
+    given-none _ _ _ _ _ (c .before .before .before .before .before .before .before .before .before .before .before .index-at .ensures) _ (c .before .before .before .before .before .before .before .before .before .known .given .1) _ (pair-is _ _ (c .before .before .before .before .before .before .before .before .before .before .before .before .before .before .pre .1) _ _ (w .0) (c .before .before .before .ref-of .ensures))
+    (container-none _ _ _ (inner-kind _ _ _ (c .before .before .kind-at .ensures) (sym (c .before .is-leaf .ensures) ∙ not-true _ (c .if1 .taken))))
 
 is-good-requires : tie.Need-is-good-requires
 is-good-requires c κs =
-    let w = known-in _ _ (c .before .before .before .before .before .before .before .before .before .before .before .before .before .before .pre .0) (c .before .before .before .before .before .before .before .before .before .before .before .before .before .before .pre .1) _ _ _ _ refl _ (c .before .before .before .before .before .before .before .before .before .before .before .index-at .ensures) (c .before .before .before .before .before .before .before .before .before .known .given .1) (c .before .before .before .before .before .before .before .before .before .before .before .before .before .before .pre .2) in (at-ref _ _ _ _ (c .before .before .before .before .before .before .before .before .before .before .before .before .before .before .pre .0) (c .before .before .before .ref-of .ensures) .0, c .before .before .kind-at .ensures .is, sym (c .before .is-leaf .ensures) ∙ not-false _ (c .if1 .left), head-there _ _ _ _ _ (w .2) _ (c .before .before .before .before .before .before .before .sparse-head .ensures) _ _ _ (c .before .before .before .before .before .head .given .1) .2)
+    let w = known-in _ _ (c .before .before .before .before .before .before .before .before .before .before .before .before .before .before .pre .0) (c .before .before .before .before .before .before .before .before .before .before .before .before .before .before .pre .1) _ _ _ _ refl _ (c .before .before .before .before .before .before .before .before .before .before .before .index-at .ensures) (c .before .before .before .before .before .before .before .before .before .known .given .1) (c .before .before .before .before .before .before .before .before .before .before .before .before .before .before .pre .2) in
+    (at-ref _ _ _ _ (c .before .before .before .before .before .before .before .before .before .before .before .before .before .before .pre .0) (c .before .before .before .ref-of .ensures) .0, c .before .before .kind-at .ensures .is, sym (c .before .is-leaf .ensures) ∙ not-false _ (c .if1 .left), head-there _ _ _ _ _ (w .2) _ (c .before .before .before .before .before .before .before .sparse-head .ensures) _ _ _ (c .before .before .before .before .before .head .given .1) .2)
 
 returns-4 : tie.Need-returns-4
+unfolding wholeOf pick
 returns-4 c =
-    let w = known-in _ _ (c .before .before .before .before .before .before .before .before .before .before .before .before .before .before .before .before .pre .0) (c .before .before .before .before .before .before .before .before .before .before .before .before .before .before .before .before .pre .1) _ _ _ _ refl _ (c .before .before .before .before .before .before .before .before .before .before .before .before .before .index-at .ensures) (c .before .before .before .before .before .before .before .before .before .before .before .known .given .1) (c .before .before .before .before .before .before .before .before .before .before .before .before .before .before .before .before .pre .2) in given-there _ _ _ _ _ _ (sym (c .before .before .before .before .before .before .before .before .before .before .before .before .before .index-at .ensures) ∙ c .before .before .before .before .before .before .before .before .before .before .before .known .given .1) (c .before .before .before .before .before .ref-of .ensures) (w .2) _ (c .before .before .before .before .before .before .before .before .before .sparse-head .ensures) _ _ _ (c .before .before .before .before .before .before .before .head .given .1) (rw (c .before .before .before .before .kind-at .ensures .is) at (sym (c .before .before .before .is-leaf .ensures) ∙ not-false _ (c .before .before .if1 .left))) (sym (c .before .is-good .ensures) ∙ c .if2 .taken)
+    let w = known-in _ _ (c .before .before .before .before .before .before .before .before .before .before .before .before .before .before .before .before .pre .0) (c .before .before .before .before .before .before .before .before .before .before .before .before .before .before .before .before .pre .1) _ _ _ _ refl _ (c .before .before .before .before .before .before .before .before .before .before .before .before .before .index-at .ensures) (c .before .before .before .before .before .before .before .before .before .before .before .known .given .1) (c .before .before .before .before .before .before .before .before .before .before .before .before .before .before .before .before .pre .2) in
+    given-there _ _ _ _ _ (c .before .before .before .before .before .before .before .before .before .before .before .before .before .index-at .ensures) _ (c .before .before .before .before .before .before .before .before .before .before .before .known .given .1) _ (pair-is _ _ (c .before .before .before .before .before .before .before .before .before .before .before .before .before .before .before .before .pre .1) _ _ (w .0) (c .before .before .before .before .before .ref-of .ensures))
+    (w .2) _ (c .before .before .before .before .before .before .before .before .before .sparse-head .ensures) _ _ _ (c .before .before .before .before .before .before .before .head .given .1) _ (sym (c .if2 .taken) ∙ c .before .is-good .ensures)
 
 returns-5 : tie.Need-returns-5
-unfolding GivenLeaf
-returns-5 c = tt
+unfolding wholeOf pick
+returns-5 c =
+    let w = known-in _ _ (c .before .before .before .before .before .before .before .before .before .before .before .before .before .before .before .before .pre .0) (c .before .before .before .before .before .before .before .before .before .before .before .before .before .before .before .before .pre .1) _ _ _ _ refl _ (c .before .before .before .before .before .before .before .before .before .before .before .before .before .index-at .ensures) (c .before .before .before .before .before .before .before .before .before .before .before .known .given .1) (c .before .before .before .before .before .before .before .before .before .before .before .before .before .before .before .before .pre .2) in
+    given-there _ _ _ _ _ (c .before .before .before .before .before .before .before .before .before .before .before .before .before .index-at .ensures) _ (c .before .before .before .before .before .before .before .before .before .before .before .known .given .1) _ (pair-is _ _ (c .before .before .before .before .before .before .before .before .before .before .before .before .before .before .before .before .pre .1) _ _ (w .0) (c .before .before .before .before .before .ref-of .ensures))
+    (w .2) _ (c .before .before .before .before .before .before .before .before .before .sparse-head .ensures) _ _ _ (c .before .before .before .before .before .before .before .head .given .1) _ (sym (c .if2 .left) ∙ c .before .is-good .ensures)
 
 pub given-leaf-spec : {M : Type 1} → statement M
 given-leaf-spec =

@@ -1,5 +1,5 @@
 -- `leaves::is_good` meets its contract. Assumes nothing.
-use Rattle.leaves.proofs.Stretches.{fixed-is, part-good}
+use Rattle.leaves.proofs.Single.{fixed-is, part-good}
 use borrow.Author.Needs.{needs}
 use Rattle.leaves.proofs.is_good.Statement.{statement}
 use Rattle.leaves.proofs.is_good.Tie as tie

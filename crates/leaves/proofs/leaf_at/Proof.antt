@@ -1,13 +1,21 @@
--- `leaves::leaf_at` meets its contract: what was read is an element's head, a leaf and permitted. Assumes nothing.
 use native.Mathlib.Omega.{arith}
 use mathlib.Core.Path.{_≡_, sym, _∙_}
-use borrow.Author.Tests.{not-false}
+use borrow.Author.Tests.{not-false, not-true}
+use Rattle.wire.specs.Choice.{pick}
 use Rattle.heads.specs.Heads.{word}
-use Rattle.leaves.specs.Leaves.{GoodLeaf}
-use Rattle.leaves.proofs.Stretches.{leaf-there}
+use Rattle.value.proofs.Members.{inner-kind}
+use Rattle.value.proofs.Containers.{container-none}
+use Rattle.leaves.proofs.Single.{leaf-none-at, leaf-short, leaf-over, leaf-there}
+use borrow.Author.Needs.{needs}
 use borrow.Author.Needs.{needs}
 use Rattle.leaves.proofs.leaf_at.Statement.{statement}
 use Rattle.leaves.proofs.leaf_at.Tie as tie
+use Rattle.leaves.proofs.leaf_at.Reads as reads
+use Rattle.leaves.proofs.leaf_at.Lts as lts
+use Rattle.leaves.proofs.is_good.Reads as is-good-reads
+use Rattle.plan.proofs.node.kind_at.Reads as kind-at-reads
+use Rattle.value.proofs.node.is_leaf.Reads as is-leaf-reads
+use Rattle.wire.proofs.be.u32_at.Reads as u32-at-reads
 
 kind-at-requires : tie.Need-kind-at-requires
 kind-at-requires c κs = search needs
@@ -16,8 +24,8 @@ is-leaf-requires : tie.Need-is-leaf-requires
 is-leaf-requires c κs = search needs
 
 returns : tie.Need-returns
-unfolding GoodLeaf
-returns c = tt
+returns c =
+    leaf-none-at _ _ _ _ (container-none _ _ _ (inner-kind _ _ _ (c .before .before .kind-at .ensures) (sym (c .before .is-leaf .ensures) ∙ not-true _ (c .if1 .taken))))
 
 sub-if2 : tie.Need-sub-if2
 sub-if2 c = search needs
@@ -26,8 +34,7 @@ add-if2 : tie.Need-add-if2
 add-if2 c = search needs
 
 returns-2 : tie.Need-returns-2
-unfolding GoodLeaf
-returns-2 c = tt
+returns-2 c = leaf-short _ _ _ _ (c .if2 .taken)
 
 add-field : tie.Need-add-field
 add-field c =
@@ -48,21 +55,23 @@ sub-if3 c =
     omega (arith, c .before .if2 .left, c .before .before .before .before .before .before .before .pre .1)
 
 returns-3 : tie.Need-returns-3
-unfolding GoodLeaf
-returns-3 c = tt
+unfolding word
+returns-3 c =
+    leaf-over _ _ _ _ _ (c .before .before .if2 .left) (c .before .u32-at .ensures) (c .if3 .taken)
 
 is-good-requires : tie.Need-is-good-requires
 is-good-requires c κs =
     (c .before .before .before .before .before .before .before .before .pre .0, c .before .before .before .before .before .kind-at .ensures .is, sym (c .before .before .before .before .is-leaf .ensures) ∙ not-false _ (c .before .before .before .if1 .left), omega (arith, c .if3 .left, c .before .before .if2 .left, c .before .before .before .before .before .before .before .before .pre .1))
 
 returns-4 : tie.Need-returns-4
-unfolding word
+unfolding word pick
 returns-4 c =
-    leaf-there _ _ _ _ _ _ (c .before .before .before .before .before .before .before .before .before .before .pre .2) (c .before .before .before .before .if2 .left) (c .before .before .before .u32-at .ensures) (c .before .before .if3 .left) (rw (c .before .before .before .before .before .before .before .kind-at .ensures .is) at (sym (c .before .before .before .before .before .before .is-leaf .ensures) ∙ not-false _ (c .before .before .before .before .before .if1 .left))) (sym (c .before .is-good .ensures) ∙ c .if4 .taken)
+    leaf-there _ _ _ _ (c .before .before .before .before .before .before .before .before .before .before .pre .2) _ (c .before .before .before .before .if2 .left) (c .before .before .before .u32-at .ensures) (c .before .before .if3 .left) _ (sym (c .if4 .taken) ∙ c .before .is-good .ensures)
 
 returns-5 : tie.Need-returns-5
-unfolding GoodLeaf
-returns-5 c = tt
+unfolding word pick
+returns-5 c =
+    leaf-there _ _ _ _ (c .before .before .before .before .before .before .before .before .before .before .pre .2) _ (c .before .before .before .before .if2 .left) (c .before .before .before .u32-at .ensures) (c .before .before .if3 .left) _ (sym (c .if4 .left) ∙ c .before .is-good .ensures)
 
 pub leaf-at-spec : {M : Type 1} → statement M
 leaf-at-spec =

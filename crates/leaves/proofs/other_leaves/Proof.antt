@@ -1,8 +1,10 @@
+-- `leaves::other_leaves` meets its contract: what is left leads to the same place. Assumes nothing.
 use native.Mathlib.Omega.{arith}
 use mathlib.Core.Path.{_≡_, refl, sym, ap, _∙_}
 use Rattle.plan.proofs.Nodes.{at-ref}
 use Rattle.leaves.specs.Leaves.{gapOf}
-use Rattle.leaves.proofs.Stretches.{Going, going-start, going-end, going-other, leaf-fits, gap-few}
+use Rattle.leaves.proofs.Stretches.{Going, going-start, going-end, going-other, gap-few}
+use Rattle.leaves.proofs.Single.{leaf-fits}
 use borrow.Author.Needs.{needs}
 use Rattle.leaves.proofs.other_leaves.Statement.{statement}
 use Rattle.leaves.proofs.other_leaves.Tie as tie
@@ -46,12 +48,12 @@ returns c =
 
 add-put-entry : tie.Need-add-put-entry Inv-loop μ-loop
 add-put-entry c =
-    let t = leaf-fits _ _ _ _ _ _ _ _ (c .before .before .before .before .before .before .before .loop .inv .2) (c .before .before .before .before .leaf-at .ensures) (c .before .before .leaf .given .1) in
+    let t = leaf-fits _ _ _ _ _ _ _ (c .before .before .before .before .before .before .before .loop .inv .2) (c .before .before .before .before .leaf-at .ensures) (c .before .before .leaf .given .1) in
     omega (arith, t, c .before .before .before .before .before .before .before .before .before .before .before .before .before .pre .4)
 
 put-entry-requires : tie.Need-put-entry-requires Inv-loop μ-loop
 put-entry-requires c κs =
-    let t = leaf-fits _ _ _ _ _ _ _ _ (c .before .before .before .before .before .before .before .loop .inv .2) (c .before .before .before .before .leaf-at .ensures) (c .before .before .leaf .given .1) in
+    let t = leaf-fits _ _ _ _ _ _ _ (c .before .before .before .before .before .before .before .loop .inv .2) (c .before .before .before .before .leaf-at .ensures) (c .before .before .leaf .given .1) in
     let r = at-ref _ _ _ _ (c .before .before .before .before .before .before .before .before .before .before .before .before .before .pre .0 .node) (c .before .before .before .before .before .ref-of .ensures) .0 in
     (omega (arith, c .before .before .before .before .before .before .before .loop .inv .2, c .before .before .before .before .before .before .before .loop .inv .3, c .before .before .before .before .before .before .before .before .before .before .before .before .before .pre .4), r .small, omega (arith, c .before .before .before .before .before .before .before .loop .inv .0, c .before .before .before .before .before .before .loop-test .taken, c .before .before .before .before .before .before .before .before .before .before .before .before .before .pre .3), omega (arith, t, c .before .before .before .before .before .before .before .before .before .before .before .before .before .pre .4), omega (arith, t, c .before .before .before .before .before .before .before .before .before .before .before .before .before .pre .4), omega arith)
 
@@ -61,7 +63,7 @@ add-to c =
 
 add-pos : tie.Need-add-pos Inv-loop μ-loop
 add-pos c =
-    let t = leaf-fits _ _ _ _ _ _ _ _ (c .before .before .before .before .before .before .before .before .before .before .loop .inv .2) (c .before .before .before .before .before .before .before .leaf-at .ensures) (c .before .before .before .before .before .leaf .given .1) in
+    let t = leaf-fits _ _ _ _ _ _ _ (c .before .before .before .before .before .before .before .before .before .before .loop .inv .2) (c .before .before .before .before .before .before .before .leaf-at .ensures) (c .before .before .before .before .before .leaf .given .1) in
     omega (arith, t, c .before .before .before .before .before .before .before .before .before .before .before .before .before .before .before .before .pre .4)
 
 add-i : tie.Need-add-i Inv-loop μ-loop

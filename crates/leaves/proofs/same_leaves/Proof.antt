@@ -1,12 +1,18 @@
 use native.Mathlib.Omega.{arith}
 use mathlib.Core.Path.{_≡_, refl, sym, _∙_}
 use Prim.Native.Nat.{_+_}
-use borrow.Author.Tests.{not-false}
 use Rattle.plan.proofs.Nodes.{at-ref}
-use Rattle.leaves.proofs.Stretches.{Going, going-start, going-end, going-same, standing, row-refers}
+use Rattle.leaves.proofs.Single.{standing}
+use Rattle.leaves.proofs.Stretches.{Going, going-start, going-end, going-same, row-refers}
 use borrow.Author.Needs.{needs}
 use Rattle.leaves.proofs.same_leaves.Statement.{statement}
 use Rattle.leaves.proofs.same_leaves.Tie as tie
+use Rattle.leaves.proofs.same_leaves.Reads as reads
+use Rattle.leaves.proofs.same_leaves.Lts as lts
+use Rattle.leaves.proofs.fixed_at.Reads as fixed-at-reads
+use Rattle.leaves.proofs.fixed_leaf.Reads as fixed-leaf-reads
+use Rattle.plan.proofs.node.ref_of.Reads as ref-of-reads
+use Rattle.value.proofs.entry.put_entry.Reads as put-entry-reads
 
 abbrev Inv-loop : tie.InvT-loop
 Inv-loop plan node count first base from part list₀ at child size left₀ i₀ pos₀ to₀ list left i pos to = Going plan node base part count first from at list₀ left i pos to list
@@ -24,43 +30,44 @@ loop-holds : tie.Need-loop-holds Inv-loop μ-loop
 loop-holds c =
     going-start _ _ _ _ _ _ _ _ _ (c .before .before .before .before .before .pre .4) (c .before .before .before .before .before .pre .5)
 
-element-stands-requires : tie.Need-element-stands-requires Inv-loop μ-loop
-element-stands-requires c κs = (c .before .loop .inv .2, c .before .before .fixed-at .ensures .small)
+fixed-leaf-requires : tie.Need-fixed-leaf-requires Inv-loop μ-loop
+fixed-leaf-requires c κs = (c .before .loop .inv .2, c .before .before .fixed-at .ensures .small)
+
+enum-known-leaf : tie.Need-enum-known-leaf Inv-loop μ-loop
+enum-known-leaf c = search needs
+
+enum-told : tie.Need-enum-told Inv-loop μ-loop
+enum-told c = search needs
 
 same-length : tie.Need-same-length Inv-loop μ-loop
-same-length c = c .before .before .before .loop .inv .4
+same-length c = c .before .before .before .before .loop .inv .4
 
 returns : tie.Need-returns Inv-loop μ-loop
-returns c = going-end _ _ _ _ _ _ _ _ _ _ _ _ _ _ (c .before .before .before .loop .inv)
-
-add-start : tie.Need-add-start Inv-loop μ-loop
-add-start c =
-    let x = standing _ _ _ (sym (c .before .element-stands .ensures) ∙ not-false _ (c .if1 .left)) in
-    omega (arith, x .fits)
+returns c = going-end _ _ _ _ _ _ _ _ _ _ _ _ _ _ (c .before .before .before .before .loop .inv)
 
 add-put-entry : tie.Need-add-put-entry Inv-loop μ-loop
 add-put-entry c =
-    let x = standing _ _ _ (sym (c .before .before .element-stands .ensures) ∙ not-false _ (c .before .if1 .left)) in
-    omega (arith, x .fits, c .before .before .before .before .before .before .before .before .before .before .pre .3)
+    let x = standing _ _ _ _ (c .before .before .before .before .fixed-leaf .ensures) _ _ (c .before .before .leaf .given .1) in
+    omega (arith, x .0 .fits, x .1, c .before .before .before .before .before .before .before .before .before .before .before .before .pre .3)
 
 put-entry-requires : tie.Need-put-entry-requires Inv-loop μ-loop
 put-entry-requires c κs =
-    let x = standing _ _ _ (sym (c .before .before .element-stands .ensures) ∙ not-false _ (c .before .if1 .left)) in
-    let r = at-ref _ _ _ _ (c .before .before .before .before .before .before .before .before .before .before .pre .0) (c .before .before .before .before .before .before .ref-of .ensures) .0 in
-    (omega (arith, c .before .before .before .before .loop .inv .2, c .before .before .before .before .loop .inv .3, c .before .before .before .before .before .before .before .before .before .before .pre .3), r .small, omega (arith, c .before .before .before .before .loop .inv .0, c .before .before .before .loop-test .taken, c .before .before .before .before .before .before .before .before .before .before .pre .2), omega (arith, x .fits, c .before .before .before .before .before .before .before .before .before .before .pre .3), omega (arith, c .before .before .before .before .before .fixed-at .ensures .small), omega arith)
+    let x = standing _ _ _ _ (c .before .before .before .before .fixed-leaf .ensures) _ _ (c .before .before .leaf .given .1) in
+    let r = at-ref _ _ _ _ (c .before .before .before .before .before .before .before .before .before .before .before .before .pre .0) (c .before .before .before .before .before .before .before .before .ref-of .ensures) .0 in
+    (omega (arith, c .before .before .before .before .before .before .loop .inv .2, c .before .before .before .before .before .before .loop .inv .3, c .before .before .before .before .before .before .before .before .before .before .before .before .pre .3), r .small, omega (arith, c .before .before .before .before .before .before .loop .inv .0, c .before .before .before .before .before .loop-test .taken, c .before .before .before .before .before .before .before .before .before .before .before .before .pre .2), omega (arith, x .0 .fits, x .1, c .before .before .before .before .before .before .before .before .before .before .before .before .pre .3), omega (arith, x .2, c .before .before .before .before .before .before .before .fixed-at .ensures .small), omega arith)
 
 add-to : tie.Need-add-to Inv-loop μ-loop
 add-to c =
-    omega (arith, c .before .before .before .before .before .before .before .loop .inv .2, c .before .before .before .before .before .before .before .loop .inv .3, c .before .before .before .before .before .before .before .before .before .before .before .before .before .pre .3)
+    omega (arith, c .before .before .before .before .before .before .before .before .before .loop .inv .2, c .before .before .before .before .before .before .before .before .before .loop .inv .3, c .before .before .before .before .before .before .before .before .before .before .before .before .before .before .before .pre .3)
 
 add-pos : tie.Need-add-pos Inv-loop μ-loop
 add-pos c =
-    let x = standing _ _ _ (sym (c .before .before .before .before .before .element-stands .ensures) ∙ not-false _ (c .before .before .before .before .if1 .left)) in
-    omega (arith, x .fits, c .before .before .before .before .before .before .before .before .before .before .before .before .before .pre .3)
+    let x = standing _ _ _ _ (c .before .before .before .before .before .before .before .fixed-leaf .ensures) _ _ (c .before .before .before .before .before .leaf .given .1) in
+    omega (arith, x .0 .fits, x .1, x .2, c .before .before .before .before .before .before .before .before .before .before .before .before .before .before .before .pre .3)
 
 add-i : tie.Need-add-i Inv-loop μ-loop
 add-i c =
-    omega (arith, c .before .before .before .before .before .before .before .loop .inv .0, c .before .before .before .before .before .before .loop-test .taken, c .before .before .before .before .before .before .before .before .before .before .before .before .before .pre .2)
+    omega (arith, c .before .before .before .before .before .before .before .before .before .loop .inv .0, c .before .before .before .before .before .before .before .before .loop-test .taken, c .before .before .before .before .before .before .before .before .before .before .before .before .before .before .before .pre .2)
 
 sub-left : tie.Need-sub-left Inv-loop μ-loop
 sub-left c = search needs
@@ -70,8 +77,7 @@ loop-less c = omega arith
 
 loop-again : tie.Need-loop-again Inv-loop μ-loop
 loop-again c =
-    let x = standing _ _ _ (sym (c .before .before .before .before .before .element-stands .ensures) ∙ not-false _ (c .before .before .before .before .if1 .left)) in
-    going-same _ _ _ _ _ _ _ _ _ _ _ _ _ _ (c .before .before .before .before .before .before .before .loop .inv) (c .before .before .before .before .before .before .loop-test .taken) (c .before .before .before .before .before .before .before .before .before .before .before .before .before .pre .1) (c .before .before .before .before .before .before .before .before .before .before .before .before .before .pre .0) _ _ _ (c .before .before .before .before .before .before .before .before .fixed-at .ensures) (c .before .before .before .before .before .before .before .before .before .ref-of .ensures) x _ (c .before .before .put-entry .ensures) (c .before .before .put-entry .kept .0)
+    going-same _ _ _ _ _ _ _ _ _ _ _ _ _ _ (c .before .before .before .before .before .before .before .before .before .loop .inv) (c .before .before .before .before .before .before .before .before .loop-test .taken) (c .before .before .before .before .before .before .before .before .before .before .before .before .before .before .before .pre .1) (c .before .before .before .before .before .before .before .before .before .before .before .before .before .before .before .pre .0) _ _ _ (c .before .before .before .before .before .before .before .before .before .before .fixed-at .ensures) (c .before .before .before .before .before .before .before .before .before .before .before .ref-of .ensures) _ (c .before .before .before .before .before .before .before .fixed-leaf .ensures) _ _ (c .before .before .before .before .before .leaf .given .1) _ (c .before .before .put-entry .ensures) (c .before .before .put-entry .kept .0)
 
 same-length-2 : tie.Need-same-length-2 Inv-loop μ-loop
 same-length-2 c = c .before .loop .inv .4
@@ -88,10 +94,11 @@ same-leaves-spec =
     ref-of-requires
     fixed-at-requires
     loop-holds
-    element-stands-requires
+    fixed-leaf-requires
+    enum-known-leaf
+    enum-told
     same-length
     returns
-    add-start
     add-put-entry
     put-entry-requires
     add-to

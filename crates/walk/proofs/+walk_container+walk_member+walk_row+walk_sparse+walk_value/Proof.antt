@@ -1,4 +1,5 @@
 use Rattle.leaves.proofs.Stretches.{Left, left-next, from-end}
+use Rattle.leaves.proofs.Gathering.{gathers-stop, gathers-go}
 use Rattle.value.proofs.Members.{opening-holds, is-row, opened, inner-kind, same-kind, value-wrong, value-sparse, value-row, member-fault, member-absent, member-present, absent-in, present-in, end-in, within-present, within-absent, reached-in, refused-within, fault-within, end-within, object-below, row-at, known-in, sparse-twice, sparse-turn, part-size}
 use lib.ListN.{length, length-take, length-drop}
 use mathlib.Core.Path.{_≡_, refl, sym, _∙_}
@@ -34,6 +35,7 @@ use Rattle.walk.proofs.walk_value.Reads as walk-value
 use Rattle.walk.proofs.walk_value.Kinds as walk-value-kinds
 use Rattle.walk.proofs.+walk_container+walk_member+walk_row+walk_sparse+walk_value.Lts-walk_value as walk-value-lts
 use Rattle.heads.proofs.parts.end_of.Reads as end-of-reads
+use Rattle.heads.proofs.parts.head_fault.Reads as head-fault-reads
 use Rattle.heads.proofs.parts.index_fault.Reads as index-fault-reads
 use Rattle.heads.proofs.parts.opening_fault.Reads as opening-fault-reads
 use Rattle.heads.proofs.sparse.Seen.mark.Reads as mark-reads
@@ -128,7 +130,7 @@ walk-container-claims t =
 
 abbrev walk-member-claims : ℕ → walk-member-lts.Claims
 walk-member-claims t =
-    (refused-reads.Asked, refused-reads.Learnt, ref-of-reads.Asked, ref-of-reads.Learnt, walk-absent-reads.Asked, walk-absent-reads.Learnt, kind-at-reads.Asked, kind-at-reads.Learnt, is-leaf-reads.Asked, is-leaf-reads.Learnt, walk-leaf-reads.Asked, walk-leaf-reads.Learnt, walk-value-below t, walk-value.Post)
+    (head-fault-reads.Asked, head-fault-reads.Learnt, refused-reads.Asked, refused-reads.Learnt, ref-of-reads.Asked, ref-of-reads.Learnt, walk-absent-reads.Asked, walk-absent-reads.Learnt, kind-at-reads.Asked, kind-at-reads.Learnt, is-leaf-reads.Asked, is-leaf-reads.Learnt, walk-leaf-reads.Asked, walk-leaf-reads.Learnt, walk-value-below t, walk-value.Post)
 
 abbrev walk-row-claims : ℕ → walk-row-lts.Claims
 walk-row-claims t =
@@ -176,57 +178,81 @@ walk-container-sparse-leaves-requires : (t : ℕ) → walk-container-lts.Need-sp
 walk-container-sparse-leaves-requires t c κs =
     let k = c .before .before .before .before .before .before .before .before .before .before .before .before .before .before .pre .1 .5 in let o = opened _ _ (c .before .before .before .before .before .before .before .before .before .before .before .before .before .before .pre .1 .0) _ k _ _ _ _ (sym (c .before .before .before .before .before .before .before .before .before .open-node .ensures) ∙ c .before .before .before .before .before .before .before .opening .given .1) in (c .before .before .before .before .before .before .before .before .before .before .before .before .before .before .pre .1 .0, sym (c .before .before .before .before .before .before .before .before .before .before .before .before .before .before .pre .1 .5 .is) ∙ c .before .if1 .taken, c .before .before .before .before .before .before .before .before .before .before .before .before .before .before .pre .1 .2, o .1, omega (arith, c .before .before .before .before .before .before .before .before .before .before .before .before .before .before .pre .1 .3))
 
-walk-container-walk-sparse-requires : (t : ℕ) → walk-container-lts.Need-walk-sparse-requires (walk-container-claims t) (walk-container-at t) walk-container.Post
-walk-container-walk-sparse-requires t c κs =
-    (omega (arith, c .before .before .before .before .before .before .before .before .before .before .before .before .before .before .before .before .before .before .pre .0), (c .before .before .before .before .before .before .before .before .before .before .before .before .before .before .before .before .before .before .pre .1 .0, sym (c .before .before .before .before .before .before .before .before .before .before .before .before .before .before .before .before .before .before .pre .1 .5 .is) ∙ c .before .before .before .before .before .if1 .taken, c .before .before .before .before .before .before .before .before .before .before .before .before .before .before .before .before .before .before .pre .1 .2, c .before .before .before .sparse-leaves .ensures .inside, c .before .before .before .sparse-leaves .ensures .few, c .before .before .before .before .before .before .before .before .before .before .before .before .before .before .before .before .before .before .pre .1 .4, c .before .before .before .sparse-leaves .ensures .counted))
+walk-container-refused-requires-2 : (t : ℕ) → walk-container-lts.Need-refused-requires-2 (walk-container-claims t) (walk-container-at t) walk-container.Post
+walk-container-refused-requires-2 t c κs =
+    omega (arith, c .before .before .before .before .before .before .before .before .before .before .before .before .before .before .before .before .before .before .pre .1 .2)
 
 walk-container-same-length : (t : ℕ) → walk-container-lts.Need-same-length (walk-container-claims t) (walk-container-at t) walk-container.Post
 walk-container-same-length t c =
-    c .before .before .walk-sparse .kept .1 .1 .1 .1 .1 .1 .0 ∙ c .before .before .before .before .before .before .sparse-leaves .kept .1 .1 .1 .1 .1 .1 .0 ∙ c .before .before .before .before .before .before .before .before .before .before .before .put-entry .kept .0
+    c .before .before .before .before .sparse-leaves .kept .1 .1 .1 .1 .1 .1 .0 ∙ c .before .before .before .before .before .before .before .before .before .put-entry .kept .0
 
 walk-container-returns-2 : (t : ℕ) → walk-container-lts.Need-returns-2 (walk-container-claims t) (walk-container-at t) walk-container.Post
+unfolding walkOf
 walk-container-returns-2 t c =
-    let k = c .before .before .before .before .before .before .before .before .before .before .before .before .before .before .before .before .before .before .before .before .before .pre .1 .5 in (c .before .before .walk-sparse .ensures .0 ∙ sym (c .before .before .before .before .before .before .sparse-leaves .ensures .leads) ∙ value-sparse _ _ (c .before .before .before .before .before .before .before .before .before .before .before .before .before .before .before .before .before .before .before .before .before .pre .1 .0) _ k _ _ _ _ _ _ (c .before .before .before .before .before .before .before .before .before .before .before .before .before .before .before .before .open-node .ensures) _ _ _ (c .before .before .before .before .before .before .before .before .before .before .before .before .before .before .opening .given .1) _ (c .before .before .before .before .before .before .before .before .before .before .before .put-entry .ensures) (sym (c .before .before .before .before .before .before .before .before .before .before .before .before .before .before .before .before .before .before .before .before .before .pre .1 .5 .is) ∙ c .before .before .before .before .before .before .before .before .if1 .taken), c .before .before .walk-sparse .ensures .1)
+    let k = c .before .before .before .before .before .before .before .before .before .before .before .before .before .before .before .before .before .before .before .pre .1 .5 in (rw (c .refused2 .ensures) (sym (gathers-stop _ _ _ _ _ _ _ _ _ _ _ _ _ _ _ (c .before .before .before .before .sparse-leaves .ensures) (c .before .if2 .taken)) ∙ value-sparse _ _ (c .before .before .before .before .before .before .before .before .before .before .before .before .before .before .before .before .before .before .before .pre .1 .0) _ k _ _ _ _ _ _ (c .before .before .before .before .before .before .before .before .before .before .before .before .before .before .open-node .ensures) _ _ _ (c .before .before .before .before .before .before .before .before .before .before .before .before .opening .given .1) _ (c .before .before .before .before .before .before .before .before .before .put-entry .ensures) (sym (c .before .before .before .before .before .before .before .before .before .before .before .before .before .before .before .before .before .before .before .pre .1 .5 .is) ∙ c .before .before .before .before .before .before .if1 .taken)), refused-within _ _ _ _ (c .refused2 .ensures))
+
+walk-container-walk-sparse-requires : (t : ℕ) → walk-container-lts.Need-walk-sparse-requires (walk-container-claims t) (walk-container-at t) walk-container.Post
+walk-container-walk-sparse-requires t c κs =
+    (omega (arith, c .before .before .before .before .before .before .before .before .before .before .before .before .before .before .before .before .before .before .before .pre .0), (c .before .before .before .before .before .before .before .before .before .before .before .before .before .before .before .before .before .before .before .pre .1 .0, sym (c .before .before .before .before .before .before .before .before .before .before .before .before .before .before .before .before .before .before .before .pre .1 .5 .is) ∙ c .before .before .before .before .before .before .if1 .taken, c .before .before .before .before .before .before .before .before .before .before .before .before .before .before .before .before .before .before .before .pre .1 .2, c .before .before .before .before .sparse-leaves .ensures .inside, c .before .before .before .before .sparse-leaves .ensures .few, c .before .before .before .before .before .before .before .before .before .before .before .before .before .before .before .before .before .before .before .pre .1 .4, c .before .before .before .before .sparse-leaves .ensures .counted (c .before .if2 .left)))
+
+walk-container-same-length-2 : (t : ℕ) → walk-container-lts.Need-same-length-2 (walk-container-claims t) (walk-container-at t) walk-container.Post
+walk-container-same-length-2 t c =
+    c .before .before .walk-sparse .kept .1 .1 .1 .1 .1 .1 .0 ∙ c .before .before .before .before .before .before .before .sparse-leaves .kept .1 .1 .1 .1 .1 .1 .0 ∙ c .before .before .before .before .before .before .before .before .before .before .before .before .put-entry .kept .0
+
+walk-container-returns-3 : (t : ℕ) → walk-container-lts.Need-returns-3 (walk-container-claims t) (walk-container-at t) walk-container.Post
+walk-container-returns-3 t c =
+    let k = c .before .before .before .before .before .before .before .before .before .before .before .before .before .before .before .before .before .before .before .before .before .before .pre .1 .5 in (c .before .before .walk-sparse .ensures .0 ∙ sym (gathers-go _ _ _ _ _ _ _ _ _ _ _ _ _ _ _ (c .before .before .before .before .before .before .before .sparse-leaves .ensures) (c .before .before .before .before .if2 .left)) ∙ value-sparse _ _ (c .before .before .before .before .before .before .before .before .before .before .before .before .before .before .before .before .before .before .before .before .before .before .pre .1 .0) _ k _ _ _ _ _ _ (c .before .before .before .before .before .before .before .before .before .before .before .before .before .before .before .before .before .open-node .ensures) _ _ _ (c .before .before .before .before .before .before .before .before .before .before .before .before .before .before .before .opening .given .1) _ (c .before .before .before .before .before .before .before .before .before .before .before .before .put-entry .ensures) (sym (c .before .before .before .before .before .before .before .before .before .before .before .before .before .before .before .before .before .before .before .before .before .before .pre .1 .5 .is) ∙ c .before .before .before .before .before .before .before .before .before .if1 .taken), c .before .before .walk-sparse .ensures .1)
 
 walk-container-walk-row-requires : (t : ℕ) → walk-container-lts.Need-walk-row-requires (walk-container-claims t) (walk-container-at t) walk-container.Post
 walk-container-walk-row-requires t c κs =
     let k = c .before .before .before .before .before .before .before .before .before .before .before .before .before .before .pre .1 .5 in let o = opened _ _ (c .before .before .before .before .before .before .before .before .before .before .before .before .before .before .pre .1 .0) _ k _ _ _ _ (sym (c .before .before .before .before .before .before .before .before .before .open-node .ensures) ∙ c .before .before .before .before .before .before .before .opening .given .1) in (omega (arith, c .before .before .before .before .before .before .before .before .before .before .before .before .before .before .pre .0), (c .before .before .before .before .before .before .before .before .before .before .before .before .before .before .pre .1 .0, same-kind _ _ _ _ k refl, (λ e. c .before .if1 .left (c .before .before .before .before .before .before .before .before .before .before .before .before .before .before .pre .1 .5 .is ∙ e)), opening-holds _ _ _ _ _ (is-row _ _ (c .before .before .before .before .before .before .before .before .before .before .before .before .before .before .pre .1 .0) _ k (λ e. c .before .if1 .left (c .before .before .before .before .before .before .before .before .before .before .before .before .before .before .pre .1 .5 .is ∙ e))) (sym (c .before .before .before .before .before .before .before .before .before .open-node .ensures) ∙ c .before .before .before .before .before .before .before .opening .given .1), o .0, c .before .before .before .before .before .before .before .before .before .before .before .before .before .before .pre .1 .2, o .1, omega (arith, c .before .before .before .before .before .before .before .before .before .before .before .before .before .before .pre .1 .3), c .before .before .before .before .before .before .before .before .before .before .before .before .before .before .pre .1 .4))
 
-walk-container-same-length-2 : (t : ℕ) → walk-container-lts.Need-same-length-2 (walk-container-claims t) (walk-container-at t) walk-container.Post
-walk-container-same-length-2 t c =
+walk-container-same-length-3 : (t : ℕ) → walk-container-lts.Need-same-length-3 (walk-container-claims t) (walk-container-at t) walk-container.Post
+walk-container-same-length-3 t c =
     c .before .before .walk-row .kept .1 .1 .1 .1 .1 .1 .1 .1 .0 ∙ c .before .before .before .before .before .before .before .put-entry .kept .0
 
-walk-container-returns-3 : (t : ℕ) → walk-container-lts.Need-returns-3 (walk-container-claims t) (walk-container-at t) walk-container.Post
-walk-container-returns-3 t c =
+walk-container-returns-4 : (t : ℕ) → walk-container-lts.Need-returns-4 (walk-container-claims t) (walk-container-at t) walk-container.Post
+walk-container-returns-4 t c =
     let k = c .before .before .before .before .before .before .before .before .before .before .before .before .before .before .before .before .before .pre .1 .5 in (c .before .before .walk-row .ensures .0 ∙ value-row _ _ (c .before .before .before .before .before .before .before .before .before .before .before .before .before .before .before .before .before .pre .1 .0) _ k _ _ _ _ _ _ (c .before .before .before .before .before .before .before .before .before .before .before .before .open-node .ensures) _ _ _ (c .before .before .before .before .before .before .before .before .before .before .opening .given .1) _ (c .before .before .before .before .before .before .before .put-entry .ensures) (λ e. c .before .before .before .before .if1 .left (c .before .before .before .before .before .before .before .before .before .before .before .before .before .before .before .before .before .pre .1 .5 .is ∙ e)), c .before .before .walk-row .ensures .1)
 
 walk-member-enum-known-head : (t : ℕ) → walk-member-lts.Need-enum-known-head (walk-member-claims t) (walk-member-at t) walk-member.Post
 walk-member-enum-known-head t c = search needs
 
-walk-member-refused-requires : (t : ℕ) → walk-member-lts.Need-refused-requires (walk-member-claims t) (walk-member-at t) walk-member.Post
-walk-member-refused-requires t c κs = omega (arith, c .before .before .before .before .before .before .before .pre .1 .1)
-
 walk-member-enum-known-head-2 : (t : ℕ) → walk-member-lts.Need-enum-known-head-2 (walk-member-claims t) (walk-member-at t) walk-member.Post
 walk-member-enum-known-head-2 t c = search needs
 
+walk-member-head-fault-requires : (t : ℕ) → walk-member-lts.Need-head-fault-requires (walk-member-claims t) (walk-member-at t) walk-member.Post
+walk-member-head-fault-requires t c κs = search needs
+
+walk-member-refused-requires : (t : ℕ) → walk-member-lts.Need-refused-requires (walk-member-claims t) (walk-member-at t) walk-member.Post
+walk-member-refused-requires t c κs = omega (arith, c .before .before .before .before .before .before .before .pre .1 .1)
+
+walk-member-returns : (t : ℕ) → walk-member-lts.Need-returns (walk-member-claims t) (walk-member-at t) walk-member.Post
+walk-member-returns t c =
+    (member-fault _ _ _ _ _ _ _ (c .before .before .before .match .keys2) (c .before .before .match2 .keys2) _ (rw (c .before .head-fault .ensures) at (c .refused .ensures)), fault-within _ _ _ _ _ (c .refused .ensures))
+
 walk-member-ref-of-requires : (t : ℕ) → walk-member-lts.Need-ref-of-requires (walk-member-claims t) (walk-member-at t) walk-member.Post
 walk-member-ref-of-requires t c κs =
-    (c .before .before .before .before .before .before .before .pre .1 .0, absent-in _ _ _ _ (c .before .before .before .before .before .before .before .pre .1 .2) _ _ (c .before .head2 .given .1) .0)
+    (c .before .before .before .before .before .before .before .before .pre .1 .0, absent-in _ _ _ _ (c .before .before .before .before .before .before .before .before .pre .1 .2) _ _ (c .before .head2 .given .1) .0)
 
 walk-member-add-walk-absent : (t : ℕ) → walk-member-lts.Need-add-walk-absent (walk-member-claims t) (walk-member-at t) walk-member.Post
 walk-member-add-walk-absent t c =
-    let f = absent-in _ _ _ _ (c .before .before .before .before .before .before .before .before .pre .1 .2) _ _ (c .before .before .head2 .given .1) in omega (arith, f .2, c .before .before .before .before .before .before .before .before .pre .1 .1)
+    let f = absent-in _ _ _ _ (c .before .before .before .before .before .before .before .before .before .pre .1 .2) _ _ (c .before .before .head2 .given .1) in omega (arith, f .2, c .before .before .before .before .before .before .before .before .before .pre .1 .1)
 
 walk-member-walk-absent-requires : (t : ℕ) → walk-member-lts.Need-walk-absent-requires (walk-member-claims t) (walk-member-at t) walk-member.Post
 walk-member-walk-absent-requires t c κs =
-    let f = absent-in _ _ _ _ (c .before .before .before .before .before .before .before .before .before .pre .1 .2) _ _ (c .before .before .before .head2 .given .1) in let r = at-ref _ _ _ _ (c .before .before .before .before .before .before .before .before .before .pre .1 .0) (c .before .ref-of .ensures) in (r .0 .small, f .3, omega (arith, f .2, c .before .before .before .before .before .before .before .before .before .pre .1 .1), omega (arith, f .1, f .2, c .before .before .before .before .before .before .before .before .before .pre .1 .1, c .before .before .before .before .before .before .before .before .before .pre .1 .3))
+    let f = absent-in _ _ _ _ (c .before .before .before .before .before .before .before .before .before .before .pre .1 .2) _ _ (c .before .before .before .head2 .given .1) in let r = at-ref _ _ _ _ (c .before .before .before .before .before .before .before .before .before .before .pre .1 .0) (c .before .ref-of .ensures) in (r .0 .small, f .3, omega (arith, f .2, c .before .before .before .before .before .before .before .before .before .before .pre .1 .1), omega (arith, f .1, f .2, c .before .before .before .before .before .before .before .before .before .before .pre .1 .1, c .before .before .before .before .before .before .before .before .before .before .pre .1 .3))
 
-walk-member-enum-known-head-3 : (t : ℕ) → walk-member-lts.Need-enum-known-head-3 (walk-member-claims t) (walk-member-at t) walk-member.Post
-walk-member-enum-known-head-3 t c = search needs
+walk-member-same-length : (t : ℕ) → walk-member-lts.Need-same-length (walk-member-claims t) (walk-member-at t) walk-member.Post
+walk-member-same-length t c = c .before .before .walk-absent .kept .1 .1 .1 .0
+
+walk-member-returns-2 : (t : ℕ) → walk-member-lts.Need-returns-2 (walk-member-claims t) (walk-member-at t) walk-member.Post
+walk-member-returns-2 t c =
+    (c .before .before .walk-absent .ensures .0 ∙ member-absent _ _ _ _ _ _ _ _ _ _ (c .before .before .before .before .ref-of .ensures) (c .before .before .before .before .before .before .head2 .given .1), within-absent _ _ _ _ _ _ _ (c .before .before .walk-absent .ensures .1) (c .before .before .before .before .before .before .head2 .given .1) (absent-in _ _ _ _ (c .before .before .before .before .before .before .before .before .before .before .before .before .before .pre .1 .2) _ _ (c .before .before .before .before .before .before .head2 .given .1) .1) (c .before .before .before .before .before .before .before .before .before .before .before .before .before .pre .1 .3))
 
 walk-member-ref-of-requires-2 : (t : ℕ) → walk-member-lts.Need-ref-of-requires-2 (walk-member-claims t) (walk-member-at t) walk-member.Post
 walk-member-ref-of-requires-2 t c κs =
-    (c .before .before .before .before .before .before .before .pre .1 .0, present-in _ _ _ _ (c .before .before .before .before .before .before .before .pre .1 .2) _ _ _ (c .before .head3 .given .1) .0)
+    (c .before .before .before .before .before .before .before .pre .1 .0, present-in _ _ _ _ (c .before .before .before .before .before .before .before .pre .1 .2) _ _ _ (c .before .head .given .1) .0)
 
 walk-member-kind-at-requires : (t : ℕ) → walk-member-lts.Need-kind-at-requires (walk-member-claims t) (walk-member-at t) walk-member.Post
 walk-member-kind-at-requires t c κs =
@@ -234,7 +260,7 @@ walk-member-kind-at-requires t c κs =
 
 walk-member-add-end : (t : ℕ) → walk-member-lts.Need-add-end (walk-member-claims t) (walk-member-at t) walk-member.Post
 walk-member-add-end t c =
-    let f = present-in _ _ _ _ (c .before .before .before .before .before .before .before .before .before .pre .1 .2) _ _ _ (c .before .before .before .head3 .given .1) in omega (arith, f .2, c .before .before .before .before .before .before .before .before .before .pre .1 .1)
+    let f = present-in _ _ _ _ (c .before .before .before .before .before .before .before .before .before .pre .1 .2) _ _ _ (c .before .before .before .head .given .1) in omega (arith, f .2, c .before .before .before .before .before .before .before .before .before .pre .1 .1)
 
 walk-member-sub-bytes : (t : ℕ) → walk-member-lts.Need-sub-bytes (walk-member-claims t) (walk-member-at t) walk-member.Post
 walk-member-sub-bytes t c = search needs
@@ -244,47 +270,36 @@ walk-member-part-bytes-start t c = search needs
 
 walk-member-part-bytes-end : (t : ℕ) → walk-member-lts.Need-part-bytes-end (walk-member-claims t) (walk-member-at t) walk-member.Post
 walk-member-part-bytes-end t c =
-    present-in _ _ _ _ (c .before .before .before .before .before .before .before .before .before .pre .1 .2) _ _ _ (c .before .before .before .head3 .given .1) .2
+    present-in _ _ _ _ (c .before .before .before .before .before .before .before .before .before .pre .1 .2) _ _ _ (c .before .before .before .head .given .1) .2
 
 walk-member-add-place : (t : ℕ) → walk-member-lts.Need-add-place (walk-member-claims t) (walk-member-at t) walk-member.Post
 walk-member-add-place t c =
-    let f = present-in _ _ _ _ (c .before .before .before .before .before .before .before .before .before .before .pre .1 .2) _ _ _ (c .before .before .before .before .head3 .given .1) in omega (arith, f .2, c .before .before .before .before .before .before .before .before .before .before .pre .1 .1)
+    let f = present-in _ _ _ _ (c .before .before .before .before .before .before .before .before .before .before .pre .1 .2) _ _ _ (c .before .before .before .before .head .given .1) in omega (arith, f .2, c .before .before .before .before .before .before .before .before .before .before .pre .1 .1)
 
 walk-member-is-leaf-requires : (t : ℕ) → walk-member-lts.Need-is-leaf-requires (walk-member-claims t) (walk-member-at t) walk-member.Post
 walk-member-is-leaf-requires t c κs = search needs
 
 walk-member-walk-leaf-requires : (t : ℕ) → walk-member-lts.Need-walk-leaf-requires (walk-member-claims t) (walk-member-at t) walk-member.Post
 walk-member-walk-leaf-requires t c κs =
-    let f = present-in _ _ _ _ (c .before .before .before .before .before .before .before .before .before .before .before .before .before .pre .1 .2) _ _ _ (c .before .before .before .before .before .before .before .head3 .given .1) in let r = at-ref _ _ _ _ (c .before .before .before .before .before .before .before .before .before .before .before .before .before .pre .1 .0) (c .before .before .before .before .before .ref-of2 .ensures) in (r .0, c .before .before .before .before .kind-at .ensures .is, sym (c .before .before .is-leaf .ensures) ∙ c .before .if1 .taken, f .3, simp (length-take, length-drop) (omega (arith, f .2, c .before .before .before .before .before .before .before .before .before .before .before .before .before .pre .1 .1)), omega (arith, f .1, c .before .before .before .before .before .before .before .before .before .before .before .before .before .pre .1 .3))
-
-walk-member-same-length : (t : ℕ) → walk-member-lts.Need-same-length (walk-member-claims t) (walk-member-at t) walk-member.Post
-walk-member-same-length t c = c .before .before .walk-leaf .kept .1 .1 .1 .1 .1 .1 .0
-
-walk-member-returns : (t : ℕ) → walk-member-lts.Need-returns (walk-member-claims t) (walk-member-at t) walk-member.Post
-walk-member-returns t c =
-    (c .before .before .walk-leaf .ensures .0 ∙ member-present _ _ _ _ _ _ _ _ _ _ (c .before .before .before .before .before .before .before .before .ref-of2 .ensures) _ (c .before .before .before .before .before .before .before .before .before .before .head3 .given .1), within-present _ _ _ _ _ _ _ (c .before .before .before .before .before .before .before .before .before .before .head3 .given .1) (part-size _ _ _ (present-in _ _ _ _ (c .before .before .before .before .before .before .before .before .before .before .before .before .before .before .before .before .pre .1 .2) _ _ _ (c .before .before .before .before .before .before .before .before .before .before .head3 .given .1) .2)) (c .before .before .walk-leaf .ensures .1))
-
-walk-member-walk-value-requires : (t : ℕ) → walk-member-lts.Need-walk-value-requires (walk-member-claims t) (walk-member-at t) walk-member.Post
-walk-member-walk-value-requires t c κs =
-    let f = present-in _ _ _ _ (c .before .before .before .before .before .before .before .before .before .before .before .before .before .pre .1 .2) _ _ _ (c .before .before .before .before .before .before .before .head3 .given .1) in let r = at-ref _ _ _ _ (c .before .before .before .before .before .before .before .before .before .before .before .before .before .pre .1 .0) (c .before .before .before .before .before .ref-of2 .ensures) in (omega (arith, c .before .before .before .before .before .before .before .before .before .before .before .before .before .pre .0, r .1), (r .0, f .3, simp (length-take, length-drop) (omega (arith, f .2, c .before .before .before .before .before .before .before .before .before .before .before .before .before .pre .1 .1)), omega (arith, f .1, c .before .before .before .before .before .before .before .before .before .before .before .before .before .pre .1 .3), c .before .before .before .before .before .before .before .before .before .before .before .before .before .pre .1 .4))
-
-walk-member-returns-2 : (t : ℕ) → walk-member-lts.Need-returns-2 (walk-member-claims t) (walk-member-at t) walk-member.Post
-walk-member-returns-2 t c =
-    (member-fault _ _ _ _ _ _ _ _ (c .before .before .head .given .1) _ (c .refused .ensures), fault-within _ _ _ _ _ (c .refused .ensures))
+    let f = present-in _ _ _ _ (c .before .before .before .before .before .before .before .before .before .before .before .before .before .pre .1 .2) _ _ _ (c .before .before .before .before .before .before .before .head .given .1) in let r = at-ref _ _ _ _ (c .before .before .before .before .before .before .before .before .before .before .before .before .before .pre .1 .0) (c .before .before .before .before .before .ref-of2 .ensures) in (r .0, c .before .before .before .before .kind-at .ensures .is, sym (c .before .before .is-leaf .ensures) ∙ c .before .if1 .taken, f .3, simp (length-take, length-drop) (omega (arith, f .2, c .before .before .before .before .before .before .before .before .before .before .before .before .before .pre .1 .1)), omega (arith, f .1, c .before .before .before .before .before .before .before .before .before .before .before .before .before .pre .1 .3))
 
 walk-member-same-length-2 : (t : ℕ) → walk-member-lts.Need-same-length-2 (walk-member-claims t) (walk-member-at t) walk-member.Post
-walk-member-same-length-2 t c = c .before .before .walk-absent .kept .1 .1 .1 .0
+walk-member-same-length-2 t c = c .before .before .walk-leaf .kept .1 .1 .1 .1 .1 .1 .0
 
 walk-member-returns-3 : (t : ℕ) → walk-member-lts.Need-returns-3 (walk-member-claims t) (walk-member-at t) walk-member.Post
 walk-member-returns-3 t c =
-    (c .before .before .walk-absent .ensures .0 ∙ member-absent _ _ _ _ _ _ _ _ _ _ (c .before .before .before .before .ref-of .ensures) (c .before .before .before .before .before .before .head2 .given .1), within-absent _ _ _ _ _ _ _ (c .before .before .walk-absent .ensures .1) (c .before .before .before .before .before .before .head2 .given .1) (absent-in _ _ _ _ (c .before .before .before .before .before .before .before .before .before .before .before .before .pre .1 .2) _ _ (c .before .before .before .before .before .before .head2 .given .1) .1) (c .before .before .before .before .before .before .before .before .before .before .before .before .pre .1 .3))
+    (c .before .before .walk-leaf .ensures .0 ∙ member-present _ _ _ _ _ _ _ _ _ _ (c .before .before .before .before .before .before .before .before .ref-of2 .ensures) _ (c .before .before .before .before .before .before .before .before .before .before .head .given .1), within-present _ _ _ _ _ _ _ (c .before .before .before .before .before .before .before .before .before .before .head .given .1) (part-size _ _ _ (present-in _ _ _ _ (c .before .before .before .before .before .before .before .before .before .before .before .before .before .before .before .before .pre .1 .2) _ _ _ (c .before .before .before .before .before .before .before .before .before .before .head .given .1) .2)) (c .before .before .walk-leaf .ensures .1))
+
+walk-member-walk-value-requires : (t : ℕ) → walk-member-lts.Need-walk-value-requires (walk-member-claims t) (walk-member-at t) walk-member.Post
+walk-member-walk-value-requires t c κs =
+    let f = present-in _ _ _ _ (c .before .before .before .before .before .before .before .before .before .before .before .before .before .pre .1 .2) _ _ _ (c .before .before .before .before .before .before .before .head .given .1) in let r = at-ref _ _ _ _ (c .before .before .before .before .before .before .before .before .before .before .before .before .before .pre .1 .0) (c .before .before .before .before .before .ref-of2 .ensures) in (omega (arith, c .before .before .before .before .before .before .before .before .before .before .before .before .before .pre .0, r .1), (r .0, f .3, simp (length-take, length-drop) (omega (arith, f .2, c .before .before .before .before .before .before .before .before .before .before .before .before .before .pre .1 .1)), omega (arith, f .1, c .before .before .before .before .before .before .before .before .before .before .before .before .before .pre .1 .3), c .before .before .before .before .before .before .before .before .before .before .before .before .before .pre .1 .4))
 
 walk-member-same-length-3 : (t : ℕ) → walk-member-lts.Need-same-length-3 (walk-member-claims t) (walk-member-at t) walk-member.Post
 walk-member-same-length-3 t c = c .before .before .walk-value .kept .1 .1 .1 .1 .1 .1 .0
 
 walk-member-returns-4 : (t : ℕ) → walk-member-lts.Need-returns-4 (walk-member-claims t) (walk-member-at t) walk-member.Post
 walk-member-returns-4 t c =
-    (c .before .before .walk-value .ensures .0 ∙ member-present _ _ _ _ _ _ _ _ _ _ (c .before .before .before .before .before .before .before .before .ref-of2 .ensures) _ (c .before .before .before .before .before .before .before .before .before .before .head3 .given .1), within-present _ _ _ _ _ _ _ (c .before .before .before .before .before .before .before .before .before .before .head3 .given .1) (part-size _ _ _ (present-in _ _ _ _ (c .before .before .before .before .before .before .before .before .before .before .before .before .before .before .before .before .pre .1 .2) _ _ _ (c .before .before .before .before .before .before .before .before .before .before .head3 .given .1) .2)) (c .before .before .walk-value .ensures .1))
+    (c .before .before .walk-value .ensures .0 ∙ member-present _ _ _ _ _ _ _ _ _ _ (c .before .before .before .before .before .before .before .before .ref-of2 .ensures) _ (c .before .before .before .before .before .before .before .before .before .before .head .given .1), within-present _ _ _ _ _ _ _ (c .before .before .before .before .before .before .before .before .before .before .head .given .1) (part-size _ _ _ (present-in _ _ _ _ (c .before .before .before .before .before .before .before .before .before .before .before .before .before .before .before .before .pre .1 .2) _ _ _ (c .before .before .before .before .before .before .before .before .before .before .head .given .1) .2)) (c .before .before .walk-value .ensures .1))
 
 abbrev walk-row-Inv-loop : walk-row-lts.InvT-loop
 walk-row-Inv-loop plan needs node count first base from part list₀ at kind end left₀ pos₀ to₀ list left pos to = Left plan node base part end left₀ pos₀ to₀ list₀ left pos to list
@@ -538,13 +553,18 @@ pub +walk-container+walk-member+walk-row+walk-sparse+walk-value-spec : {M : Type
     (walk-container-put-entry-requires t)
     (walk-container-add-to t)
     (walk-container-sparse-leaves-requires t)
-    (walk-container-walk-sparse-requires t)
+    (walk-container-refused-requires-2 t)
     (walk-container-same-length t)
     (walk-container-returns-2 t)
-    (walk-container-walk-row-requires t)
+    (walk-container-walk-sparse-requires t)
     (walk-container-same-length-2 t)
-    (walk-container-returns-3 t))
+    (walk-container-returns-3 t)
+    (walk-container-walk-row-requires t)
+    (walk-container-same-length-3 t)
+    (walk-container-returns-4 t))
     (λ t. walk-member-lts.spec (
+      head-fault-reads.Asked,
+      head-fault-reads.Learnt,
       refused-reads.Asked,
       refused-reads.Learnt,
       ref-of-reads.Asked,
@@ -563,12 +583,15 @@ pub +walk-container+walk-member+walk-row+walk-sparse+walk-value-spec : {M : Type
     (walk-member-at t)
     walk-member.Post
     (walk-member-enum-known-head t)
-    (walk-member-refused-requires t)
     (walk-member-enum-known-head-2 t)
+    (walk-member-head-fault-requires t)
+    (walk-member-refused-requires t)
+    (walk-member-returns t)
     (walk-member-ref-of-requires t)
     (walk-member-add-walk-absent t)
     (walk-member-walk-absent-requires t)
-    (walk-member-enum-known-head-3 t)
+    (walk-member-same-length t)
+    (walk-member-returns-2 t)
     (walk-member-ref-of-requires-2 t)
     (walk-member-kind-at-requires t)
     (walk-member-add-end t)
@@ -578,12 +601,9 @@ pub +walk-container+walk-member+walk-row+walk-sparse+walk-value-spec : {M : Type
     (walk-member-add-place t)
     (walk-member-is-leaf-requires t)
     (walk-member-walk-leaf-requires t)
-    (walk-member-same-length t)
-    (walk-member-returns t)
-    (walk-member-walk-value-requires t)
-    (walk-member-returns-2 t)
     (walk-member-same-length-2 t)
     (walk-member-returns-3 t)
+    (walk-member-walk-value-requires t)
     (walk-member-same-length-3 t)
     (walk-member-returns-4 t))
     (λ t. walk-row-lts.spec (

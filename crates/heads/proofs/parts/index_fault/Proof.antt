@@ -20,4 +20,4 @@ unfolding indexFault
 returns-2 c = sym (ap indexFault (c .before .x .given .1))
 
 pub index-fault-spec : {M : Type 1} → statement M
-index-fault-spec = tie.close (tie.spec enum-told enum-known-x returns returns-2)
+index-fault-spec = tie.close (tie.spec enum-known-x enum-told returns returns-2)

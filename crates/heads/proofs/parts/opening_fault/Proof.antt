@@ -20,4 +20,4 @@ unfolding openingFault
 returns-2 c = sym (ap openingFault (c .before .o .given .1))
 
 pub opening-fault-spec : {M : Type 1} → statement M
-opening-fault-spec = tie.close (tie.spec enum-told enum-known-o returns returns-2)
+opening-fault-spec = tie.close (tie.spec enum-known-o enum-told returns returns-2)

@@ -3,7 +3,8 @@ use mathlib.Core.Path.{refl, sym, _∙_}
 use native.Mathlib.Omega.{arith}
 use Rattle.plan.proofs.Nodes.{at-format}
 use Rattle.value.proofs.Members.{inner-kind}
-use Rattle.supply.proofs.Leaves.{fits-size, fits-none}
+use Rattle.supply.proofs.Leaves.{fits-size}
+use Rattle.value.proofs.Containers.{container-none}
 use borrow.Author.Needs.{needs}
 use Rattle.supply.proofs.leaf.leaf_fits.Statement.{statement}
 use Rattle.supply.proofs.leaf.leaf_fits.Tie as tie
@@ -50,7 +51,7 @@ returns-2 c = c .leaf-ok .ensures
 
 returns-3 : tie.Need-returns-3
 returns-3 c =
-    fits-none _ _ _ (inner-kind _ _ _ (c .before .before .before .kind-at .ensures) (sym (c .before .is-leaf .ensures) ∙ c .if3 .left)) _
+    container-none _ _ _ (inner-kind _ _ _ (c .before .before .before .kind-at .ensures) (sym (c .before .is-leaf .ensures) ∙ c .if3 .left)) _
 
 pub leaf-fits-spec : {M : Type 1} → statement M
 leaf-fits-spec =

@@ -9,7 +9,7 @@ use borrow.Author.Tests.{eq-eqb}
 use Rattle.plan.specs.Plan.{look}
 use Rattle.supply.specs.Build.{rowOrder, elementsMade, buildOf}
 use Rattle.supply.specs.Emitting.{put-at}
-use Rattle.supply.proofs.Containers.{refers-inner}
+use Rattle.value.proofs.Containers.{refers-inner}
 use Rattle.supply.proofs.Entries.{entry-at, entry-inside}
 use Rattle.supply.proofs.Stands.{stood}
 use Rattle.supply.proofs.Elements.{turn-go, some-left, one-fewer}

@@ -1,5 +1,6 @@
 -- What holds of a container is shown for each of its kinds. Assumes nothing.
-use mathlib.Core.Path.{_≡_, sym, _∙_}
+use mathlib.Core.Path.{_≡_, refl, sym, _∙_}
+use mathlib.Core.Bool.{Bool, true, false}
 use mathlib.Core.List.{List}
 use mathlib.Core.Option.{none, some}
 use Prim.Native.Nat.{ℕ, _+_, _<_, _≤_}
@@ -9,8 +10,8 @@ use Rattle.rules.specs.Node.{Node, row, arrays, tuple, object, sparse, range, r
 use Rattle.plan.specs.Plan.{look, refsAt, cardsAt}
 use Rattle.plan.specs.Readers.{Refers, KindAt}
 use Rattle.plan.proofs.Looks.{look-leaf, look-row, look-arrays, look-tuple, look-object, look-sparse, look-range, look-enum, elem-in, refs-length}
-use Rattle.value.specs.Walk.{Container}
-use Rattle.value.proofs.Members.{kinds}
+use Rattle.value.specs.Walk.{leafKind, leafGood, Container}
+use Rattle.value.proofs.Members.{kinds, inner-kind}
 
 module _ (p : List ℕ) (k kind : ℕ) (c : Container p k kind) where
   -- of a container's kind and node
@@ -46,3 +47,16 @@ refers-below p k kind i c low high r = by-kind p k kind c (λ m v. 5 ≤ m → m
     (λ a b q. omega (arith, elem-in (refsAt p k) i (r .to) q .0, refs-length p k))
     (λ a b q. absurd (omega arith))
     low high (r .is)
+
+-- no content is permitted in a container as in a leaf
+pub container-none : (p : List ℕ) (k kind : ℕ) → Container p k kind → (b : List ℕ) → false ≡ leafGood (look p k) b
+unfolding leafGood
+container-none p k kind c b = by-kind p k kind c (λ m v. false ≡ leafGood v b) refl refl refl refl refl refl
+
+pub leaf-only : (p : List ℕ) (k : ℕ) → KindAt p k (getD p k 0) → (b : List ℕ) → leafGood (look p k) b ≡ true → leafKind (getD p k 0) ≡ true
+leaf-only p k a b g = go (leafKind (getD p k 0)) refl
+  where
+    go : (t : Bool) → leafKind (getD p k 0) ≡ t → leafKind (getD p k 0) ≡ true
+    go true e = e
+    go false e =
+        let x : false ≡ true = container-none p k (getD p k 0) (inner-kind p k (getD p k 0) a e) b ∙ g in let z : _≡_ {A = ℕ} 0 1 = cc in absurd (omega arith)
