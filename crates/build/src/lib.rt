@@ -2,13 +2,13 @@
 // stack grows with nesting only. Whatever the list claims, nothing is looked at that would pass the largest value.
 use supply::Built;
 use supply::Entry;
+use supply::Gathered;
 use supply::Opened;
 use supply::Read;
 use supply::front;
 use supply::head;
 use supply::leaf;
 use supply::list;
-use value::Gathered;
 ghost use mathlib.Core.Path.{_≡_};
 ghost use mathlib.Core.Bool.{true};
 ghost use mathlib.Core.List.{List};
@@ -135,6 +135,9 @@ pub fn build_value(
     let count = entry.count as usize;
     if kind == 6 {
         let run = leaf::put_given(plan, node, src, list, count, below, out, from);
+        if run.seen.twice {
+            return Built::Failed;
+        }
         return build_sparse(plan, needs, node, src, list, run, out);
     }
     build_row(plan, needs, node, src, list, count, first, below, out, from)
@@ -191,12 +194,12 @@ fn build_sparse(
     out: &mut [u8],
 ) -> Built
     requires { ⌜ (At (now plan) node) × (getD (now plan) node 0 ≡ 6) × (run .at ≤ 65535) × (Memo (now plan) (now needs)) × (Counted (now plan) node (run .seen .marks) (run .given)) ⌝ }
-    ensures { λ r. ⌜ standOf r (now (list .entry)) (now (out .exit)) ≡ put-at (elementsMade (sparseOrder (cardsAt (now (plan .entry)) node)) (buildOf (now (src .entry)) (look (now (plan .entry)))) (look (now (plan .entry)) node) (run .left) (run .seen .marks) (drop (run .pos) (now (list .entry)))) (run .at) (now (out .entry)) ⌝ }
+    ensures { λ r. ⌜ standOf r (now (list .entry)) (now (out .exit)) ≡ put-at (elementsMade (sparseOrder (cardsAt (now (plan .entry)) node)) (buildOf (now (src .entry)) (look (now (plan .entry)))) (look (now (plan .entry)) node) (run .left) (run .seen .marks) (drop (run .word) (now (list .entry)))) (run .at) (now (out .entry)) ⌝ }
 {
     let n = plan::node::second_at(plan, node);
     let mut seen = run.seen;
     let mut given = run.given;
-    let mut word = run.pos;
+    let mut word = run.word;
     let mut at = run.at;
     for _ in 0..run.left {
         let Read::Whole(entry) = list::known_entry(list, word, n) else {

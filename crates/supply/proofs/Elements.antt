@@ -4,22 +4,26 @@ use mathlib.Core.Bool.{Bool, true, false}
 use mathlib.Core.List.{List, []}
 use Prim.Native.Nat.{ℕ, zero, suc, _+_, _-_, _<_, _≤_}
 use native.Mathlib.Omega.{arith}
-use native.Mathlib.Nat.{add-zero, not-suc-le-zero}
+use native.Mathlib.Nat.{add-zero, sub-zero, not-suc-le-zero}
 use native.Mathlib.Numerals.{sub-one}
 use lib.Dec.{ltb}
-use lib.ListN.{length, getD, set as store}
+use lib.ListN.{length, take, getD, set as store, length-set}
 use borrow.Author.Tests.{lt-ltb, le-ltb, ltb-false}
 use Rattle.wire.specs.Choice.{pick}
+use Rattle.wire.proofs.Picks.{clash}
 use Rattle.rules.specs.Node.{Node, refAt}
+use Rattle.rules.specs.Values.{noMarks}
 use Rattle.heads.specs.Heads.{requires}
+use Rattle.heads.specs.Marks.{marked, repeats}
+use Rattle.heads.proofs.Marks.{marked-more, repeats-more}
 use Rattle.plan.specs.Plan.{look, cardsAt, At}
 use Rattle.plan.proofs.Looks.{cards-length}
 use Rattle.plan.proofs.Nodes.{at-few}
 use Rattle.value.specs.Counted.{Counted}
-use Rattle.value.proofs.Counted.{counted-next}
+use Rattle.value.proofs.Counted.{counted-none, counted-next}
 use Rattle.supply.specs.Supply.{Claim, Next, short, next, nextOf}
 use Rattle.supply.specs.Build.{Made, wrong, made, andThen, Builder, Order, sparseOrder, partMade, memberMade, stateAfter, elementsMade, buildOf}
-use Rattle.supply.specs.Emitting.{broken, stands, put-at, readOf, known, Gathers}
+use Rattle.supply.specs.Emitting.{broken, stands, put-at, readOf, known, Gathers, GathersNew}
 use Rattle.supply.specs.declared.Read.{Read}
 use Rattle.supply.specs.declared.Read.the-variants.{Short}
 use Rattle.supply.proofs.Stands.{put-small, stood, stop, go}
@@ -150,3 +154,89 @@ module _ (src p : List ℕ) (k n : ℕ) (from : List Bool) (ws : List ℕ) (at :
         leads = g .leads ∙ turn-go (sparseOrder (cardsAt p k)) (buildOf src (look p)) (look p k) marks us at′ out′ left z c rest e
             (new-index p k marks (getD p (k + 1) 0) (c .index) refl known new) us″ at″ out″ q marks′ em left′ el;
       }
+
+  -- an index that was given before
+  gathers-barred : (marks : List Bool) (count left : ℕ) (us : List ℕ) (at′ : ℕ) (out′ : List ℕ) → Gathers src p k n from ws at out marks count left us at′ out′
+      → 0 < left → (c : Claim) (rest : List ℕ) → nextOf us ≡ next c rest → c .index < getD p (k + 1) 0 → getD marks (c .index) false ≡ true
+      → put-at (elementsMade (sparseOrder (cardsAt p k)) (buildOf src (look p)) (look p k) n from ws) at out ≡ broken
+  gathers-barred marks count left us at′ out′ g z c rest e known twice =
+      g .leads ∙ sym (turn-barred (sparseOrder (cardsAt p k)) (buildOf src (look p)) (look p k) marks us at′ out′ left z c rest e
+      (same-index p k marks (getD p (k + 1) 0) (c .index) refl known twice))
+
+-- ---- the loop over the leaves that a sparse object starts with, which keeps their indexes
+
+one-at-most : (r : Bool) (count count′ m : ℕ) → count ≤ m → count′ ≡ count + pick r 1 0 → count′ ≤ m + 1
+unfolding pick
+one-at-most true count count′ m h e = omega arith
+one-at-most false count count′ m h e = omega arith
+
+abbrev pub Gathering : List ℕ → List ℕ → ℕ → ℕ → List ℕ → ℕ → List ℕ → List ℕ → ℕ → ℕ → List ℕ → ℕ → List ℕ → Type 0
+Gathering src p k n ws at out indexes m count us at′ out′ =
+    (length out′ ≡ length out) × (length indexes ≡ 512) × (m ≤ n) × (count ≤ m)
+    × GathersNew src p k n ws at out (marked noMarks (take m indexes)) (repeats noMarks (take m indexes)) count (n - m) us at′ out′
+
+module _ (src p : List ℕ) (k n : ℕ) (ws : List ℕ) (at : ℕ) (out : List ℕ) where
+  pub gathering-start : (indexes : List ℕ) → length indexes ≡ 512 → at ≤ 65535 → Gathering src p k n ws at out indexes 0 0 ws at out
+  unfolding marked repeats
+  gathering-start indexes e h = (
+    refl,
+    e,
+    omega arith,
+    omega arith,
+    record {
+      small = h;
+      barred = λ q. clash q;
+      new = λ _. rw sub-zero (gathers-start src p k n noMarks ws at out 0 h (counted-none p k noMarks refl));
+    },
+  )
+
+  -- with one more leaf, whose index was given before or not
+  next-new : (marks : List Bool) (twice : Bool) (count left : ℕ) (us : List ℕ) (at′ : ℕ) (out′ : List ℕ) → GathersNew src p k n ws at out marks twice count left us at′ out′
+      → 0 < left → At p k → getD p k 0 ≡ 6 → (c : Claim) (rest : List ℕ) → nextOf us ≡ next c rest → c .index < getD p (k + 1) 0
+      → (us″ : List ℕ) (at″ : ℕ) (out″ : List ℕ)
+      → stands us″ at″ out″ ≡ put-at (partMade (buildOf src (look p)) (look p k) (refAt (look p k) (c .index)) c rest us) at′ out′
+      → (count′ : ℕ) → count′ ≡ count + pick (requires (getD (cardsAt p k) (c .index) 0)) 1 0
+      → GathersNew src p k n ws at out (store marks (c .index) true) (pick twice true (getD marks (c .index) false)) count′ (left - 1) us″ at″ out″
+  unfolding pick
+  next-new marks twice count left us at′ out′ g z a six c rest e known us″ at″ out″ q count′ ec =
+      record {
+        small = stood (partMade (buildOf src (look p)) (look p k) (refAt (look p k) (c .index)) c rest us) at′ out′ us″ at″ out″ q .small;
+        barred = barred-by twice (getD marks (c .index) false) refl refl;
+        new = new-by twice (getD marks (c .index) false) refl refl;
+      }
+    where
+      barred-by : (t m : Bool) → twice ≡ t → getD marks (c .index) false ≡ m → pick t true m ≡ true
+          → put-at (elementsMade (sparseOrder (cardsAt p k)) (buildOf src (look p)) (look p k) n noMarks ws) at out ≡ broken
+      barred-by true m et em f = g .barred et
+      barred-by false true et em f = gathers-barred src p k n noMarks ws at out marks count left us at′ out′ (g .new et) z c rest e known em
+      barred-by false false et em f = clash f
+
+      new-by : (t m : Bool) → twice ≡ t → getD marks (c .index) false ≡ m → pick t true m ≡ false
+          → Gathers src p k n noMarks ws at out (store marks (c .index) true) count′ (left - 1) us″ at″ out″
+      new-by true m et em f = clash (sym f)
+      new-by false true et em f = clash (sym f)
+      new-by false false et em f =
+          gathers-next src p k n noMarks ws at out marks count left us at′ out′ (g .new et) z a six c rest e known em us″ at″ out″ q (store marks (c .index) true) refl count′ ec (left - 1) refl
+
+  pub gathering-next : (indexes : List ℕ) (m count : ℕ) (us : List ℕ) (at′ : ℕ) (out′ : List ℕ) → Gathering src p k n ws at out indexes m count us at′ out′ → m < n → m < 512
+      → At p k → getD p k 0 ≡ 6 → (c : Claim) (rest : List ℕ) → nextOf us ≡ next c rest → c .index < getD p (k + 1) 0
+      → (us″ : List ℕ) (at″ : ℕ) (out″ : List ℕ)
+      → stands us″ at″ out″ ≡ put-at (partMade (buildOf src (look p)) (look p k) (refAt (look p k) (c .index)) c rest us) at′ out′ → length out″ ≡ length out′
+      → (count′ : ℕ) → count′ ≡ count + pick (requires (getD (cardsAt p k) (c .index) 0)) 1 0
+      → Gathering src p k n ws at out (store indexes m (c .index)) (m + 1) count′ us″ at″ out″
+  gathering-next indexes m count us at′ out′ g below room a six c rest e known us″ at″ out″ q same count′ ec =
+      let inside : m < length indexes = omega (arith, g .1) in
+      let left : n - (m + 1) ≡ n - m - 1 = omega arith in (
+        same ∙ g .0,
+        length-set indexes m (c .index) ∙ g .1,
+        omega arith,
+        one-at-most (requires (getD (cardsAt p k) (c .index) 0)) count count′ m (g .3) ec,
+        rw (marked-more noMarks indexes m (c .index) inside, repeats-more noMarks indexes m (c .index) inside, left)
+            (next-new _ _ count (n - m) us at′ out′ (g .4) (omega arith) a six c rest e known us″ at″ out″ q count′ ec),
+      )
+
+  -- the set that all the indexes were handed to
+  pub gathering-end : (indexes : List ℕ) (m count : ℕ) (us : List ℕ) (at′ : ℕ) (out′ : List ℕ) → Gathering src p k n ws at out indexes m count us at′ out′
+      → (marks₀ : List Bool) → marks₀ ≡ noMarks → (is : List ℕ) → is ≡ take m indexes → (marks : List Bool) → marks ≡ marked marks₀ is → (twice : Bool) → twice ≡ repeats marks₀ is
+      → GathersNew src p k n ws at out marks twice count (n - m) us at′ out′
+  gathering-end indexes m count us at′ out′ g marks₀ e₀ is ei marks em twice et = rw (em, et, e₀, ei) (g .4)

@@ -2,22 +2,28 @@
 -- at once, so that a supply costs no more than its own words and the bytes of the largest value. Assumes nothing: these are definitions.
 use mathlib.Core.Path.{_≡_}
 use Prim.Native.Nat.{ℕ, _+_, _≤_}
-use mathlib.Core.Bool.{Bool}
+use mathlib.Core.Bool.{Bool, true, false}
 use mathlib.Core.List.{List, _++_}
 use lib.Dec.{eqb, leb, ltb}
-use lib.ListN.{length, drop}
+use lib.ListN.{length, take, drop}
 use lib.Seq.{sets}
 use Rattle.wire.specs.Choice.{pick}
 use Rattle.wire.specs.Be.{bytesBe}
+use mathlib.Core.Option.{some}
+use Rattle.rules.specs.Node.{refAt}
+use Rattle.rules.specs.Values.{noMarks}
 use Rattle.plan.specs.Plan.{look, cardsAt}
+use Rattle.value.specs.Walk.{leafGood}
 use Rattle.value.specs.Counted.{Counted}
-use Rattle.supply.specs.Supply.{zeros, Claim, Next, short, next}
+use Rattle.supply.specs.Supply.{zeros, Claim, Next, short, next, nextOf}
 use Rattle.supply.specs.Build as Spec
 use Rattle.supply.specs.declared.Entry.{Entry}
 use Rattle.supply.specs.declared.Read.{Read}
 use Rattle.supply.specs.declared.Read.the-variants.{Short, Whole}
 use Rattle.supply.specs.declared.Opened.{Opened}
 use Rattle.supply.specs.declared.Opened.the-variants.{Shut, Open}
+use Rattle.supply.specs.declared.Emitted.{Emitted}
+use Rattle.supply.specs.declared.Emitted.the-variants.{Leaf, Other}
 use Rattle.supply.specs.declared.Built.{Built}
 use Rattle.supply.specs.declared.Built.the-variants.{Failed, Done}
 
@@ -77,6 +83,25 @@ unfoldable pub standOf : Built → List ℕ → List ℕ → Stand
 standOf Failed ws out = broken
 standOf (Done word at) ws out = stands (drop word ws) at out
 
+-- ---- a leaf
+
+-- where the output stands after the leaf of an entry and its head, if it is one: its node is the element's own, no entry is below it, it fits, lies
+-- inside the source and is permitted
+unfoldable pub leafTo : List ℕ → List ℕ → ℕ → ℕ → Entry → ℕ → Emitted
+leafTo src p kind child e at =
+    pick (eqb (e .node) child)
+    (pick (eqb (e .count) 0)
+    (pick (ltb 65535 (at + headSize kind + e .size)) Other
+    (pick (ltb (length src) (e .start + e .size)) Other
+    (pick (leafGood (look p child) (take (e .size) (drop (e .start) src))) (Leaf (at + headSize kind + e .size)) Other))) Other) Other
+
+-- whether it was put out, and what then stands there: the element's part of the building. Otherwise the output is as it was.
+pub record LeafPut (src p : List ℕ) (k kind : ℕ) (e : Entry) (at : ℕ) (out : List ℕ) (r : Emitted) (out′ : List ℕ) : Type 0 where
+  pub is : (child : ℕ) → refAt (look p k) (e .index) ≡ some child → r ≡ leafTo src p kind child e at
+  pub kept : r ≡ Other → out′ ≡ out
+  pub put : (to : ℕ) → r ≡ Leaf to → (rest ws : List ℕ) → nextOf ws ≡ next (claim e) rest
+      → stands rest to out′ ≡ put-at (Spec.partMade (Spec.buildOf src (look p)) (look p k) (refAt (look p k) (e .index)) (claim e) rest ws) at out
+
 -- ---- a stretch of leaves
 
 -- Of n elements of the sparse object at k, whose entries are ws and before which the indexes `from` were given, `left` are left, whose
@@ -87,3 +112,9 @@ pub record Gathers (src p : List ℕ) (k n : ℕ) (from : List Bool) (ws : List 
   pub counted : Counted p k marks count
   pub leads : put-at (Spec.elementsMade (Spec.sparseOrder (cardsAt p k)) (Spec.buildOf src (look p)) (look p k) n from ws) at out
       ≡ put-at (Spec.elementsMade (Spec.sparseOrder (cardsAt p k)) (Spec.buildOf src (look p)) (look p k) left marks us) at′ out′
+
+-- The same from the first element on, or an index was given twice: then no value is built.
+pub record GathersNew (src p : List ℕ) (k n : ℕ) (ws : List ℕ) (at : ℕ) (out : List ℕ) (marks : List Bool) (twice : Bool) (count left : ℕ) (us : List ℕ) (at′ : ℕ) (out′ : List ℕ) : Type 0 where
+  pub small : at′ ≤ 65535
+  pub barred : twice ≡ true → put-at (Spec.elementsMade (Spec.sparseOrder (cardsAt p k)) (Spec.buildOf src (look p)) (look p k) n noMarks ws) at out ≡ broken
+  pub new : twice ≡ false → Gathers src p k n noMarks ws at out marks count left us at′ out′

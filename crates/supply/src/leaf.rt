@@ -1,26 +1,24 @@
 // The elements of a container that are leaves, as most are. They are put out by a loop that calls nothing that calls it, so that the
 // compiler keeps what it needs in registers. It stops at the first element that is not a leaf or that has a fault: what that one is, is
 // for the walk to say.
+use crate::Emitted;
 use crate::Entry;
+use crate::Gathered;
 use crate::Place;
 use crate::Read;
 use crate::front;
 use crate::head;
 use crate::list;
+use heads::sparse::MOST;
 use heads::sparse::Seen;
-use value::Gathered;
 ghost use mathlib.Core.Path.{_≡_};
-ghost use mathlib.Core.List.{List};
 ghost use Prim.Native.Nat.{ℕ, _+_, _-_, _^_, _<_, _≤_};
 ghost use lib.ListN.{length, take, drop, getD};
-ghost use Rattle.rules.specs.Node.{refAt};
-ghost use Rattle.rules.specs.Values.{noMarks};
 ghost use Rattle.plan.specs.Plan.{look, At};
 ghost use Rattle.plan.specs.Readers.{Refers, KindAt};
 ghost use Rattle.value.specs.Walk.{leafGood, Container, Holds};
-ghost use Rattle.supply.specs.Supply.{nextOf, next};
-ghost use Rattle.supply.specs.Build.{partMade, rowOrder, elementsMade, buildOf};
-ghost use Rattle.supply.specs.Emitting.{claim, stands, put-at, Gathers};
+ghost use Rattle.supply.specs.Build.{rowOrder, elementsMade, buildOf};
+ghost use Rattle.supply.specs.Emitting.{put-at, LeafPut, GathersNew};
 
 // Whether a node is a leaf and the bytes of the source from s up to e are permitted in it. Of most formats the size alone counts.
 fn leaf_fits(plan: &[u32], node: usize, src: &[u8], s: usize, e: usize) -> bool
@@ -40,7 +38,7 @@ fn leaf_fits(plan: &[u32], node: usize, src: &[u8], s: usize, e: usize) -> bool
     false
 }
 
-// The next byte of the output, after the element of an entry was put there with its head; or 0, and nothing was put out.
+// Puts out the element of an entry with its head, where it is a leaf, fits and is permitted.
 fn put_leaf(
     plan: &[u32],
     node: usize,
@@ -49,34 +47,33 @@ fn put_leaf(
     entry: Entry,
     out: &mut [u8],
     at: usize,
-) -> usize
+) -> Emitted
     requires { ⌜ (At (now plan) node) × (Container (now plan) node kind) × (Refers (look (now plan) node) (entry .index)) × (at ≤ 65535) ⌝ }
-    ensures kept { λ r. ⌜ (r ≡ 0 → now (out .exit) ≡ now (out .entry)) ⌝ }
-    ensures { λ r. ⌜ (0 < r → (rest ws : List ℕ) → nextOf ws ≡ next (claim entry) rest → stands rest r (now (out .exit)) ≡ put-at (partMade (buildOf (now (src .entry)) (look (now (plan .entry)))) (look (now (plan .entry)) node) (refAt (look (now (plan .entry)) node) (entry .index)) (claim entry) rest ws) at (now (out .entry))) ⌝ }
+    ensures { λ r. ⌜ LeafPut (now (src .entry)) (now (plan .entry)) node kind entry at (now (out .entry)) r (now (out .exit)) ⌝ }
 {
     let child = plan::node::ref_of(plan, node, entry.index as usize);
     if entry.node as usize != child {
-        return 0;
+        return Emitted::Other;
     }
     if entry.count != 0 {
-        return 0;
+        return Emitted::Other;
     }
     let s = entry.start as usize;
     let e = s + entry.size as usize;
     let from = at + head::head_size(kind);
     let end = from + (e - s);
     if front::LARGEST < end {
-        return 0;
+        return Emitted::Other;
     }
     if src.len() < e {
-        return 0;
+        return Emitted::Other;
     }
     if leaf_fits(plan, child, src, s, e) {
         wire::copy::put_bytes(&src[s..e], out, from);
         head::put_head(kind, entry.index, entry.size, out, at);
-        return end;
+        return Emitted::Leaf { at: end };
     }
-    0
+    Emitted::Other
 }
 
 // Puts out the elements with the indexes from `first` up to `end`, as far as they are leaves, and says where that ends.
@@ -103,10 +100,10 @@ pub fn put_leaves(
         if entry.index as usize != index {
             break;
         }
-        let to = put_leaf(plan, node, kind, src, entry, out, at);
-        if to == 0 {
+        let leaf = put_leaf(plan, node, kind, src, entry, out, at);
+        let Emitted::Leaf { at: to } = leaf else {
             break;
-        }
+        };
         word += list::WORDS;
         at = to;
         index += 1;
@@ -114,8 +111,9 @@ pub fn put_leaves(
     Place { index, word, at }
 }
 
-// The elements of a sparse object, as far as they are leaves: in most such objects, all of them. The set of seen indexes is marked in place
-// here, since its method copies it for each index.
+// The leaves that a sparse object starts with: in most such objects, all of its elements. Their indexes are kept, and the set of seen indexes
+// is handed them all at once, since each of its methods copies it. No more are taken than a shape has elements: with one more an index is
+// given twice. If the set says that one was, the object is refused.
 pub fn put_given(
     plan: &[u32],
     node: usize,
@@ -127,29 +125,33 @@ pub fn put_given(
     mut at: usize,
 ) -> Gathered
     requires { ⌜ (At (now plan) node) × (getD (now plan) node 0 ≡ 6) × (at ≤ 65535) ⌝ }
-    ensures { λ r. ⌜ Gathers (now (src .entry)) (now (plan .entry)) node count noMarks (drop word (now (list .entry))) at (now (out .entry)) (r .seen .marks) (r .given) (r .left) (drop (r .pos) (now (list .entry))) (r .at) (now (out .exit)) ⌝ }
+    ensures { λ r. ⌜ GathersNew (now (src .entry)) (now (plan .entry)) node count (drop word (now (list .entry))) at (now (out .entry)) (r .seen .marks) (r .seen .twice) (r .given) (r .left) (drop (r .word) (now (list .entry))) (r .at) (now (out .exit)) ⌝ }
 {
-    let n = plan::node::second_at(plan, node);
-    let mut seen = Seen::new();
+    let known = plan::node::second_at(plan, node);
+    let most = wire::copy::least(count, MOST);
+    let mut indexes = [0u32; MOST];
+    let mut n: usize = 0;
     let mut given: usize = 0;
-    let mut left = count;
-    while 0 < left {
-        let Read::Whole(entry) = list::known_entry(list, word, n) else {
+    while n < most {
+        let Read::Whole(entry) = list::known_entry(list, word, known) else {
             break;
         };
-        let i = entry.index as usize;
-        if seen.marks[i] {
+        let leaf = put_leaf(plan, node, 6, src, entry, out, at);
+        let Emitted::Leaf { at: to } = leaf else {
             break;
-        }
-        let to = put_leaf(plan, node, 6, src, entry, out, at);
-        if to == 0 {
-            break;
-        }
-        seen.marks[i] = true;
-        given = value::node::count_given(plan, node, i, given);
+        };
+        indexes[n] = entry.index;
+        n += 1;
+        given = value::node::count_given(plan, node, entry.index as usize, given);
         word += list::WORDS;
         at = to;
-        left -= 1;
     }
-    value::gather(seen, given, left, word, at)
+    let seen = Seen::new().mark_all(&indexes[..n]);
+    Gathered {
+        seen,
+        given,
+        left: count - n,
+        word,
+        at,
+    }
 }

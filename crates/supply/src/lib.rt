@@ -5,6 +5,8 @@ pub mod head;
 pub mod leaf;
 pub mod list;
 
+use heads::sparse::Seen;
+
 // The five words of a list's entry.
 pub struct Entry {
     pub node: u32,
@@ -35,6 +37,22 @@ pub enum Built {
 // Where a row of elements stands: the index of its next element, the next word of the list and the next byte of the output.
 pub struct Place {
     pub index: usize,
+    pub word: usize,
+    pub at: usize,
+}
+
+// A leaf that was put out with its head, and the next byte of the output; or another element, and nothing was put out.
+pub enum Emitted {
+    Leaf { at: usize },
+    Other,
+}
+
+// Where the leaves that a sparse object starts with end: the set of their indexes and how many of those are required, how many elements are
+// left, the next word of the list and the next byte of the output.
+pub struct Gathered {
+    pub seen: Seen,
+    pub given: usize,
+    pub left: usize,
     pub word: usize,
     pub at: usize,
 }

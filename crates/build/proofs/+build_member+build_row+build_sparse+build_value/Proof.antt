@@ -443,28 +443,37 @@ build-value-put-given-requires : (t : ℕ) → build-value-lts.Need-put-given-re
 build-value-put-given-requires t c κs =
     let k = inner-kind _ _ _ (c .before .before .before .before .before .before .before .before .before .before .before .before .kind-at .ensures) (sym (c .before .before .before .before .before .before .before .before .before .before .before .is-leaf .ensures) ∙ c .before .before .before .before .before .before .before .before .before .before .if2 .left) in (c .before .before .before .before .before .before .before .before .before .before .before .before .before .before .before .before .before .before .before .before .pre .1 .0, sym (c .before .before .before .before .before .before .before .before .before .before .before .before .kind-at .ensures .is) ∙ c .before .if3 .taken, opened-small _ _ _ (c .before .before .before .before .before .before .before .before .before .before .before .before .before .before .before .before .before .before .before .before .pre .1 .0) _ _ _ (c .before .before .before .before .before .before .before .before .before .before .before .before .before .before .before .before .before .before .before .before .pre .1 .1) (c .before .before .before .before .before .before .before .before .before .before .before .before .before .before .before .before .before .before .before .before .pre .1 .2) _ _ (c .before .before .before .before .before .before .before .before .before .before .before .before .before .if1 .left) _ k _ _ (c .before .before .before .before .before .before .before .before .put-front .ensures) _ _ (c .before .before .before .before .opened .given .1))
 
-build-value-build-sparse-requires : (t : ℕ) → build-value-lts.Need-build-sparse-requires (build-value-claims t) (build-value-at t) build-value.Post
-build-value-build-sparse-requires t c κs =
-    (omega (arith, c .before .before .before .before .before .before .before .before .before .before .before .before .before .before .before .before .before .before .before .before .before .before .before .before .pre .0), (c .before .before .before .before .before .before .before .before .before .before .before .before .before .before .before .before .before .before .before .before .before .before .before .before .pre .1 .0, sym (c .before .before .before .before .before .before .before .before .before .before .before .before .before .before .before .before .kind-at .ensures .is) ∙ c .before .before .before .before .before .if3 .taken, c .before .before .before .put-given .ensures .small, c .before .before .before .before .before .before .before .before .before .before .before .before .before .before .before .before .before .before .before .before .before .before .before .before .pre .1 .5, c .before .before .before .put-given .ensures .counted))
-
 build-value-same-length-3 : (t : ℕ) → build-value-lts.Need-same-length-3 (build-value-claims t) (build-value-at t) build-value.Post
 build-value-same-length-3 t c =
-    c .before .before .build-sparse .kept .1 .1 .1 .1 .1 .1 .0 ∙ c .before .before .before .before .before .before .put-given .kept .1 .1 .1 .1 .1 .1 .0 ∙ c .before .before .before .before .before .before .before .before .before .before .before .before .before .before .before .put-front .kept .1 .1 .1 .1 .1 .0
+    c .before .before .before .put-given .kept .1 .1 .1 .1 .1 .1 .0 ∙ c .before .before .before .before .before .before .before .before .before .before .before .before .put-front .kept .1 .1 .1 .1 .1 .0
 
 build-value-returns-4 : (t : ℕ) → build-value-lts.Need-returns-4 (build-value-claims t) (build-value-at t) build-value.Post
+unfolding standOf
 build-value-returns-4 t c =
-    let k = inner-kind _ _ _ (c .before .before .before .before .before .before .before .before .before .before .before .before .before .before .before .before .before .before .before .kind-at .ensures) (sym (c .before .before .before .before .before .before .before .before .before .before .before .before .before .before .before .before .before .before .is-leaf .ensures) ∙ c .before .before .before .before .before .before .before .before .before .before .before .before .before .before .before .before .before .if2 .left) in c .before .before .build-sparse .ensures ∙ sym (c .before .before .before .before .before .before .put-given .ensures .leads) ∙ value-sparse _ _ _ (c .before .before .before .before .before .before .before .before .before .before .before .before .before .before .before .before .before .before .before .before .before .before .before .before .before .before .before .pre .1 .0) _ _ _ (c .before .before .before .before .before .before .before .before .before .before .before .before .before .before .before .before .before .before .before .before .before .before .before .before .before .before .before .pre .1 .1) (c .before .before .before .before .before .before .before .before .before .before .before .before .before .before .before .before .before .before .before .before .before .before .before .before .before .before .before .pre .1 .2) _ _ (c .before .before .before .before .before .before .before .before .before .before .before .before .before .before .before .before .before .before .before .before .if1 .left) _ k _ _ (c .before .before .before .before .before .before .before .before .before .before .before .before .before .before .before .put-front .ensures) _ _ (c .before .before .before .before .before .before .before .before .before .before .before .opened .given .1) (c .before .before .before .before .before .before .before .before .if3 .taken)
+    let k = inner-kind _ _ _ (c .before .before .before .before .before .before .before .before .before .before .before .before .before .before .before .before .kind-at .ensures) (sym (c .before .before .before .before .before .before .before .before .before .before .before .before .before .before .before .is-leaf .ensures) ∙ c .before .before .before .before .before .before .before .before .before .before .before .before .before .before .if2 .left) in sym (c .before .before .before .put-given .ensures .barred (c .if4 .taken)) ∙ value-sparse _ _ _ (c .before .before .before .before .before .before .before .before .before .before .before .before .before .before .before .before .before .before .before .before .before .before .before .before .pre .1 .0) _ _ _ (c .before .before .before .before .before .before .before .before .before .before .before .before .before .before .before .before .before .before .before .before .before .before .before .before .pre .1 .1) (c .before .before .before .before .before .before .before .before .before .before .before .before .before .before .before .before .before .before .before .before .before .before .before .before .pre .1 .2) _ _ (c .before .before .before .before .before .before .before .before .before .before .before .before .before .before .before .before .before .if1 .left) _ k _ _ (c .before .before .before .before .before .before .before .before .before .before .before .before .put-front .ensures) _ _ (c .before .before .before .before .before .before .before .before .opened .given .1) (c .before .before .before .before .before .if3 .taken)
+
+build-value-build-sparse-requires : (t : ℕ) → build-value-lts.Need-build-sparse-requires (build-value-claims t) (build-value-at t) build-value.Post
+build-value-build-sparse-requires t c κs =
+    (omega (arith, c .before .before .before .before .before .before .before .before .before .before .before .before .before .before .before .before .before .before .before .before .before .before .before .before .before .pre .0), (c .before .before .before .before .before .before .before .before .before .before .before .before .before .before .before .before .before .before .before .before .before .before .before .before .before .pre .1 .0, sym (c .before .before .before .before .before .before .before .before .before .before .before .before .before .before .before .before .before .kind-at .ensures .is) ∙ c .before .before .before .before .before .before .if3 .taken, c .before .before .before .before .put-given .ensures .small, c .before .before .before .before .before .before .before .before .before .before .before .before .before .before .before .before .before .before .before .before .before .before .before .before .before .pre .1 .5, c .before .before .before .before .put-given .ensures .new (c .before .if4 .left) .counted))
+
+build-value-same-length-4 : (t : ℕ) → build-value-lts.Need-same-length-4 (build-value-claims t) (build-value-at t) build-value.Post
+build-value-same-length-4 t c =
+    c .before .before .build-sparse .kept .1 .1 .1 .1 .1 .1 .0 ∙ c .before .before .before .before .before .before .before .put-given .kept .1 .1 .1 .1 .1 .1 .0 ∙ c .before .before .before .before .before .before .before .before .before .before .before .before .before .before .before .before .put-front .kept .1 .1 .1 .1 .1 .0
+
+build-value-returns-5 : (t : ℕ) → build-value-lts.Need-returns-5 (build-value-claims t) (build-value-at t) build-value.Post
+build-value-returns-5 t c =
+    let k = inner-kind _ _ _ (c .before .before .before .before .before .before .before .before .before .before .before .before .before .before .before .before .before .before .before .before .kind-at .ensures) (sym (c .before .before .before .before .before .before .before .before .before .before .before .before .before .before .before .before .before .before .before .is-leaf .ensures) ∙ c .before .before .before .before .before .before .before .before .before .before .before .before .before .before .before .before .before .before .if2 .left) in c .before .before .build-sparse .ensures ∙ sym (c .before .before .before .before .before .before .before .put-given .ensures .new (c .before .before .before .before .if4 .left) .leads) ∙ value-sparse _ _ _ (c .before .before .before .before .before .before .before .before .before .before .before .before .before .before .before .before .before .before .before .before .before .before .before .before .before .before .before .before .pre .1 .0) _ _ _ (c .before .before .before .before .before .before .before .before .before .before .before .before .before .before .before .before .before .before .before .before .before .before .before .before .before .before .before .before .pre .1 .1) (c .before .before .before .before .before .before .before .before .before .before .before .before .before .before .before .before .before .before .before .before .before .before .before .before .before .before .before .before .pre .1 .2) _ _ (c .before .before .before .before .before .before .before .before .before .before .before .before .before .before .before .before .before .before .before .before .before .if1 .left) _ k _ _ (c .before .before .before .before .before .before .before .before .before .before .before .before .before .before .before .before .put-front .ensures) _ _ (c .before .before .before .before .before .before .before .before .before .before .before .before .opened .given .1) (c .before .before .before .before .before .before .before .before .before .if3 .taken)
 
 build-value-build-row-requires : (t : ℕ) → build-value-lts.Need-build-row-requires (build-value-claims t) (build-value-at t) build-value.Post
 build-value-build-row-requires t c κs =
     let k = inner-kind _ _ _ (c .before .before .before .before .before .before .before .before .before .before .before .before .kind-at .ensures) (sym (c .before .before .before .before .before .before .before .before .before .before .before .is-leaf .ensures) ∙ c .before .before .before .before .before .before .before .before .before .before .if2 .left) in (omega (arith, c .before .before .before .before .before .before .before .before .before .before .before .before .before .before .before .before .before .before .before .before .pre .0), (c .before .before .before .before .before .before .before .before .before .before .before .before .before .before .before .before .before .before .before .before .pre .1 .0, opened-holds _ _ _ (c .before .before .before .before .before .before .before .before .before .before .before .before .before .before .before .before .before .before .before .before .pre .1 .0) _ _ _ (c .before .before .before .before .before .before .before .before .before .before .before .before .before .before .before .before .before .before .before .before .pre .1 .1) (c .before .before .before .before .before .before .before .before .before .before .before .before .before .before .before .before .before .before .before .before .pre .1 .2) _ _ (c .before .before .before .before .before .before .before .before .before .before .before .before .before .if1 .left) _ k _ _ (c .before .before .before .before .before .before .before .before .put-front .ensures) _ _ (c .before .before .before .before .opened .given .1) (c .before .if3 .left), omega (arith, opened-first _ _ _ (c .before .before .before .before .before .before .before .before .before .before .before .before .before .before .before .before .before .before .before .before .pre .1 .0) _ _ _ (c .before .before .before .before .before .before .before .before .before .before .before .before .before .before .before .before .before .before .before .before .pre .1 .1) (c .before .before .before .before .before .before .before .before .before .before .before .before .before .before .before .before .before .before .before .before .pre .1 .2) _ _ (c .before .before .before .before .before .before .before .before .before .before .before .before .before .if1 .left) _ k _ _ (c .before .before .before .before .before .before .before .before .put-front .ensures) _ _ (c .before .before .before .before .opened .given .1) (c .before .if3 .left), c .before .before .struct-known2 .given), opened-small _ _ _ (c .before .before .before .before .before .before .before .before .before .before .before .before .before .before .before .before .before .before .before .before .pre .1 .0) _ _ _ (c .before .before .before .before .before .before .before .before .before .before .before .before .before .before .before .before .before .before .before .before .pre .1 .1) (c .before .before .before .before .before .before .before .before .before .before .before .before .before .before .before .before .before .before .before .before .pre .1 .2) _ _ (c .before .before .before .before .before .before .before .before .before .before .before .before .before .if1 .left) _ k _ _ (c .before .before .before .before .before .before .before .before .put-front .ensures) _ _ (c .before .before .before .before .opened .given .1), c .before .before .before .before .before .before .before .before .before .before .before .before .before .before .before .before .before .before .before .before .pre .1 .5))
 
-build-value-same-length-4 : (t : ℕ) → build-value-lts.Need-same-length-4 (build-value-claims t) (build-value-at t) build-value.Post
-build-value-same-length-4 t c =
+build-value-same-length-5 : (t : ℕ) → build-value-lts.Need-same-length-5 (build-value-claims t) (build-value-at t) build-value.Post
+build-value-same-length-5 t c =
     c .before .before .build-row .kept .1 .1 .1 .1 .1 .1 .1 .1 .0 ∙ c .before .before .before .before .before .before .before .before .before .before .before .put-front .kept .1 .1 .1 .1 .1 .0
 
-build-value-returns-5 : (t : ℕ) → build-value-lts.Need-returns-5 (build-value-claims t) (build-value-at t) build-value.Post
-build-value-returns-5 t c =
+build-value-returns-6 : (t : ℕ) → build-value-lts.Need-returns-6 (build-value-claims t) (build-value-at t) build-value.Post
+build-value-returns-6 t c =
     let k = inner-kind _ _ _ (c .before .before .before .before .before .before .before .before .before .before .before .before .before .before .before .kind-at .ensures) (sym (c .before .before .before .before .before .before .before .before .before .before .before .before .before .before .is-leaf .ensures) ∙ c .before .before .before .before .before .before .before .before .before .before .before .before .before .if2 .left) in c .before .before .build-row .ensures ∙ value-row _ _ _ (c .before .before .before .before .before .before .before .before .before .before .before .before .before .before .before .before .before .before .before .before .before .before .before .pre .1 .0) _ _ _ (c .before .before .before .before .before .before .before .before .before .before .before .before .before .before .before .before .before .before .before .before .before .before .before .pre .1 .1) (c .before .before .before .before .before .before .before .before .before .before .before .before .before .before .before .before .before .before .before .before .before .before .before .pre .1 .2) _ _ (c .before .before .before .before .before .before .before .before .before .before .before .before .before .before .before .before .if1 .left) _ k _ _ (c .before .before .before .before .before .before .before .before .before .before .before .put-front .ensures) _ _ (c .before .before .before .before .before .before .before .opened .given .1) (c .before .before .before .before .if3 .left)
 
 pub +build-member+build-row+build-sparse+build-value-spec : {M : Type 1} → statement M
@@ -617,9 +626,11 @@ pub +build-member+build-row+build-sparse+build-value-spec : {M : Type 1} → sta
     (build-value-returns-3 t)
     (build-value-cast-count t)
     (build-value-put-given-requires t)
-    (build-value-build-sparse-requires t)
     (build-value-same-length-3 t)
     (build-value-returns-4 t)
-    (build-value-build-row-requires t)
+    (build-value-build-sparse-requires t)
     (build-value-same-length-4 t)
     (build-value-returns-5 t)
+    (build-value-build-row-requires t)
+    (build-value-same-length-5 t)
+    (build-value-returns-6 t)

@@ -1,38 +1,42 @@
--- `supply::leaf::put_given` meets its contract: what is left leads to the same place, with the indexes so far marked and counted. Where the
--- loop ends at an element that is no leaf, nothing of it was put out. Assumes nothing.
 use mathlib.Core.Path.{_≡_, refl, ap, sym, _∙_}
 use mathlib.Core.Logic.{⊎-elim}
 use native.Mathlib.Omega.{arith}
-use lib.ListN.{length, drop}
-use Rattle.rules.specs.Values.{noMarks}
+use Prim.Native.Nat.{ℕ, _-_, _≤_}
+use lib.ListN.{length, drop, replicate, length-replicate, length-take}
 use Rattle.plan.proofs.Looks.{cards-length}
-use Rattle.plan.proofs.Nodes.{at-few}
-use Rattle.value.proofs.Counted.{counted-none, counted-few}
 use Rattle.value.proofs.Members.{sparse-holds}
-use Rattle.supply.specs.Emitting.{Gathers}
 use Rattle.supply.proofs.Entries.{known-is, entry-at, entry-inside}
-use Rattle.supply.proofs.Elements.{gathers-start, gathers-next}
+use Rattle.supply.proofs.Elements.{Gathering, gathering-start, gathering-next, gathering-end}
 use borrow.Author.Needs.{needs}
 use Rattle.supply.proofs.leaf.put_given.Statement.{statement}
 use Rattle.supply.proofs.leaf.put_given.Tie as tie
+use Rattle.supply.proofs.leaf.put_given.Reads as reads
+use Rattle.supply.proofs.leaf.put_given.Lts as lts
+use Rattle.heads.proofs.sparse.Seen.mark_all.Reads as mark-all-reads
+use Rattle.heads.proofs.sparse.Seen.new.Reads as new-reads
+use Rattle.plan.proofs.node.second_at.Reads as second-at-reads
+use Rattle.supply.proofs.leaf.put_leaf.Reads as put-leaf-reads
+use Rattle.supply.proofs.list.known_entry.Reads as known-entry-reads
+use Rattle.value.proofs.node.count_given.Reads as count-given-reads
+use Rattle.wire.proofs.copy.least.Reads as least-reads
 
 abbrev Inv-loop : tie.InvT-loop
-Inv-loop plan node src list count word₀ out₀ at₀ n seen₀ given₀ left₀ word out at seen given left =
-    (length out ≡ length out₀) × Gathers src plan node count noMarks (drop word₀ list) at₀ out₀ (seen .marks) given left (drop word list) at out
+Inv-loop plan node src list count word₀ out₀ at₀ known most indexes₀ n₀ given₀ word out at indexes n given =
+    (n ≤ most) × Gathering src plan node count (drop word₀ list) at₀ out₀ indexes n given (drop word list) at out
 
 abbrev μ-loop : tie.MeasureT-loop
-μ-loop plan node src list count word₀ out₀ at₀ n seen₀ given₀ left₀ word out at seen given left = left
+μ-loop plan node src list count word₀ out₀ at₀ known most indexes₀ n₀ given₀ word out at indexes n given = most - n
 
 second-at-requires : tie.Need-second-at-requires Inv-loop μ-loop
 second-at-requires c κs =
     (c .before .before .before .before .pre .0, λ e. omega (arith, e, c .before .before .before .before .pre .1))
 
-new-requires : tie.Need-new-requires Inv-loop μ-loop
-new-requires c κs = search needs
+least-requires : tie.Need-least-requires Inv-loop μ-loop
+least-requires c κs = search needs
 
 loop-holds : tie.Need-loop-holds Inv-loop μ-loop
 loop-holds c =
-    (refl, rw (c .new .ensures) (gathers-start _ _ _ _ _ _ _ _ 0 (c .before .before .before .before .before .before .pre .2) (counted-none _ _ _ refl)))
+    let z : ℕ = 0 in (omega arith, gathering-start _ _ _ _ _ _ _ (replicate 512 z) (length-replicate 512 z) (c .before .before .before .before .before .before .pre .2))
 
 known-entry-requires : tie.Need-known-entry-requires Inv-loop μ-loop
 known-entry-requires c κs = search needs
@@ -43,31 +47,39 @@ enum-known-entry c = search needs
 enum-told : tie.Need-enum-told Inv-loop μ-loop
 enum-told c = search needs
 
-cast-i : tie.Need-cast-i Inv-loop μ-loop
-cast-i c = search needs
-
-element-copy-out-if1 : tie.Need-element-copy-out-if1 Inv-loop μ-loop
-element-copy-out-if1 c =
-    let k = known-is _ _ _ _ (c .before .before .before .before .known-entry .ensures) (c .before .before .entry .given .1) in omega (arith, k .1, c .before .before .before .before .before .before .before .before .second-at .ensures, at-few _ _ (c .before .before .before .before .before .before .before .before .before .before .before .before .before .pre .0) (omega (arith, c .before .before .before .before .before .before .before .before .before .before .before .before .before .pre .1)) (omega (arith, c .before .before .before .before .before .before .before .before .before .before .before .before .before .pre .1)))
-
 put-leaf-requires : tie.Need-put-leaf-requires Inv-loop μ-loop
 put-leaf-requires c κs =
-    let k = known-is _ _ _ _ (c .before .before .before .before .before .before .before .known-entry .ensures) (c .before .before .before .before .before .entry .given .1) in (c .before .before .before .before .before .before .before .before .before .before .before .before .before .before .before .before .pre .0, record { is = sym (c .before .before .before .before .before .before .before .before .before .before .before .before .before .before .before .before .pre .1); low = omega arith; high = omega arith }, sparse-holds _ _ (c .before .before .before .before .before .before .before .before .before .before .before .before .before .before .before .before .pre .0) (c .before .before .before .before .before .before .before .before .before .before .before .before .before .before .before .before .pre .1) _ (omega (arith, k .1, c .before .before .before .before .before .before .before .before .before .before .before .second-at .ensures, cards-length (c .before .before .before .before .before .before .before .before .before .before .before .before .before .before .before .before .args .plan .now) (c .before .before .before .before .before .before .before .before .before .before .before .before .before .before .before .before .args .node))), c .before .before .before .before .before .before .before .before .before .loop .inv .1 .small)
+    let k = known-is _ _ _ _ (c .before .before .before .before .known-entry .ensures) (c .before .before .entry .given .1) in
+    (c .before .before .before .before .before .before .before .before .before .before .before .before .before .pre .0, record { is = sym (c .before .before .before .before .before .before .before .before .before .before .before .before .before .pre .1); low = omega arith; high = omega arith }, sparse-holds _ _ (c .before .before .before .before .before .before .before .before .before .before .before .before .before .pre .0) (c .before .before .before .before .before .before .before .before .before .before .before .before .before .pre .1) _ (omega (arith, k .1, c .before .before .before .before .before .before .before .before .second-at .ensures, cards-length (c .before .before .before .before .before .before .before .before .before .before .before .before .before .args .plan .now) (c .before .before .before .before .before .before .before .before .before .before .before .before .before .args .node))), c .before .before .before .before .before .before .loop .inv .1 .4 .small)
 
-element-write-seen : tie.Need-element-write-seen Inv-loop μ-loop
-element-write-seen c =
-    let k = known-is _ _ _ _ (c .before .before .before .before .before .before .before .before .before .before .before .known-entry .ensures) (c .before .before .before .before .before .before .before .before .before .entry .given .1) in omega (arith, k .1, c .before .before .before .before .before .before .before .before .before .before .before .before .before .before .before .second-at .ensures, at-few _ _ (c .before .before .before .before .before .before .before .before .before .before .before .before .before .before .before .before .before .before .before .before .pre .0) (omega (arith, c .before .before .before .before .before .before .before .before .before .before .before .before .before .before .before .before .before .before .before .before .pre .1)) (omega (arith, c .before .before .before .before .before .before .before .before .before .before .before .before .before .before .before .before .before .before .before .before .pre .1)))
+enum-known-leaf : tie.Need-enum-known-leaf Inv-loop μ-loop
+enum-known-leaf c = search needs
+
+enum-told-2 : tie.Need-enum-told-2 Inv-loop μ-loop
+enum-told-2 c = search needs
+
+mul-indexes : tie.Need-mul-indexes Inv-loop μ-loop
+mul-indexes c = search needs
+
+array-write-indexes : tie.Need-array-write-indexes Inv-loop μ-loop
+array-write-indexes c =
+    omega (arith, c .before .before .before .before .before .before .before .before .before .before .before .loop-test .taken, c .before .before .before .before .before .before .before .before .before .before .before .before .before .least .ensures)
+
+add-n : tie.Need-add-n Inv-loop μ-loop
+add-n c = search needs
+
+cast-count-given : tie.Need-cast-count-given Inv-loop μ-loop
+cast-count-given c = search needs
 
 count-given-requires : tie.Need-count-given-requires Inv-loop μ-loop
 count-given-requires c κs =
-    let k = known-is _ _ _ _ (c .before .before .before .before .before .before .before .before .before .before .before .known-entry .ensures) (c .before .before .before .before .before .before .before .before .before .entry .given .1) in (c .before .before .before .before .before .before .before .before .before .before .before .before .before .before .before .before .before .before .before .before .pre .0, c .before .before .before .before .before .before .before .before .before .before .before .before .before .before .before .before .before .before .before .before .pre .1, omega (arith, k .1, c .before .before .before .before .before .before .before .before .before .before .before .before .before .before .before .second-at .ensures), counted-few _ _ _ _ (c .before .before .before .before .before .before .before .before .before .before .before .before .before .loop .inv .1 .counted) (c .before .before .before .before .before .before .before .before .before .before .before .before .before .before .before .before .before .before .before .before .pre .0) (c .before .before .before .before .before .before .before .before .before .before .before .before .before .before .before .before .before .before .before .before .pre .1))
+    let k = known-is _ _ _ _ (c .before .before .before .before .before .before .before .before .before .before .before .known-entry .ensures) (c .before .before .before .before .before .before .before .before .before .entry .given .1) in
+    (c .before .before .before .before .before .before .before .before .before .before .before .before .before .before .before .before .before .before .before .before .pre .0, c .before .before .before .before .before .before .before .before .before .before .before .before .before .before .before .before .before .before .before .before .pre .1, omega (arith, k .1, c .before .before .before .before .before .before .before .before .before .before .before .before .before .before .before .second-at .ensures), omega (arith, c .before .before .before .before .before .before .before .before .before .before .before .before .before .loop .inv .1 .3, c .before .before .before .before .before .before .before .before .before .before .before .before .loop-test .taken, c .before .before .before .before .before .before .before .before .before .before .before .before .before .before .least .ensures))
 
 add-word : tie.Need-add-word Inv-loop μ-loop
 add-word c =
-    let k = known-is _ _ _ _ (c .before .before .before .before .before .before .before .before .before .before .before .before .known-entry .ensures) (c .before .before .before .before .before .before .before .before .before .before .entry .given .1) in omega (arith, entry-inside (c .before .before .before .before .before .before .before .before .before .before .before .before .before .before .before .before .before .before .before .before .before .args .list .now) (c .before .before .before .before .before .before .before .before .before .before .before .before .before .before .loop .word) _ (k .0) _ (c .before .before .before .before .before .before .before .before .before .before .entry .given .1), c .before .before .before .before .before .before .before .before .before .before .before .before .before .before .before .before .before .before .before .before .before .good)
-
-sub-left : tie.Need-sub-left Inv-loop μ-loop
-sub-left c = search needs
+    let k = known-is _ _ _ _ (c .before .before .before .before .before .before .before .before .before .before .before .before .known-entry .ensures) (c .before .before .before .before .before .before .before .before .before .before .entry .given .1) in
+    omega (arith, entry-inside (c .before .before .before .before .before .before .before .before .before .before .before .before .before .before .before .before .before .before .before .before .before .args .list .now) (c .before .before .before .before .before .before .before .before .before .before .before .before .before .before .loop .word) _ (k .0) _ (c .before .before .before .before .before .before .before .before .before .before .entry .given .1), c .before .before .before .before .before .before .before .before .before .before .before .before .before .before .before .before .before .before .before .before .before .good)
 
 loop-less : tie.Need-loop-less Inv-loop μ-loop
 loop-less c =
@@ -75,18 +87,34 @@ loop-less c =
 
 loop-again : tie.Need-loop-again Inv-loop μ-loop
 loop-again c =
-    let k = known-is _ _ _ _ (c .before .before .before .before .before .before .before .before .before .before .before .before .known-entry .ensures) (c .before .before .before .before .before .before .before .before .before .before .entry .given .1) in let e = entry-at (c .before .before .before .before .before .before .before .before .before .before .before .before .before .before .before .before .before .before .before .before .before .args .list .now) (c .before .before .before .before .before .before .before .before .before .before .before .before .before .before .loop .word) _ (k .0) _ (c .before .before .before .before .before .before .before .before .before .before .entry .given .1) in (c .before .before .before .before .put-leaf .kept .1 .1 .1 .1 .1 .0 ∙ c .before .before .before .before .before .before .before .before .before .before .before .before .before .before .loop .inv .0, gathers-next _ _ _ _ _ _ _ _ _ _ _ _ _ _ (c .before .before .before .before .before .before .before .before .before .before .before .before .before .before .loop .inv .1) (c .before .before .before .before .before .before .before .before .before .before .before .before .before .loop-test .taken) (c .before .before .before .before .before .before .before .before .before .before .before .before .before .before .before .before .before .before .before .before .before .pre .0) (c .before .before .before .before .before .before .before .before .before .before .before .before .before .before .before .before .before .before .before .before .before .pre .1) _ _ e (omega (arith, k .1, c .before .before .before .before .before .before .before .before .before .before .before .before .before .before .before .before .second-at .ensures)) (c .before .before .before .before .before .before .if1 .left) _ _ _ (c .before .before .before .before .put-leaf .ensures .1 (omega (arith, c .before .if2 .left)) _ _ e) _ refl _ (c .count-given .ensures) _ refl)
+    let k = known-is _ _ _ _ (c .before .before .before .before .before .before .before .before .before .before .before .before .known-entry .ensures) (c .before .before .before .before .before .before .before .before .before .before .entry .given .1) in
+    let e = entry-at (c .before .before .before .before .before .before .before .before .before .before .before .before .before .before .before .before .before .before .before .before .before .args .list .now) (c .before .before .before .before .before .before .before .before .before .before .before .before .before .before .loop .word) _ (k .0) _ (c .before .before .before .before .before .before .before .before .before .before .entry .given .1) in
+    let t = c .before .before .before .before .before .before .before .before .before .before .before .before .before .loop-test .taken in
+    (omega arith, gathering-next _ _ _ _ _ _ _ _ _ _ _ _ _ (c .before .before .before .before .before .before .before .before .before .before .before .before .before .before .loop .inv .1) (omega (arith, c .before .before .before .before .before .before .before .before .before .before .before .before .before .before .before .least .ensures)) (omega (arith, c .before .before .before .before .before .before .before .before .before .before .before .before .before .before .before .least .ensures)) (c .before .before .before .before .before .before .before .before .before .before .before .before .before .before .before .before .before .before .before .before .before .pre .0) (c .before .before .before .before .before .before .before .before .before .before .before .before .before .before .before .before .before .before .before .before .before .pre .1) _ _ e (omega (arith, k .1, c .before .before .before .before .before .before .before .before .before .before .before .before .before .before .before .before .second-at .ensures)) _ _ _ (c .before .before .before .before .before .before .before .put-leaf .ensures .put _ (c .before .before .before .leaf .given .1) _ _ e) (c .before .before .before .before .before .before .before .put-leaf .kept .1 .1 .1 .1 .1 .0) _ (c .count-given .ensures))
 
-gather-requires : tie.Need-gather-requires Inv-loop μ-loop
-gather-requires c κs = search needs
+new-requires : tie.Need-new-requires Inv-loop μ-loop
+new-requires c κs = search needs
+
+array-share-prefix-indexes : tie.Need-array-share-prefix-indexes Inv-loop μ-loop
+array-share-prefix-indexes c = search needs
+
+slice-aggregate-mark-all : tie.Need-slice-aggregate-mark-all Inv-loop μ-loop
+slice-aggregate-mark-all c =
+    sym (length-take (c .before .before .before .loop .n) (c .before .before .before .loop .indexes) ∙ omega (arith, c .before .before .before .loop .inv .0, c .before .before .before .before .least .ensures, c .before .before .before .loop .inv .1 .1))
+
+mark-all-requires : tie.Need-mark-all-requires Inv-loop μ-loop
+mark-all-requires c κs = search needs
+
+sub-t28 : tie.Need-sub-t28 Inv-loop μ-loop
+sub-t28 c = search needs
 
 same-length : tie.Need-same-length Inv-loop μ-loop
 same-length c =
-    ap length (⊎-elim (λ w. w .1) (⊎-elim (λ w. w .4) (⊎-elim (λ w. w .8) (λ w. w .13 ∙ w .9 .ensures .0 (w .12 .taken)))) (c .before .loop-test .came)) ∙ c .before .before .loop .inv .0
+    ap length (⊎-elim (λ w. w .1) (⊎-elim (λ w. w .4) (λ w. w .11 ∙ w .6 .ensures .kept (w .10 .given .1))) (c .before .before .before .loop-test .came)) ∙ c .before .before .before .before .loop .inv .1 .0
 
 returns : tie.Need-returns Inv-loop μ-loop
 returns c =
-    let e = c .gather .ensures in let o : c .before .loop-test .out ≡ c .before .before .loop .out = ⊎-elim (λ w. w .1) (⊎-elim (λ w. w .4) (⊎-elim (λ w. w .8) (λ w. w .13 ∙ w .9 .ensures .0 (w .12 .taken)))) (c .before .loop-test .came) in rw (o, e .0, e .1, e .2, e .3, e .4) (c .before .before .loop .inv .1)
+    let o : c .before .before .before .loop-test .out ≡ c .before .before .before .before .loop .out = ⊎-elim (λ w. w .1) (⊎-elim (λ w. w .4) (λ w. w .11 ∙ w .6 .ensures .kept (w .10 .given .1))) (c .before .before .before .loop-test .came) in rw o (gathering-end _ _ _ _ _ _ _ _ _ _ _ _ _ (c .before .before .before .before .loop .inv .1) _ (c .before .before .new .ensures .0) _ refl _ (c .mark-all .ensures .1) _ (c .mark-all .ensures .0))
 
 pub put-given-spec : {M : Type 1} → statement M
 put-given-spec =
@@ -95,20 +123,26 @@ put-given-spec =
     Inv-loop
     μ-loop
     second-at-requires
-    new-requires
+    least-requires
     loop-holds
     known-entry-requires
     enum-known-entry
     enum-told
-    cast-i
-    element-copy-out-if1
     put-leaf-requires
-    element-write-seen
+    enum-known-leaf
+    enum-told-2
+    mul-indexes
+    array-write-indexes
+    add-n
+    cast-count-given
     count-given-requires
     add-word
-    sub-left
     loop-less
     loop-again
-    gather-requires
+    new-requires
+    array-share-prefix-indexes
+    slice-aggregate-mark-all
+    mark-all-requires
+    sub-t28
     same-length
     returns)

@@ -1,12 +1,18 @@
--- `supply::leaf::put_leaf` meets its contract: nothing is put out before the last test. Assumes nothing.
-use mathlib.Core.Path.{refl}
 use native.Mathlib.Omega.{arith}
 use Rattle.plan.proofs.Nodes.{at-ref}
-use Rattle.supply.proofs.Heads.{size-some, size-few}
-use Rattle.supply.proofs.Leaves.{leaf-put}
+use Rattle.supply.proofs.Heads.{size-few}
+use Rattle.supply.proofs.Leaves.{put-stranger, put-above, put-large, put-outside, put-bad, put-good}
+use borrow.Author.Needs.{needs}
 use borrow.Author.Needs.{needs}
 use Rattle.supply.proofs.leaf.put_leaf.Statement.{statement}
 use Rattle.supply.proofs.leaf.put_leaf.Tie as tie
+use Rattle.supply.proofs.leaf.put_leaf.Reads as reads
+use Rattle.supply.proofs.leaf.put_leaf.Lts as lts
+use Rattle.plan.proofs.node.ref_of.Reads as ref-of-reads
+use Rattle.supply.proofs.head.head_size.Reads as head-size-reads
+use Rattle.supply.proofs.head.put_head.Reads as put-head-reads
+use Rattle.supply.proofs.leaf.leaf_fits.Reads as leaf-fits-reads
+use Rattle.wire.proofs.copy.put_bytes.Reads as put-bytes-reads
 
 cast-ref-of : tie.Need-cast-ref-of
 cast-ref-of c = search needs
@@ -18,10 +24,11 @@ cast-if1 : tie.Need-cast-if1
 cast-if1 c = search needs
 
 returns : tie.Need-returns
-returns c = (λ e. refl, λ h. absurd (omega arith))
+returns c = put-stranger _ _ _ _ _ _ (c .before .before .ref-of .ensures) _ _ (c .if1 .taken)
 
 returns-2 : tie.Need-returns-2
-returns-2 c = (λ e. refl, λ h. absurd (omega arith))
+returns-2 c =
+    put-above _ _ _ _ _ _ (c .before .before .before .before .ref-of .ensures) _ _ (c .before .before .if1 .left) (c .if2 .taken)
 
 cast-s : tie.Need-cast-s
 cast-s c = search needs
@@ -47,10 +54,12 @@ add-end c =
     omega (arith, c .head-size .ensures, size-few (c .before .before .before .before .before .before .before .before .before .before .before .before .args .kind), c .before .before .before .before .before .before .before .before .before .before .before .before .pre .3)
 
 returns-3 : tie.Need-returns-3
-returns-3 c = (λ e. refl, λ h. absurd (omega arith))
+returns-3 c =
+    put-large _ _ _ _ _ _ (c .before .before .before .before .before .before .before .before .ref-of .ensures) _ _ (c .before .before .before .before .before .before .if1 .left) (c .before .before .before .before .if2 .left) _ (c .before .head-size .ensures) (c .if3 .taken)
 
 returns-4 : tie.Need-returns-4
-returns-4 c = (λ e. refl, λ h. absurd (omega arith))
+returns-4 c =
+    put-outside _ _ _ _ _ _ (c .before .before .before .before .before .before .before .before .before .ref-of .ensures) _ _ (c .before .before .before .before .before .before .before .if1 .left) (c .before .before .before .before .before .if2 .left) _ (c .before .before .head-size .ensures) (c .before .if3 .left) (c .if4 .taken)
 
 leaf-fits-requires : tie.Need-leaf-fits-requires
 leaf-fits-requires c κs =
@@ -77,10 +86,11 @@ same-length c = search needs
 
 returns-5 : tie.Need-returns-5
 returns-5 c =
-    (λ q. absurd (omega (arith, c .before .before .before .before .before .before .before .before .before .before .before .before .before .head-size .ensures, size-some (c .before .before .before .before .before .before .before .before .before .before .before .before .before .before .before .before .before .before .before .before .before .before .before .before .before .args .kind))), λ h rest ws q. leaf-put _ _ _ _ (c .before .before .before .before .before .before .before .before .before .before .before .before .before .before .before .before .before .before .before .before .before .before .before .before .before .pre .1) _ _ (c .before .before .before .before .before .before .before .before .before .before .before .before .before .before .before .before .before .before .before .before .ref-of .ensures) (at-ref _ _ _ _ (c .before .before .before .before .before .before .before .before .before .before .before .before .before .before .before .before .before .before .before .before .before .before .before .before .before .pre .0) (c .before .before .before .before .before .before .before .before .before .before .before .before .before .before .before .before .before .before .before .before .ref-of .ensures) .0) (c .before .before .before .before .before .before .before .before .before .before .before .before .before .before .before .before .before .before .if1 .left) (c .before .before .before .before .before .before .before .before .before .before .before .before .before .before .before .before .if2 .left) _ _ _ (c .before .before .before .before .before .before .before .before .before .before .before .before .before .head-size .ensures) (c .before .before .before .before .before .before .before .before .before .before .before .before .if3 .left) (c .before .before .before .before .before .before .before .before .before .before .before .if4 .left) _ (c .before .before .before .before .before .before .before .before .before .before .leaf-fits .ensures) (c .before .before .before .before .before .before .before .before .before .if5 .taken) _ (c .before .before .before .before .before .before .put-bytes .ensures) _ (c .before .before .put-head .ensures) rest ws q)
+    put-good _ _ _ _ _ _ (c .before .before .before .before .before .before .before .before .before .before .before .before .before .before .before .before .before .before .before .before .ref-of .ensures) _ _ (c .before .before .before .before .before .before .before .before .before .before .before .before .before .before .before .before .before .before .if1 .left) (c .before .before .before .before .before .before .before .before .before .before .before .before .before .before .before .before .if2 .left) _ (c .before .before .before .before .before .before .before .before .before .before .before .before .before .head-size .ensures) (c .before .before .before .before .before .before .before .before .before .before .before .before .if3 .left) (c .before .before .before .before .before .before .before .before .before .before .before .if4 .left) _ (c .before .before .before .before .before .before .before .before .before .before .leaf-fits .ensures) (c .before .before .before .before .before .before .before .before .before .before .before .before .before .before .before .before .before .before .before .before .before .before .before .before .before .pre .1) (at-ref _ _ _ _ (c .before .before .before .before .before .before .before .before .before .before .before .before .before .before .before .before .before .before .before .before .before .before .before .before .before .pre .0) (c .before .before .before .before .before .before .before .before .before .before .before .before .before .before .before .before .before .before .before .before .ref-of .ensures) .0) (c .before .before .before .before .before .before .before .before .before .if5 .taken) _ (c .before .before .before .before .before .before .put-bytes .ensures) _ (c .before .before .put-head .ensures)
 
 returns-6 : tie.Need-returns-6
-returns-6 c = (λ e. refl, λ h. absurd (omega arith))
+returns-6 c =
+    put-bad _ _ _ _ _ _ (c .before .before .before .before .before .before .before .before .before .before .before .ref-of .ensures) _ _ (c .before .before .before .before .before .before .before .before .before .if1 .left) (c .before .before .before .before .before .before .before .if2 .left) _ (c .before .before .before .before .head-size .ensures) (c .before .before .before .if3 .left) (c .before .before .if4 .left) _ (c .before .leaf-fits .ensures) (c .if5 .left)
 
 pub put-leaf-spec : {M : Type 1} → statement M
 put-leaf-spec =

@@ -1,4 +1,3 @@
--- `supply::leaf::put_leaves` meets its contract: what is left of the row leads to the same place. Assumes nothing.
 use Rattle.supply.proofs.Leaves.{same-out}
 use mathlib.Core.Path.{_≡_, refl, ap, sym, _∙_}
 use mathlib.Core.Logic.{⊎-elim}
@@ -16,6 +15,10 @@ use Rattle.supply.proofs.Elements.{turn-go, some-left, one-fewer}
 use borrow.Author.Needs.{needs}
 use Rattle.supply.proofs.leaf.put_leaves.Statement.{statement}
 use Rattle.supply.proofs.leaf.put_leaves.Tie as tie
+use Rattle.supply.proofs.leaf.put_leaves.Reads as reads
+use Rattle.supply.proofs.leaf.put_leaves.Lts as lts
+use Rattle.supply.proofs.leaf.put_leaf.Reads as put-leaf-reads
+use Rattle.supply.proofs.list.next_entry.Reads as next-entry-reads
 
 abbrev Inv-loop : tie.InvT-loop
 Inv-loop plan node kind src list first end word₀ out₀ at₀ index₀ word out at index =
@@ -44,21 +47,29 @@ put-leaf-requires : tie.Need-put-leaf-requires Inv-loop μ-loop
 put-leaf-requires c κs =
     (c .before .before .before .before .before .before .before .before .before .before .before .before .before .pre .0, refers-inner _ _ _ (c .before .before .before .before .before .before .before .before .loop .index) (c .before .before .before .before .before .before .before .before .before .before .before .before .before .pre .1) (c .before .before .before .before .before .before .before .before .before .before .before .before .before .pre .2 (c .before .before .before .before .before .before .before .before .loop .index) (c .before .before .before .before .before .before .before .loop-test .taken)), c .before .before .before .before .before .before .before .before .before .before .before .before .before .pre .2 _ (omega (arith, c .before .if1 .left, c .before .before .before .before .before .before .before .loop-test .taken)), c .before .before .before .before .before .before .before .before .loop .inv .3)
 
+enum-known-leaf : tie.Need-enum-known-leaf Inv-loop μ-loop
+enum-known-leaf c = search needs
+
+enum-told-2 : tie.Need-enum-told-2 Inv-loop μ-loop
+enum-told-2 c = search needs
+
 add-word : tie.Need-add-word Inv-loop μ-loop
 add-word c =
-    omega (arith, entry-inside (c .before .before .before .before .before .before .before .before .before .before .before .before .before .before .before .before .before .args .list .now) (c .before .before .before .before .before .before .before .before .before .before .before .before .loop .word) _ (c .before .before .before .before .before .before .before .before .before .before .next-entry .ensures) _ (c .before .before .before .before .before .before .before .before .entry .given .1))
+    omega (arith, entry-inside (c .before .before .before .before .before .before .before .before .before .before .before .before .before .before .before .before .before .before .before .args .list .now) (c .before .before .before .before .before .before .before .before .before .before .before .before .before .before .loop .word) _ (c .before .before .before .before .before .before .before .before .before .before .before .before .next-entry .ensures) _ (c .before .before .before .before .before .before .before .before .before .before .entry .given .1), c .before .before .before .before .before .before .before .before .before .before .before .before .before .before .before .before .before .before .before .good)
 
 add-index : tie.Need-add-index Inv-loop μ-loop
 add-index c =
-    omega (arith, c .before .before .before .before .before .before .before .before .before .before .before .loop-test .taken, c .before .before .before .before .before .before .before .before .before .before .before .before .before .before .before .before .before .pre .4)
+    omega (arith, c .before .before .before .before .before .before .before .before .before .before .before .before .before .loop-test .taken, c .before .before .before .before .before .before .before .before .before .before .before .before .before .before .before .before .before .before .before .pre .4)
 
 loop-less : tie.Need-loop-less Inv-loop μ-loop
 loop-less c =
-    omega (arith, c .before .before .before .before .before .before .before .before .before .before .before .loop-test .taken)
+    omega (arith, c .before .before .before .before .before .before .before .before .before .before .before .before .before .loop-test .taken)
 
 loop-again : tie.Need-loop-again Inv-loop μ-loop
 loop-again c =
-    let e = entry-at (c .before .before .before .before .before .before .before .before .before .before .before .before .before .before .before .before .before .args .list .now) (c .before .before .before .before .before .before .before .before .before .before .before .before .loop .word) _ (c .before .before .before .before .before .before .before .before .before .before .next-entry .ensures) _ (c .before .before .before .before .before .before .before .before .entry .given .1) in let q = c .before .before .before .put-leaf .ensures .1 (omega (arith, c .if2 .left)) _ _ e in (c .before .before .before .put-leaf .kept .1 .1 .1 .1 .1 .0 ∙ c .before .before .before .before .before .before .before .before .before .before .before .before .loop .inv .0, omega (arith, c .before .before .before .before .before .before .before .before .before .before .before .before .loop .inv .1), omega (arith, c .before .before .before .before .before .before .before .before .before .before .before .loop-test .taken), stood _ _ _ _ _ _ q .small, c .before .before .before .before .before .before .before .before .before .before .before .before .loop .inv .4 ∙ turn-go rowOrder _ _ (c .before .before .before .before .before .before .before .before .before .before .before .before .loop .index) _ _ _ _ (some-left _ _ (c .before .before .before .before .before .before .before .before .before .before .before .loop-test .taken)) _ _ e (eq-eqb _ _ (sym (c .before .before .before .before .before .if1 .left))) _ _ _ q _ refl _ (one-fewer _ _))
+    let e = entry-at (c .before .before .before .before .before .before .before .before .before .before .before .before .before .before .before .before .before .before .before .args .list .now) (c .before .before .before .before .before .before .before .before .before .before .before .before .before .before .loop .word) _ (c .before .before .before .before .before .before .before .before .before .before .before .before .next-entry .ensures) _ (c .before .before .before .before .before .before .before .before .before .before .entry .given .1) in
+    let q = c .before .before .before .before .before .put-leaf .ensures .put _ (c .before .leaf .given .1) _ _ e in
+    (c .before .before .before .before .before .put-leaf .kept .1 .1 .1 .1 .1 .0 ∙ c .before .before .before .before .before .before .before .before .before .before .before .before .before .before .loop .inv .0, omega (arith, c .before .before .before .before .before .before .before .before .before .before .before .before .before .before .loop .inv .1), omega (arith, c .before .before .before .before .before .before .before .before .before .before .before .before .before .loop-test .taken), stood _ _ _ _ _ _ q .small, c .before .before .before .before .before .before .before .before .before .before .before .before .before .before .loop .inv .4 ∙ turn-go rowOrder _ _ (c .before .before .before .before .before .before .before .before .before .before .before .before .before .before .loop .index) _ _ _ _ (some-left _ _ (c .before .before .before .before .before .before .before .before .before .before .before .before .before .loop-test .taken)) _ _ e (eq-eqb _ _ (sym (c .before .before .before .before .before .before .before .if1 .left))) _ _ _ q _ refl _ (one-fewer _ _))
 
 same-length : tie.Need-same-length Inv-loop μ-loop
 same-length c = search needs
@@ -83,7 +94,7 @@ same-length-4 c = search needs
 
 returns-4 : tie.Need-returns-4 Inv-loop μ-loop
 returns-4 c =
-    (c .before .before .before .before .before .before .before .before .before .before .before .before .loop .inv .1, c .before .before .before .before .before .before .before .before .before .before .before .before .loop .inv .2, c .before .before .before .before .before .before .before .before .before .before .before .before .loop .inv .3, same-out _ _ _ _ _ (c .before .before .before .before .before .before .before .before .before .before .before .before .loop .inv .4) (c .before .before .before .put-leaf .ensures .0 (c .if2 .taken)))
+    (c .before .before .before .before .before .before .before .before .before .before .before .before .before .loop .inv .1, c .before .before .before .before .before .before .before .before .before .before .before .before .before .loop .inv .2, c .before .before .before .before .before .before .before .before .before .before .before .before .before .loop .inv .3, same-out _ _ _ _ _ (c .before .before .before .before .before .before .before .before .before .before .before .before .before .loop .inv .4) (c .before .before .before .before .put-leaf .ensures .kept (c .enum-told2 .given .1)))
 
 pub put-leaves-spec : {M : Type 1} → statement M
 put-leaves-spec =
@@ -97,6 +108,8 @@ put-leaves-spec =
     enum-told
     cast-if1
     put-leaf-requires
+    enum-known-leaf
+    enum-told-2
     add-word
     add-index
     loop-less
