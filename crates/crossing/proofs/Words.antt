@@ -1,19 +1,19 @@
 -- The laws of words that cross as bytes. Assumes nothing.
-use mathlib.Core.Path.{_≡_, refl, ap, sym, _∙_}
+use mathlib.Core.Path.{_≡_, refl, ap, ap₂, sym, _∙_}
 use mathlib.Core.List.{List, [], _∷_, _++_, append-nil, append-assoc}
-use Prim.Native.Nat.{ℕ, suc, _+_, _*_, _-_, _/_, _%_, _<_, _≤_}
+use Prim.Native.Nat.{ℕ, suc, _+_, _*_, _-_, _/_, _%_, _^_, _<_, _≤_}
 use mathlib.Core.Bool.{Bool, true, false}
 use native.Mathlib.Omega.{arith}
 use native.Mathlib.Numerals.{add-one}
 use lib.Dec.{leb, ltb, eqb}
 use lib.ListN.{length, take, drop, getD, set, length-take, length-drop, length-append, drop-of-length-le}
 use lib.Seq.{sets, sets-eq, length-sets, drop-cons, drop-drop, take-all, take-at, drop-at}
-use borrow.Author.Tests.{le-leb, lt-leb, leb-true, leb-false, lt-ltb, le-ltb, ltb-false}
+use borrow.Author.Tests.{eq-eqb, le-leb, lt-leb, leb-true, leb-false, lt-ltb, le-ltb, ltb-false}
 use borrow.Rule.Slice.PartMut.{putMid}
 use Rattle.wire.specs.Choice.{pick}
 use Rattle.wire.specs.Be.{be, bytesBe}
-use Rattle.wire.proofs.Numbers.{length-bytes}
-use Rattle.wire.proofs.Picks.{pick-case, both}
+use Rattle.wire.proofs.Numbers.{be-bytes, length-bytes}
+use Rattle.wire.proofs.Picks.{pick-case, pick-yes, both}
 use Rattle.wire.proofs.Stores.{sets-append}
 use Rattle.crossing.specs.Crossing.{wordsIn, bytesOut, crosses, wordRoom}
 use Rattle.crossing.specs.Answers.{refusal, success, WordsOut}
@@ -125,6 +125,17 @@ unfolding bytesOut
 length-out [] = refl
 length-out (w ∷ ws) = omega (arith, length-append (bytesBe 4 w) (bytesOut ws), length-bytes 4 w, length-out ws)
 
+-- words cross and come back
+pub words-back : (ws : List ℕ) → ((j : ℕ) → getD ws j 0 < 2 ^ 32) → wordsIn (bytesOut ws) ≡ ws
+unfolding wordsIn bytesOut
+words-back [] h = refl
+words-back (w ∷ ws) h =
+    let n : length (bytesBe 4 w) ≡ 4 = length-bytes 4 w in
+    let l : 4 ≤ length (bytesBe 4 w ++ bytesOut ws) = omega (arith, length-append (bytesBe 4 w) (bytesOut ws)) in
+    words-next (bytesBe 4 w ++ bytesOut ws) l
+    ∙ ap₂ (λ (a b : List ℕ). be a ∷ wordsIn b) (take-at (bytesBe 4 w) (bytesOut ws) 4 n) (drop-at (bytesBe 4 w) (bytesOut ws) 4 n)
+    ∙ ap₂ (λ (a : ℕ) (b : List ℕ). a ∷ b) (be-bytes 4 w (h 0)) (words-back ws (λ j. h (suc j)))
+
 module _ (words out : List ℕ) (i : ℕ) where
   pub put-next : i < length words → (out′ : List ℕ) → out′ ≡ sets out (4 * i) (bytesBe 4 (getD words i 0))
       → sets out (4 * i) (bytesOut (drop i words)) ≡ sets out′ (4 * (i + 1)) (bytesOut (drop (i + 1) words))
@@ -150,6 +161,13 @@ room-most n = pick-case (λ k. (k ≤ 8192) × (4 * k ≤ n)) (leb n 32768) (n /
 pub crosses-most : (n : ℕ) → crosses n ≡ true → n ≤ 32768
 unfolding crosses
 crosses-most n e = leb-true n 32768 (both (eqb (n % 4) 0) (leb n 32768) e .1)
+
+-- and up to 8,192 words cross
+pub crosses-words : (n : ℕ) → n ≤ 8192 → crosses (4 * n) ≡ true
+unfolding crosses
+crosses-words n h =
+    let m : 4 * n % 4 ≡ 0 = omega arith in
+    pick-yes _ _ _ (eq-eqb _ _ m) ∙ le-leb (4 * n) 32768 (omega arith)
 
 -- the words that were filled in are the words
 pub filled-words : (words words′ ws : List ℕ) (n : ℕ) → words′ ≡ sets words 0 ws → n ≡ length ws → n ≤ length words → take n words′ ≡ ws

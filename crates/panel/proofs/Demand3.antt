@@ -1,15 +1,11 @@
 -- Demand 3 as the C host meets it: the bytes that compiling wrote are a plan that runs, with no descriptor, as the rules read off the
 -- descriptor do. Assumes nothing.
-use mathlib.Core.Path.{_≡_, refl, ap, ap₂, sym, _∙_}
-use mathlib.Core.Bool.{true}
-use mathlib.Core.List.{List, [], _∷_, _++_}
-use Prim.Native.Nat.{ℕ, zero, suc, _+_, _*_, _%_, _^_, _<_, _≤_}
+use mathlib.Core.Path.{_≡_, refl, ap, _∙_}
+use mathlib.Core.List.{List, [], _∷_}
+use Prim.Native.Nat.{ℕ, zero, suc, _*_, _^_, _<_, _≤_}
 use native.Mathlib.Omega.{arith}
-use lib.ListN.{length, getD, take, drop, length-append}
-use lib.Seq.{take-at, drop-at}
-use borrow.Author.Tests.{eq-eqb, le-leb}
-use Rattle.wire.specs.Be.{be, bytesBe}
-use Rattle.wire.proofs.Numbers.{be-bytes, length-bytes}
+use lib.ListN.{length, getD, take, drop}
+use lib.Seq.{take-at}
 use Rattle.wire.proofs.Picks.{pick-yes}
 use Rattle.run.specs.Run.{runOf}
 use Rattle.descriptor.specs.Descriptor as descriptor
@@ -19,22 +15,11 @@ use Rattle.demand_three.specs.OffDescriptor.{rulesOf}
 use Rattle.demand_three.proofs.Demand3.{demand-three, compiled-is}
 use Rattle.compile.proofs.Compiles.{planned-room}
 use Rattle.demand_three.proofs.PlanSize.{Small, plan-words}
-use Rattle.crossing.specs.Crossing.{wordsIn, bytesOut, crosses, wordRoom}
+use Rattle.crossing.specs.Crossing.{bytesOut, crosses, wordRoom}
 use Rattle.panel_run.specs.Runs.{runFrom}
 use Rattle.panel_compile.specs.Compiles.{compilePlan, CompilesPlan}
 use Rattle.crossing.specs.declared.Answer.{Answer}
-use Rattle.crossing.proofs.Words.{words-next, length-out, room-most}
-
--- words cross and come back
-pub words-back : (ws : List ℕ) → ((j : ℕ) → getD ws j 0 < 2 ^ 32) → wordsIn (bytesOut ws) ≡ ws
-unfolding wordsIn bytesOut
-words-back [] h = refl
-words-back (w ∷ ws) h =
-    let n : length (bytesBe 4 w) ≡ 4 = length-bytes 4 w in
-    let l : 4 ≤ length (bytesBe 4 w ++ bytesOut ws) = omega (arith, length-append (bytesBe 4 w) (bytesOut ws)) in
-    words-next (bytesBe 4 w ++ bytesOut ws) l
-    ∙ ap₂ (λ (a b : List ℕ). be a ∷ wordsIn b) (take-at (bytesBe 4 w) (bytesOut ws) 4 n) (drop-at (bytesBe 4 w) (bytesOut ws) 4 n)
-    ∙ ap₂ (λ (a : ℕ) (b : List ℕ). a ∷ b) (be-bytes 4 w (h 0)) (words-back ws (λ j. h (suc j)))
+use Rattle.crossing.proofs.Words.{length-out, words-back, room-most, crosses-words}
 
 -- a compiled plan's words are words
 compiled-words : (d root ws : List ℕ) → planOf (descriptionOf d root) ≡ descriptor.plan ws → (j : ℕ) → getD ws j 0 < 2 ^ 32
@@ -53,12 +38,6 @@ compiled-words d root ws e = go (descriptionOf d root) refl e
         let q : planWords bs i ≡ ws = cc in
         let h = described-is d root bs i w in
         rw (← q) (plan-words bs (h .0) i .each)
-
-crosses-words : (n : ℕ) → n ≤ 8192 → crosses (4 * n) ≡ true
-unfolding crosses
-crosses-words n h =
-    let m : 4 * n % 4 ≡ 0 = omega arith in
-    pick-yes _ _ _ (eq-eqb _ _ m) ∙ le-leb (4 * n) 32768 (omega arith)
 
 module _ (d root p p′ : List ℕ) (r : Answer) (c : CompilesPlan d root r p p′) (ws : List ℕ) (e : compileOf d root (wordRoom (length p)) ≡ descriptor.plan ws) where
   written : take (4 * length ws) p′ ≡ bytesOut ws
