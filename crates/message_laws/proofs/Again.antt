@@ -6,7 +6,7 @@ use native.Mathlib.Omega.{arith}
 use native.Mathlib.Numerals.{add-one}
 use lib.Dec.{lit<}
 use lib.ListN.{length, getD, take, drop, length-take, length-drop}
-use lib.Seq.{take-take, drop-cons}
+use lib.Seq.{length-take-le, take-take, drop-cons}
 use borrow.Author.Tests.{le-ltb}
 use Rattle.wire.specs.Choice.{pick}
 use Rattle.wire.specs.Be.{be, bytesBe}
@@ -14,7 +14,7 @@ use Rattle.wire.proofs.Numbers.{bytes-be}
 use Rattle.message_read.specs.Reading.{read, messageOf, message}
 use Rattle.message_read.proofs.Whole.{Whole, whole, roomy}
 use Rattle.message_write.specs.Writing.{wrote, fieldsFrom, putOut, whole as put, bodyFrom, written}
-use Rattle.message_laws.proofs.RoundTrip.{Bytes, Trip, span, span-join, round-trip}
+use Rattle.message_laws.proofs.RoundTrip.{Bytes, Covers, covers-itself, Trip, span, span-join, round-trip}
 
 -- the first n of bytes are bytes
 bytes-take : (n : ℕ) (s : List ℕ) → Bytes s → Bytes (take n s)
@@ -44,19 +44,30 @@ put-whole t room n b e h k =
     let r : length b + 5 ≤ room = omega arith in
     rw (e, le-ltb 65535 n h, le-ltb room (length b + 5) r)
 
+-- a source that has the first k elements of s has every part of them
+covers : (src s : List ℕ) (k : ℕ) → k ≤ length s → take k src ≡ take k s → Covers src (take k s)
+covers src s k h e =
+    let l : length (take k s) ≡ k = length-take-le k s h in
+    let j : k ≤ length src = omega (arith, ap length e, length-take k src) in
+    record {
+      long = omega arith;
+      part = λ p n g. sym (part-take src k p n (rw l at g)) ∙ ap (λ (x : List ℕ). take n (drop p x)) e;
+    }
+
 -- the length field n, the bytes used u and the words of an accepted message
 module _ (side : ℕ) (s : List ℕ) (n u : ℕ) (ws : List ℕ) (w : Whole side s n u ws) where
-  trip : Trip (take (n + 1) s) 5 (read u ws) (fieldsFrom (w .layout) (take (n + 1) s))
-  trip = rw (w .body .outcome) at (round-trip (take (n + 1) s) (w .layout) 5 (simp length-take (omega arith)))
+  trip : (src : List ℕ) → Covers src (take (n + 1) s) → Trip (take (n + 1) s) 5 (read u ws) (fieldsFrom (w .layout) src)
+  trip src c = rw (w .body .outcome) at (round-trip (take (n + 1) s) src c (w .layout) 5 (simp length-take (omega arith)))
 
   used-from : u ≡ n + 1
-  used-from = omega (arith, trip .1, length-take (n + 1) s)
+  used-from = omega (arith, trip (take (n + 1) s) (covers-itself (take (n + 1) s)) .1, length-take (n + 1) s)
 
-  again-from : Bytes s → (room : ℕ) → u ≤ room → written side (getD s 0 0) ws (take u s) room ≡ putOut (take u s)
+  again-from : Bytes s → (src : List ℕ) → take u src ≡ take u s → (room : ℕ) → u ≤ room → written side (getD s 0 0) ws src room ≡ putOut (take u s)
   unfolding written bodyFrom
-  again-from b room r =
-      let same : fieldsFrom (w .layout) (take (n + 1) s) ws ≡ wrote (span s 5 (n + 1)) [] =
-      rw (append-nil, used-from, part-take s (n + 1) 5 (n + 1 - 5) (omega arith)) at (trip .2 (bytes-take (n + 1) s b) []) in
+  again-from b src e room r =
+      let c : Covers src (take (n + 1) s) = covers src s (n + 1) (w .fits) (rw used-from at e) in
+      let same : fieldsFrom (w .layout) src ws ≡ wrote (span s 5 (n + 1)) [] =
+      rw (append-nil, used-from, part-take s (n + 1) 5 (n + 1 - 5) (omega arith)) at (trip src c .2 (bytes-take (n + 1) s b) []) in
       let long : length (span s 5 (n + 1)) + 4 ≡ n = simp (length-take, length-drop) (omega arith) in
       rw (used-from, w .kind, same, put-whole (getD s 0 0) room n (span s 5 (n + 1)) long (w .high) (omega (arith, used-from)))
       (ap putOut (parts s n b (w .low) (w .fits) (w .size)))
@@ -70,7 +81,8 @@ made side s room u ws e = whole side s u ws (roomy (messageOf side s) room u ws 
 pub used : (side : ℕ) (s : List ℕ) (room u : ℕ) (ws : List ℕ) → message side s room ≡ read u ws → u ≡ be (take 4 (drop 1 s)) + 1
 used side s room u ws e = used-from side s _ u ws (made side s room u ws e)
 
--- What the reader accepts, written again from its list and its own bytes into a room that is large enough, is the same message.
+-- What the reader accepts, written again from its list into a room that is large enough, is the same message. The source is any
+-- that begins with the message: all of s, or the message alone.
 pub again : (side : ℕ) (s : List ℕ) (room u : ℕ) (ws : List ℕ) → ((i : ℕ) → getD s i 0 < 256) → message side s room ≡ read u ws
-    → (room′ : ℕ) → u ≤ room′ → written side (getD s 0 0) ws (take u s) room′ ≡ putOut (take u s)
+    → (src : List ℕ) → take u src ≡ take u s → (room′ : ℕ) → u ≤ room′ → written side (getD s 0 0) ws src room′ ≡ putOut (take u s)
 again side s room u ws b e = again-from side s _ u ws (made side s room u ws e) b

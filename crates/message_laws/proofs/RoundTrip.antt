@@ -1,4 +1,5 @@
--- What is read of any layout, written again from its list and its own bytes, has the same bytes. Assumes nothing.
+-- What is read of any layout, written again from its list and a source that has its bytes where it has them, has the same bytes.
+-- Assumes nothing.
 use mathlib.Core.Path.{_≡_, refl, ap, sym, _∙_}
 use mathlib.Core.Bool.{true}
 use mathlib.Core.List.{List, [], _++_, append-assoc}
@@ -36,6 +37,14 @@ span-join m p q r g h =
 -- every element is a byte
 abbrev pub Bytes : List ℕ → Type 0
 Bytes m = (i : ℕ) → getD m i 0 < 256
+
+-- every part of m is that part of src
+pub record Covers (src m : List ℕ) : Type 0 where
+  pub long : length m ≤ length src
+  pub part : (p n : ℕ) → p + n ≤ length m → take n (drop p src) ≡ take n (drop p m)
+
+pub covers-itself : (m : List ℕ) → Covers m m
+covers-itself m = record { long = omega arith; part = λ p n h. refl }
 
 -- what is written from the words of an outcome, with others after them
 abbrev pub Trip : List ℕ → ℕ → Outcome → (List ℕ → Written) → Type 0
@@ -127,14 +136,16 @@ module _ (m : List ℕ) (p : ℕ) where
   lies-field text = lies-text (lengthened m p) lies-length
   lies-field bytes = lies-length
 
-  trip-found : (f : Field) (o : Found) → LiesAt f m p o → Trip m p (outcome p o) (nextField f m)
+  trip-found : (src : List ℕ) → Covers src m → (f : Field) (o : Found) → LiesAt f m p o → Trip m p (outcome p o) (nextField f src)
   unfolding outcome nextField pick
-  trip-found f Short l = tt
-  trip-found f Barred l = tt
-  trip-found f (At s n) l = (l .onward, l .inside, λ b us. rw (le-leb _ _ (l .inside), l .good, l .same b))
+  trip-found src c f Short l = tt
+  trip-found src c f Barred l = tt
+  trip-found src c f (At s n) l =
+      let h : s + n ≤ length src = omega (arith, l .inside, c .long) in
+      (l .onward, l .inside, λ b us. rw (le-leb (s + n) (length src) h, c .part s n (l .inside), l .good, l .same b))
 
-  trip-field : (f : Field) → Trip m p (outcome p (fieldAt f m p)) (nextField f m)
-  trip-field f = trip-found f (fieldAt f m p) (lies-field f)
+  trip-field : (src : List ℕ) → Covers src m → (f : Field) → Trip m p (outcome p (fieldAt f m p)) (nextField f src)
+  trip-field src c f = trip-found src c f (fieldAt f m p) (lies-field f)
 
 -- a run's count is two bytes
 pub count-next : (m : List ℕ) (p q : ℕ) (ws : List ℕ) → outcome p (fieldAt u16 m p) ≡ read q ws → q - p ≡ 2
@@ -146,18 +157,18 @@ count-next m p q ws =
 
 -- ---- every layout
 
-module _ (m : List ℕ) where
+module _ (m src : List ℕ) (c : Covers src m) where
   trip-run : (f : ℕ → Outcome) (g : List ℕ → Written) → ((q : ℕ) → q ≤ length m → Trip m q (f q) g) → (p : ℕ)
-      → Trip m p (andThen (outcome p (fieldAt u16 m p)) (times (be (take 2 (drop p m))) f)) (λ vs. joined (nextField u16 m vs) (λ b. timesFrom (be b) g))
+      → Trip m p (andThen (outcome p (fieldAt u16 m p)) (times (be (take 2 (drop p m))) f)) (λ vs. joined (nextField u16 src vs) (λ b. timesFrom (be b) g))
   trip-run f g r p =
-      trip-then m p _ (times (be (take 2 (drop p m))) f) (nextField u16 m) (λ b. timesFrom (be b) g) (trip-field m p u16)
+      trip-then m p _ (times (be (take 2 (drop p m))) f) (nextField u16 src) (λ b. timesFrom (be b) g) (trip-field m p src c u16)
       (λ q ws e k. rw (count-next m p q ws e) (trip-times m f g r (be (take 2 (drop p m))) q k))
 
-  pub round-trip : (x : Layout) (p : ℕ) → p ≤ length m → Trip m p (fields x m p) (fieldsFrom x m)
+  pub round-trip : (x : Layout) (p : ℕ) → p ≤ length m → Trip m p (fields x m p) (fieldsFrom x src)
   unfolding fields fieldsFrom
   round-trip done p h = (omega arith, h, λ _ vs. rw (span-none m p))
-  round-trip (one f rest) p h = trip-then m p _ _ _ (λ b. fieldsFrom rest m) (trip-field m p f) (λ q ws e k. round-trip rest q k)
+  round-trip (one f rest) p h = trip-then m p _ _ _ (λ b. fieldsFrom rest src) (trip-field m p src c f) (λ q ws e k. round-trip rest q k)
   round-trip (run items rest) p h =
-      trip-then m p _ _ _ (λ b. fieldsFrom rest m)
-      (trip-run (fields items m) (fieldsFrom items m) (round-trip items) p)
+      trip-then m p _ _ _ (λ b. fieldsFrom rest src)
+      (trip-run (fields items m) (fieldsFrom items src) (round-trip items) p)
       (λ q ws e k. round-trip rest q k)
