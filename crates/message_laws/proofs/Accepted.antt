@@ -1,11 +1,11 @@
--- What the writer puts out, the reader accepts, with the fields' bytes in order. Assumes nothing.
+-- What the writer puts out, the reader accepts, with the fields' bytes in order, and whatever comes after it. Assumes nothing.
 use mathlib.Core.Path.{_≡_, refl, ap, sym, _∙_}
 use mathlib.Core.List.{List, [], _∷_, _++_, append-nil}
 use Prim.Native.Nat.{ℕ, _+_, _^_, _<_, _≤_}
 use native.Mathlib.Omega.{arith}
 use lib.Dec.{ltb}
-use lib.ListN.{length, take, length-append}
-use lib.Seq.{take-at, drop-at, take-all}
+use lib.ListN.{length, getD, take, drop, length-append}
+use lib.Seq.{getD-take, take-at, drop-at}
 use borrow.Author.Tests.{ltb-false, le-ltb}
 use Rattle.wire.specs.Choice.{pick}
 use Rattle.wire.specs.Be.{bytesBe}
@@ -16,6 +16,8 @@ use Rattle.message_read.specs.Reading.{read, fields, ending, body, messageOf, r
 use Rattle.message_read.proofs.Whole.{Whole}
 use Rattle.message_write.specs.Writing.{Written, faulty, wrote, fieldsFrom, Put, refusedPut, putOut, whole, bodyFrom, written}
 use Rattle.message_laws.specs.Contents.{contents}
+use Rattle.message_laws.proofs.Covers.{covers}
+use Rattle.message_laws.proofs.Words.{pairs-contents, bounded}
 use Rattle.message_laws.proofs.ReadBack.{Stands, Same, Reads, read-back}
 
 -- ---- what was put out
@@ -32,7 +34,7 @@ record Sent (t : ℕ) (w : Written) (b : List ℕ) : Type 0 where
   is : message-of t bytes ≡ b
 
 -- a refusal puts nothing out
-refuse : {A : Type 0} (n : ℕ) (b : List ℕ) → refusedPut n ≡ putOut b → A
+pub refuse : {A : Type 0} (n : ℕ) (b : List ℕ) → refusedPut n ≡ putOut b → A
 refuse n b e = let z : _≡_ {A = ℕ} 0 1 = cc in absurd (omega arith)
 
 sent : (t room : ℕ) (w : Written) (b : List ℕ) → whole t room w ≡ putOut b → Sent t w b
@@ -81,39 +83,57 @@ module _ (t : ℕ) (c : List ℕ) where
         is = drop-at (bytesBe 4 (length c + 4)) c 4 (length-bytes 4 (length c + 4)) ∙ sym (append-nil c);
       }
 
-  accepted : (side : ℕ) (l : Layout) (us : List ℕ) → length c + 4 ≤ 65535 → layoutOf side t ≡ known l → fields l (message-of t c) 5 ≡ read (5 + length c) us
-      → Whole side (message-of t c) (length c + 4) (length (message-of t c)) us
-  accepted side l us h k e =
-      record {
-        size =
-            rw (take-at (bytesBe 4 (length c + 4)) c 4 (length-bytes 4 (length c + 4)))
-            (sym (be-bytes 4 (length c + 4) (omega arith)));
-        long = omega (arith, long);
-        low = omega arith;
-        high = h;
-        fits = omega (arith, long);
-        layout = l;
-        kind = k;
-        body =
-            rw (take-all (length c + 4 + 1) (message-of t c) (omega (arith, long)))
-            (record { outcome = e ∙ ap (λ (n : ℕ). read n us) long; end = omega arith });
-      }
+  module _ (s : List ℕ) (b : take (length (message-of t c)) s ≡ message-of t c) where
+    -- its type byte is the one asked for
+    kind-of : getD s 0 0 ≡ t
+    kind-of = sym (getD-take (length (message-of t c)) s 0 0 (omega (arith, long))) ∙ ap (λ (x : List ℕ). getD x 0 0) b
 
--- What the writer puts out is read, and used whole; the list names the bytes that the writer's list named in the source.
-pub accepted-back : (side t : ℕ) (ws src : List ℕ) (room : ℕ) (b : List ℕ) → written side t ws src room ≡ putOut b → (room′ : ℕ) → length ws ≤ room′
-    → (us : List ℕ) × (message side b room′ ≡ read (length b) us) × (contents b us ≡ contents src ws) × (length us ≡ length ws)
+    accepted : (side : ℕ) (l : Layout) (us : List ℕ) → length c + 4 ≤ 65535 → layoutOf side t ≡ known l → fields l (message-of t c) 5 ≡ read (5 + length c) us
+        → Whole side s (length c + 4) (length (message-of t c)) us
+    accepted side l us h k e =
+        let v = covers s (message-of t c) b in
+        let four : take 4 (drop 1 s) ≡ bytesBe 4 (length c + 4) =
+        v .part 1 4 (omega (arith, long)) ∙ take-at (bytesBe 4 (length c + 4)) c 4 (length-bytes 4 (length c + 4)) in
+        let all : take (length c + 4 + 1) s ≡ message-of t c =
+        ap (λ (k : ℕ). take k s) (let q : length c + 4 + 1 ≡ length (message-of t c) = omega (arith, long) in q) ∙ b in
+        record {
+          size = rw four (sym (be-bytes 4 (length c + 4) (omega arith)));
+          long = omega (arith, long, v .long);
+          low = omega arith;
+          high = h;
+          fits = omega (arith, long, v .long);
+          layout = l;
+          kind = ap (layoutOf side) kind-of ∙ k;
+          body = rw all (record { outcome = e ∙ ap (λ (n : ℕ). read n us) long; end = omega arith });
+        }
+
+-- s is read up to u, its type byte is t, and its list names the bytes that the list ws names in src
+pub record ReadBack (side t : ℕ) (ws src : List ℕ) (u : ℕ) (s : List ℕ) (room : ℕ) : Type 0 where
+  pub words : List ℕ
+  pub is : message side s room ≡ read u words
+  pub kind-is : getD s 0 0 ≡ t
+  pub contents-are : contents s words ≡ contents src ws
+  pub length-is : length words ≡ length ws
+
+-- What the writer puts out is read, with any bytes after it, and used whole; the type byte is the one asked for, and the list names the
+-- bytes that the writer's list named in the source.
+pub accepted-back : (side t : ℕ) (ws src : List ℕ) (room : ℕ) (b : List ℕ) → written side t ws src room ≡ putOut b
+    → (s : List ℕ) → take (length b) s ≡ b → (room′ : ℕ) → length ws ≤ room′ → ReadBack side t ws src (length b) s room′
 unfolding written contents
-accepted-back side t ws src room b e room′ h =
+accepted-back side t ws src room b e s f room′ h =
     let (l, k, d) = known-sent (layoutOf side t) t ws src room b e in
     let c = d .bytes in
     let m = message-of t c in
     let small : length m < 256 ^ 4 = omega (arith, long t c, d .short) in
     let x : Reads m src (fields l m 5) (5 + length c) ws [] = (rw (d .outcome) at (read-back m small src l 5 ws)) (stands t c) in
     let same : Same m (x .words) src ws = rw (append-nil (x .words)) at (x .carry [] (record { contents-are = refl; length-is = refl })) in
-    let w = accepted t c side l (x .words) (d .short) k (x .is) in
-    rw (← (d .is)) (
-      x .words,
-      is-read side m (length c + 4) (length m) (x .words) w room′ (omega (arith, same .length-is)),
-      same .contents-are,
-      same .length-is,
-    )
+    let g : take (length m) s ≡ m = rw (← (d .is)) at f in
+    let w = accepted t c s g side l (x .words) (d .short) k (x .is) in
+    let r : message side s room′ ≡ read (length m) (x .words) = is-read side s (length c + 4) (length m) (x .words) w room′ (omega (arith, same .length-is)) in
+    rw (← (d .is)) (record {
+      words = x .words;
+      is = r;
+      kind-is = kind-of t c s g;
+      contents-are = pairs-contents s m (covers s m g) (x .words) (bounded side s room′ (length m) (x .words) r .pairs) ∙ same .contents-are;
+      length-is = same .length-is;
+    })

@@ -1,12 +1,12 @@
 -- A message that was read and is written again has the same bytes. Assumes nothing.
-use mathlib.Core.Path.{_≡_, refl, ap, sym, _∙_}
+use mathlib.Core.Path.{_≡_, ap, sym, _∙_}
 use mathlib.Core.List.{List, [], _∷_, _++_, append-nil}
 use Prim.Native.Nat.{ℕ, zero, suc, _+_, _-_, _<_, _≤_}
 use native.Mathlib.Omega.{arith}
 use native.Mathlib.Numerals.{add-one}
 use lib.Dec.{lit<}
 use lib.ListN.{length, getD, take, drop, length-take, length-drop}
-use lib.Seq.{length-take-le, take-take, drop-cons}
+use lib.Seq.{length-take-le, drop-cons}
 use borrow.Author.Tests.{le-ltb}
 use Rattle.wire.specs.Choice.{pick}
 use Rattle.wire.specs.Be.{be, bytesBe}
@@ -14,7 +14,8 @@ use Rattle.wire.proofs.Numbers.{bytes-be}
 use Rattle.message_read.specs.Reading.{read, messageOf, message}
 use Rattle.message_read.proofs.Whole.{Whole, whole, roomy}
 use Rattle.message_write.specs.Writing.{wrote, fieldsFrom, putOut, whole as put, bodyFrom, written}
-use Rattle.message_laws.proofs.RoundTrip.{Bytes, Covers, covers-itself, Trip, span, span-join, round-trip}
+use Rattle.message_laws.proofs.Covers.{part-take, Covers, covers-itself, covers}
+use Rattle.message_laws.proofs.RoundTrip.{Bytes, Trip, span, span-join, round-trip}
 
 -- the first n of bytes are bytes
 bytes-take : (n : ℕ) (s : List ℕ) → Bytes s → Bytes (take n s)
@@ -22,13 +23,6 @@ bytes-take zero s b i = lit< tt
 bytes-take (suc n) [] b i = lit< tt
 bytes-take (suc n) (x ∷ s) b zero = b 0
 bytes-take (suc n) (x ∷ s) b (suc i) = bytes-take n s (λ j. b (suc j)) i
-
--- a part of the first k elements
-part-take : (s : List ℕ) (k p n : ℕ) → p + n ≤ k → take n (drop p (take k s)) ≡ take n (drop p s)
-part-take s k zero n h = take-take n k s (omega arith)
-part-take s zero (suc p) n h = absurd (omega arith)
-part-take [] (suc k) (suc p) n h = refl
-part-take (x ∷ s) (suc k) (suc p) n h = part-take s k p n (omega arith)
 
 -- the bytes of a message: its type, its length and its body
 parts : (s : List ℕ) (n : ℕ) → Bytes s → 4 ≤ n → n + 1 ≤ length s → n ≡ be (take 4 (drop 1 s)) → getD s 0 0 ∷ bytesBe 4 n ++ span s 5 (n + 1) ≡ take (n + 1) s
@@ -44,16 +38,6 @@ put-whole t room n b e h k =
     let r : length b + 5 ≤ room = omega arith in
     rw (e, le-ltb 65535 n h, le-ltb room (length b + 5) r)
 
--- a source that has the first k elements of s has every part of them
-covers : (src s : List ℕ) (k : ℕ) → k ≤ length s → take k src ≡ take k s → Covers src (take k s)
-covers src s k h e =
-    let l : length (take k s) ≡ k = length-take-le k s h in
-    let j : k ≤ length src = omega (arith, ap length e, length-take k src) in
-    record {
-      long = omega arith;
-      part = λ p n g. sym (part-take src k p n (rw l at g)) ∙ ap (λ (x : List ℕ). take n (drop p x)) e;
-    }
-
 -- the length field n, the bytes used u and the words of an accepted message
 module _ (side : ℕ) (s : List ℕ) (n u : ℕ) (ws : List ℕ) (w : Whole side s n u ws) where
   trip : (src : List ℕ) → Covers src (take (n + 1) s) → Trip (take (n + 1) s) 5 (read u ws) (fieldsFrom (w .layout) src)
@@ -65,7 +49,8 @@ module _ (side : ℕ) (s : List ℕ) (n u : ℕ) (ws : List ℕ) (w : Whole side
   again-from : Bytes s → (src : List ℕ) → take u src ≡ take u s → (room : ℕ) → u ≤ room → written side (getD s 0 0) ws src room ≡ putOut (take u s)
   unfolding written bodyFrom
   again-from b src e room r =
-      let c : Covers src (take (n + 1) s) = covers src s (n + 1) (w .fits) (rw used-from at e) in
+      let m : length (take (n + 1) s) ≡ n + 1 = length-take-le (n + 1) s (w .fits) in
+      let c = covers src (take (n + 1) s) (ap (λ (k : ℕ). take k src) m ∙ rw used-from at e) in
       let same : fieldsFrom (w .layout) src ws ≡ wrote (span s 5 (n + 1)) [] =
       rw (append-nil, used-from, part-take s (n + 1) 5 (n + 1 - 5) (omega arith)) at (trip src c .2 (bytes-take (n + 1) s b) []) in
       let long : length (span s 5 (n + 1)) + 4 ≡ n = simp (length-take, length-drop) (omega arith) in
@@ -73,7 +58,7 @@ module _ (side : ℕ) (s : List ℕ) (n u : ℕ) (ws : List ℕ) (w : Whole side
       (ap putOut (parts s n b (w .low) (w .fits) (w .size)))
 
 -- what the call read is a whole message
-made : (side : ℕ) (s : List ℕ) (room u : ℕ) (ws : List ℕ) → message side s room ≡ read u ws → Whole side s (be (take 4 (drop 1 s))) u ws
+pub made : (side : ℕ) (s : List ℕ) (room u : ℕ) (ws : List ℕ) → message side s room ≡ read u ws → Whole side s (be (take 4 (drop 1 s))) u ws
 unfolding message
 made side s room u ws e = whole side s u ws (roomy (messageOf side s) room u ws e .0)
 

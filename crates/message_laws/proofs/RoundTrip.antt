@@ -20,6 +20,7 @@ use Rattle.message_read.specs.Reading.{lengthened, textual, fieldAt, Outcome, r
 use Rattle.message_read.specs.declared.Found.{Found}
 use Rattle.message_read.specs.declared.Found.the-variants.{Short, Barred, At}
 use Rattle.message_write.specs.Writing.{Written, wrote, fitting, framed, nextField, after, joined, timesFrom, fieldsFrom}
+use Rattle.message_laws.proofs.Covers.{Covers}
 
 -- the bytes of m from p up to q
 abbrev pub span : List ℕ → ℕ → ℕ → List ℕ
@@ -37,14 +38,6 @@ span-join m p q r g h =
 -- every element is a byte
 abbrev pub Bytes : List ℕ → Type 0
 Bytes m = (i : ℕ) → getD m i 0 < 256
-
--- every part of m is that part of src
-pub record Covers (src m : List ℕ) : Type 0 where
-  pub long : length m ≤ length src
-  pub part : (p n : ℕ) → p + n ≤ length m → take n (drop p src) ≡ take n (drop p m)
-
-pub covers-itself : (m : List ℕ) → Covers m m
-covers-itself m = record { long = omega arith; part = λ p n h. refl }
 
 -- what is written from the words of an outcome, with others after them
 abbrev pub Trip : List ℕ → ℕ → Outcome → (List ℕ → Written) → Type 0
@@ -74,13 +67,13 @@ trip-times m f g r (suc n) p h = trip-then m p (f p) (times n f) g (λ b. timesF
 -- ---- a field
 
 -- the content found lies in m, is permitted, and ends the bytes that the field has there
-record Lies (f : Field) (m : List ℕ) (p s n : ℕ) : Type 0 where
-  onward : p ≤ s + n
-  inside : s + n ≤ length m
-  good : fitting f (take n (drop s m)) ≡ true
-  same : Bytes m → framed f (take n (drop s m)) ≡ span m p (s + n)
+pub record Lies (f : Field) (m : List ℕ) (p s n : ℕ) : Type 0 where
+  pub onward : p ≤ s + n
+  pub inside : s + n ≤ length m
+  pub good : fitting f (take n (drop s m)) ≡ true
+  pub same : Bytes m → framed f (take n (drop s m)) ≡ span m p (s + n)
 
-abbrev LiesAt : Field → List ℕ → ℕ → Found → Type 0
+abbrev pub LiesAt : Field → List ℕ → ℕ → Found → Type 0
 LiesAt f m p Short = Unit {0}
 LiesAt f m p Barred = Unit {0}
 LiesAt f m p (At s n) = Lies f m p s n
@@ -127,7 +120,7 @@ module _ (m : List ℕ) (p : ℕ) where
       (λ b. record { onward = l .onward; inside = l .inside; good = b; same = l .same })
       (λ _. tt)
 
-  lies-field : (f : Field) → LiesAt f m p (fieldAt f m p)
+  pub lies-field : (f : Field) → LiesAt f m p (fieldAt f m p)
   unfolding fieldAt
   lies-field (number w vs) =
       pick-case (LiesAt (number w vs) m p) (leb (p + w) (length m)) _ Short
