@@ -12,8 +12,8 @@ use lib.Seq.{getD-drop}
 use borrow.Author.Tests.{le-leb, le-ltb, lt-ltb, ltb-true, ne-eqb}
 use Rattle.wire.specs.Choice.{pick}
 use Rattle.wire.proofs.Tables.{each-below, where-below}
-use Rattle.layout.specs.Layout.{done, one, run, u16, Message, lookup}
-use Rattle.layout.specs.Tables.{codes, fieldOf, entry, layouts, layoutAt, CodeOf, knownAt, widthOf, valuesOf, widths, firsts, values, allowedOf}
+use Rattle.layout.specs.Layout.{done, one, run, u16}
+use Rattle.layout.specs.Tables.{codes, fieldOf, entry, layouts, layoutAt, CodeOf, widthOf, valuesOf, widths, firsts, values, allowedOf}
 
 pub lt-or-ge : (a b : ℕ) → (a < b) ⊎ (b ≤ a)
 lt-or-ge a b = elim (decLt a b) [ yes p ↦ inl p | no n ↦ inr (omega arith) ]
@@ -57,10 +57,6 @@ module _ (p c : ℕ) (h : p < 51) (o : c ≡ getD codes p 0) where
 pub count-code : fieldOf 7 ≡ u16
 unfolding fieldOf pick widthOf valuesOf widths firsts allowedOf values
 count-code = refl
-
--- a type byte that was matched, and the layout at its start, which antt computes
-pub begins : (ms : List Message) (r t k : ℕ) → knownAt r ≡ lookup k ms → t ≡ k → knownAt r ≡ lookup t ms
-begins ms r t k e f = e ∙ ap (λ (x : ℕ). lookup x ms) (sym f)
 
 -- ---- the facts of every code, which antt computes
 

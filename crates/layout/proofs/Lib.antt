@@ -1,3 +1,4 @@
 pub mod Rules
 pub mod Codes
 pub mod Judged
+pub mod Starts

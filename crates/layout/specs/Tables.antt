@@ -86,6 +86,20 @@ pub record CodeOf (p c : ℕ) : Type 0 where
   pub inside : c < 67
   pub ahead : 16 ≤ c → p < c - 16
 
--- the layout at a start that the code gives, 51 for none
+-- the layout at a start, 51 for none
 unfoldable pub knownAt : ℕ → Known
 knownAt r = pick (ltb r 51) (known (layoutAt r)) unknown
+
+-- where the layout of a type byte starts in the table of codes: the server's messages, and the client's
+unfoldable pub serverStart : ℕ → ℕ
+serverStart t =
+    pick (eqb t 0x45) 0
+    (pick (eqb t 0x4c) 5
+    (pick (eqb t 0x5a) 10
+    (pick (eqb t 0x43) 13 (pick (eqb t 0x54) 19 (pick (eqb t 0x73) 27 (pick (eqb t 0x44) 30 (pick (eqb t 0x53) 33 51)))))))
+
+unfoldable pub clientStart : ℕ → ℕ
+clientStart t = pick (eqb t 0x53) 36 (pick (eqb t 0x56) 37 51)
+
+unfoldable pub startOf : ℕ → ℕ → ℕ
+startOf side t = pick (eqb side 1) (serverStart t) (pick (eqb side 0) (clientStart t) 51)

@@ -1,8 +1,8 @@
 // The ten messages' layouts as tables of codes, for the reader and the writer to go by.
 ghost use mathlib.Core.Path.{_≡_};
 ghost use Prim.Native.Nat.{ℕ, _+_, _≤_, _<_};
-ghost use Rattle.layout.specs.Layout.{server, client, permits, lookup, layoutOf};
-ghost use Rattle.layout.specs.Tables.{codes, allowedOf, widthOf, valuesOf, WidthOf, PartOf, CodeOf, knownAt};
+ghost use Rattle.layout.specs.Layout.{permits};
+ghost use Rattle.layout.specs.Tables.{codes, allowedOf, widthOf, valuesOf, WidthOf, PartOf, CodeOf, serverStart, clientStart, startOf};
 ghost use Rattle.wire.specs.Be.{be};
 ghost use lib.ListN.{length, take, drop};
 
@@ -223,7 +223,7 @@ pub fn code_at(table: &[u8], p: usize) -> u8
 }
 
 fn server_start(ty: u8) -> usize
-    ensures { λ r. ⌜ knownAt r ≡ lookup ty server ⌝ }
+    ensures { λ r. ⌜ r ≡ serverStart ty ⌝ }
 {
     match ty {
         0x45 => E,
@@ -239,7 +239,7 @@ fn server_start(ty: u8) -> usize
 }
 
 fn client_start(ty: u8) -> usize
-    ensures { λ r. ⌜ knownAt r ≡ lookup ty client ⌝ }
+    ensures { λ r. ⌜ r ≡ clientStart ty ⌝ }
 {
     match ty {
         0x53 => CLIENT_S,
@@ -248,9 +248,9 @@ fn client_start(ty: u8) -> usize
     }
 }
 
-// The position of a type byte's layout, or NONE where the side does not know it.
+// The position of a type byte's layout, or NONE where the side does not know it: proofs/Starts says that the layout there is its own.
 pub fn start_of(side: u32, ty: u8) -> usize
-    ensures { λ r. ⌜ knownAt r ≡ layoutOf side ty ⌝ }
+    ensures { λ r. ⌜ r ≡ startOf side ty ⌝ }
 {
     if side == 1 {
         return server_start(ty);

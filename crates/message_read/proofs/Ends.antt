@@ -12,7 +12,8 @@ use Rattle.wire.specs.Choice.{pick}
 use Rattle.wire.specs.Be.{be}
 use Rattle.layout.specs.Layout.{layoutOf}
 use Rattle.layout.specs.Judged.{judgedAll}
-use Rattle.layout.specs.Tables.{layoutAt, knownAt}
+use Rattle.layout.specs.Tables.{layoutAt, knownAt, startOf}
+use Rattle.layout.proofs.Starts.{start-known}
 use Rattle.message_read.specs.Reading.{Outcome, refused, read, fields, ending, body, messageOf, roomed, message, wordsOf, listAfter}
 use Rattle.message_read.specs.Answers.{answerOf, Stored, Checks, Gives, Accepted}
 use Rattle.message_read.specs.Scan.{stopped, reached, outcomeOf, led}
@@ -89,10 +90,12 @@ module _ (side : ℕ) (s l l′ : List ℕ) where
         unfolding messageOf pick
         check-more j = refuses _ 1 0 l l′ (rw (← e, le-ltb (length s) 5 h, le-ltb n 4 g, le-ltb 65535 n k, lt-ltb (length s) (n + 1) j))
 
-        module _ (j : n + 1 ≤ length s) (r : ℕ) (f : knownAt r ≡ layoutOf side (getD s 0 0)) where
+        module _ (j : n + 1 ≤ length s) (r : ℕ) (f : r ≡ startOf side (getD s 0 0)) where
           message-is : messageOf side s ≡ body (knownAt r) (take (n + 1) s)
           unfolding messageOf pick
-          message-is = rw (← e, le-ltb (length s) 5 h, le-ltb n 4 g, le-ltb 65535 n k, le-ltb (length s) (n + 1) j, ← f)
+          message-is =
+              let d = start-known r side (getD s 0 0) f in
+              rw (← e, le-ltb (length s) 5 h, le-ltb n 4 g, le-ltb 65535 n k, le-ltb (length s) (n + 1) j, ← d)
 
           pub check-unknown : 51 ≤ r → Checks (messageOf side s) (Answer.Refused 3 0) l l′
           unfolding body knownAt pick
@@ -108,17 +111,19 @@ module _ (side : ℕ) (s : List ℕ) (acc : Accepted (messageOf side s)) where
   pub accepted : Whole side s (be (take 4 (drop 1 s))) (acc .used) (acc .words)
   accepted = whole side s (acc .used) (acc .words) (acc .is)
 
-  module _ (r : ℕ) (f : knownAt r ≡ layoutOf side (getD s 0 0)) where
+  module _ (r : ℕ) (f : r ≡ startOf side (getD s 0 0)) where
+    layout-is : (r < 51) × (layoutAt r ≡ accepted .layout)
+    layout-is = known-layout r (layoutOf side (getD s 0 0)) (accepted .layout) (start-known r side (getD s 0 0) f) (accepted .kind)
+
     pub accepted-start : r < 51
-    accepted-start = known-layout r (layoutOf side (getD s 0 0)) (accepted .layout) f (accepted .kind) .0
+    accepted-start = layout-is .0
 
     pub filled : (e : ℕ) (x : Step) (l l′ : List ℕ) → e ≡ be (take 4 (drop 1 s)) + 1
         → outcomeOf x l′ ≡ led (fields (judgedAll false (layoutAt r)) (take e s) 5) 0 l → l′ ≡ sets l 0 (wordsOf (messageOf side s))
     unfolding wordsOf judgedAll
     filled e x l l′ g q =
-        let k = known-layout r (layoutOf side (getD s 0 0)) (accepted .layout) f (accepted .kind) .1 in
         let t = unjudged-reads (accepted .layout) (take (be (take 4 (drop 1 s)) + 1) s) 5 (acc .used) (acc .words) (accepted .body .outcome) in
-        rw (acc .is) (list-at x (acc .used) (acc .words) l l′ (rw (g, k, t) at q))
+        rw (acc .is) (list-at x (acc .used) (acc .words) l l′ (rw (g, layout-is .1, t) at q))
 
 -- ---- what an answer says of the outcome
 

@@ -15,7 +15,8 @@ use Rattle.wire.proofs.Numbers.{length-bytes}
 use Rattle.wire.proofs.Stores.{sets-append}
 use Rattle.layout.specs.Layout.{layoutOf}
 use Rattle.layout.specs.Judged.{judgedAll}
-use Rattle.layout.specs.Tables.{layoutAt, knownAt}
+use Rattle.layout.specs.Tables.{layoutAt, knownAt, startOf}
+use Rattle.layout.proofs.Starts.{start-known}
 use Rattle.layout.proofs.Codes.{lt-or-ge}
 use Rattle.message_write.specs.Writing.{Written, faulty, wrote, fieldsFrom, whole, bodyFrom, written, outputAfter}
 use Rattle.message_write.specs.Emitting.{cap, broken, stands, put-at, standOf}
@@ -91,15 +92,18 @@ laid-out t n at b out ea h =
 
 -- ---- the tests, in their order
 
-module _ (side t : ℕ) (ws src out : List ℕ) (r : ℕ) (f : knownAt r ≡ layoutOf side t) where
+module _ (side t : ℕ) (ws src out : List ℕ) (r : ℕ) (e : r ≡ startOf side t) where
+  known-is : knownAt r ≡ layoutOf side t
+  known-is = start-known r side t e
+
   pub puts-unknown : 51 ≤ r → Puts (written side t ws src (length out)) (Refused 3) out out
   unfolding written bodyFrom knownAt wroteOf outputAfter pick
-  puts-unknown h = rw (← f, le-ltb r 51 h) (record { answer = refl; output = refl })
+  puts-unknown h = rw (← known-is, le-ltb r 51 h) (record { answer = refl; output = refl })
 
   module _ (h : r < 51) where
     written-is : written side t ws src (length out) ≡ whole t (length out) (fieldsFrom (layoutAt r) src ws)
     unfolding written bodyFrom knownAt pick
-    written-is = rw (← f, lt-ltb r 51 h)
+    written-is = rw (← known-is, lt-ltb r 51 h)
 
     pub puts-faulty : (o : List ℕ) → broken ≡ put-at (fieldsFrom (layoutAt r) src ws) 5 o → Puts (written side t ws src (length out)) (Refused 6) out out
     unfolding whole wroteOf outputAfter

@@ -9,7 +9,8 @@ use lib.Seq.{sets}
 use borrow.Author.Tests.{lt-ltb, le-ltb}
 use Rattle.wire.specs.Choice.{pick}
 use Rattle.layout.specs.Layout.{Known, known, unknown, layoutOf}
-use Rattle.layout.specs.Tables.{knownAt}
+use Rattle.layout.specs.Tables.{knownAt, startOf}
+use Rattle.layout.proofs.Starts.{start-known}
 use Rattle.message_read.specs.Reading.{messageOf, roomed, message, wordsOf}
 use Rattle.message_read.specs.Answers.{Checks}
 use Rattle.message_write.specs.Writing.{Put, refusedPut, putOut, written, outputAfter}
@@ -106,11 +107,14 @@ module _ (side t : ℕ) (list src out : List ℕ) where
         go (putOut b) g = let h : n ≡ length b = cc in rw h
 
 -- a list that does not cross: whether its type is known
-module _ (r side t : ℕ) (f : knownAt r ≡ layoutOf side t) where
+module _ (r side t : ℕ) (e : r ≡ startOf side t) where
+  known-is : knownAt r ≡ layoutOf side t
+  known-is = start-known r side t e
+
   pub uncrossed-unknown : 51 ≤ r → refusal 3 0 ≡ writeAnswer (uncrossed (layoutOf side t))
   unfolding knownAt uncrossed writeAnswer pick
-  uncrossed-unknown h = rw (← f, le-ltb r 51 h)
+  uncrossed-unknown h = rw (← known-is, le-ltb r 51 h)
 
   pub uncrossed-known : r < 51 → refusal 6 0 ≡ writeAnswer (uncrossed (layoutOf side t))
   unfolding knownAt uncrossed writeAnswer pick
-  uncrossed-known h = rw (← f, lt-ltb r 51 h)
+  uncrossed-known h = rw (← known-is, lt-ltb r 51 h)
