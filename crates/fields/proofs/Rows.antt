@@ -1,12 +1,13 @@
--- The layouts of tags. Assumes nothing.
-use mathlib.Core.Path.{_≡_}
+-- The layouts of tags, and the code's runs of numbers for them. Assumes nothing.
+use mathlib.Core.Path.{_≡_, refl, ap, _∙_}
 use mathlib.Core.List.{[]}
 use Prim.Native.Nat.{ℕ}
 use lib.Dec.{eqb}
 use borrow.Author.Tests.{ne-eqb}
 use Rattle.wire.specs.Choice.{pick}
 use Rattle.wire.proofs.Picks.{pick-case}
-use Rattle.fields.specs.Layouts.{Layout, typed, layout}
+use Rattle.fields.specs.Layouts.{Layout, typed, layout, upToEnd, spelled, padded, encoded}
+use Rattle.fields.specs.declared.kinds.BlockFields.{BlockFields}
 
 -- what holds of each tag's layout that a test does not rule out holds of the layout
 module _ (P : Layout → Type 0) (tag : ℕ) where
@@ -18,7 +19,7 @@ module _ (P : Layout → Type 0) (tag : ℕ) where
   either k a b p q = pick-case P (eqb tag k) a b (λ e. p) (λ e. q)
 
 -- the layout of a tag that a match has an arm for
-pub matched : {tag k : ℕ} {l : Layout} → tag ≡ k → l ≡ layout k → l ≡ layout tag
+pub matched : {tag k : ℕ} {r : BlockFields} → tag ≡ k → r ≡ encoded (layout k) → r ≡ encoded (layout tag)
 matched e f = rw e f
 
 -- and of one that it leaves to its last arm
@@ -40,3 +41,25 @@ unmatched tag n0 n1 n4 n5 n6 n7 n8 n9 n10 n11 n13 n127 =
       ne-eqb tag 13 n13,
       ne-eqb tag 127 n127,
     )
+
+-- the runs of a layout name it
+record Spells (l : Layout) : Type 0 where
+  is : spelled (encoded l) ≡ l
+
+spells : (tag : ℕ) → Spells (layout tag)
+unfolding layout padded upToEnd pick
+spells tag =
+    either Spells tag 0 _ _ (record { is = refl })
+    (either Spells tag 1 _ _ (record { is = refl })
+    (either Spells tag 4 _ _ (record { is = refl })
+    (either Spells tag 5 _ _ (record { is = refl })
+    (either Spells tag 6 _ _ (record { is = refl })
+    (either Spells tag 7 _ _ (record { is = refl })
+    (either Spells tag 8 _ _ (record { is = refl })
+    (either Spells tag 9 _ _ (record { is = refl })
+    (either Spells tag 10 _ _ (record { is = refl })
+    (either Spells tag 11 _ _ (record { is = refl })
+    (either Spells tag 13 _ _ (record { is = refl }) (either Spells tag 127 _ _ (record { is = refl }) (record { is = refl }))))))))))))
+
+pub spelled-is : (r : BlockFields) (tag : ℕ) → r ≡ encoded (layout tag) → spelled r ≡ layout tag
+spelled-is r tag e = ap spelled e ∙ spells tag .is

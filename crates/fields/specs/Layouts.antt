@@ -2,8 +2,9 @@
 -- are in Fields. Assumes nothing: these are definitions.
 use Prim.Native.Nat.{ℕ}
 use mathlib.Core.Bool.{Bool, true, false}
-use mathlib.Core.List.{List, [], _∷_}
+use mathlib.Core.List.{List, [], _∷_, _++_}
 use lib.Dec.{leb, ltb, eqb}
+use lib.ListN.{take}
 use Rattle.wire.specs.Choice.{pick}
 use Rattle.fields.specs.declared.kinds.BlockFields.{BlockFields}
 
@@ -150,3 +151,17 @@ upToEnd (c ∷ cs) = pick (eqb c 0) [] (c ∷ upToEnd cs)
 -- the layout that the code's four runs of numbers name
 abbrev pub spelled : BlockFields → Layout
 spelled b = record { head = upToEnd (b .head); first = upToEnd (b .first); more = upToEnd (b .more); last = upToEnd (b .last) }
+
+-- and the other way round: kinds of fields as the code's run of six numbers, with 0 after them, and a layout as its four runs
+unfoldable pub padded : List ℕ → List ℕ
+padded cs = take 6 (cs ++ 0 ∷ 0 ∷ 0 ∷ 0 ∷ 0 ∷ 0 ∷ [])
+
+abbrev pub encoded : Layout → BlockFields
+encoded l = record { head = padded (l .head); first = padded (l .first); more = padded (l .more); last = padded (l .last) }
+
+-- the runs of a block with a name and ancestors, and of one with fields and a run of items
+abbrev pub typedRuns : List ℕ → List ℕ → BlockFields
+typedRuns more last = record { head = padded (typed [] [] .head); first = padded (typed [] [] .first); more = more; last = last }
+
+abbrev pub simpleRuns : List ℕ → List ℕ → BlockFields
+simpleRuns head first = record { head = head; first = first; more = padded []; last = padded [] }

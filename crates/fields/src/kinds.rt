@@ -1,8 +1,7 @@
 // The kinds of fields, and the fields of each block: see Layouts. Numbers that rise with their class, so that a class is one test.
 ghost use mathlib.Core.Path.{_≡_};
 ghost use mathlib.Core.Bool.{Bool};
-ghost use Rattle.fields.specs.Layouts as layouts;
-ghost use Rattle.fields.specs.Layouts.{layout, upToEnd, spelled, knownTag, valued, objectType};
+ghost use Rattle.fields.specs.Layouts.{layout, encoded, typedRuns, simpleRuns, knownTag, valued, objectType};
 
 pub const END: u8 = 0;
 
@@ -72,7 +71,7 @@ const ONE_COUNT: [u8; 6] = [COUNT, END, END, END, END, END];
 
 // A block with a name and ancestors, and what comes after them.
 fn typed(more: [u8; 6], last: [u8; 6]) -> BlockFields
-    ensures { λ r. ⌜ spelled r ≡ layouts.typed (upToEnd more) (upToEnd last) ⌝ }
+    ensures { λ r. ⌜ r ≡ typedRuns more last ⌝ }
 {
     BlockFields {
         head: [ID, TEXT, BOOL, ANCESTORS, END, END],
@@ -84,7 +83,7 @@ fn typed(more: [u8; 6], last: [u8; 6]) -> BlockFields
 
 // Fields, and a run of items.
 fn simple(head: [u8; 6], first: [u8; 6]) -> BlockFields
-    ensures { λ r. ⌜ spelled r ≡ layouts.simple (upToEnd head) (upToEnd first) ⌝ }
+    ensures { λ r. ⌜ r ≡ simpleRuns head first ⌝ }
 {
     BlockFields {
         head,
@@ -96,7 +95,7 @@ fn simple(head: [u8; 6], first: [u8; 6]) -> BlockFields
 
 // The fields of a block, by its tag: the table `layout` of Layouts, arm by arm.
 pub fn layout_of(tag: u32) -> BlockFields
-    ensures { λ r. ⌜ spelled r ≡ layout tag ⌝ }
+    ensures { λ r. ⌜ r ≡ encoded (layout tag) ⌝ }
 {
     match tag {
         0 => simple([ID, SET_ELEMENT, END, END, END, END], NONE),

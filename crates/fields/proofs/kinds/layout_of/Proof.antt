@@ -1,14 +1,14 @@
 -- `fields::kinds::layout_of` meets its contract: a tag that is matched computes; of the others no test holds. Assumes nothing.
-use mathlib.Core.Path.{_∙_}
+use mathlib.Core.Path.{ap, _∙_}
 use Rattle.wire.specs.Choice.{pick}
 use borrow.Author.Needs.{needs}
-use Rattle.fields.specs.Layouts.{layout, upToEnd}
+use Rattle.fields.specs.Layouts.{layout, padded, encoded}
 use Rattle.fields.proofs.Rows.{matched, unmatched}
 use Rattle.fields.proofs.kinds.layout_of.Statement.{statement}
 use Rattle.fields.proofs.kinds.layout_of.Tie as tie
 
 pub layout-of-spec : {M : Type 1} → statement M
-unfolding layout upToEnd pick
+unfolding layout padded pick
 layout-of-spec =
     tie.close
     (tie.spec
@@ -37,4 +37,4 @@ layout-of-spec =
     (λ c. matched (c .before .match .keys10) (c .simple5 .ensures))
     (λ c. matched (c .before .match .keys11) (c .simple6 .ensures))
     (λ c. matched (c .before .match .keys12) (c .simple7 .ensures))
-    (λ c. let n = c .before .match .rest in c .typed6 .ensures ∙ unmatched _ (n .0 .0 .0 .0 .0 .0 .0 .0 .0 .0 .0 .1) (n .0 .0 .0 .0 .0 .0 .0 .0 .0 .0 .1) (n .0 .0 .0 .0 .0 .0 .0 .0 .0 .1) (n .0 .0 .0 .0 .0 .0 .0 .0 .1) (n .0 .0 .0 .0 .0 .0 .0 .1) (n .0 .0 .0 .0 .0 .0 .1) (n .0 .0 .0 .0 .0 .1) (n .0 .0 .0 .0 .1) (n .0 .0 .0 .1) (n .0 .0 .1) (n .0 .1) (n .1)))
+    (λ c. let n = c .before .match .rest in c .typed6 .ensures ∙ ap encoded (unmatched _ (n .0 .0 .0 .0 .0 .0 .0 .0 .0 .0 .0 .1) (n .0 .0 .0 .0 .0 .0 .0 .0 .0 .0 .1) (n .0 .0 .0 .0 .0 .0 .0 .0 .0 .1) (n .0 .0 .0 .0 .0 .0 .0 .0 .1) (n .0 .0 .0 .0 .0 .0 .0 .1) (n .0 .0 .0 .0 .0 .0 .1) (n .0 .0 .0 .0 .0 .1) (n .0 .0 .0 .0 .1) (n .0 .0 .0 .1) (n .0 .0 .1) (n .0 .1) (n .1))))

@@ -1,12 +1,11 @@
 -- `fields::kinds::typed` meets its contract: both sides compute to the same. Assumes nothing.
 use mathlib.Core.Path.{refl}
-use Rattle.wire.specs.Choice.{pick}
-use Rattle.fields.specs.Layouts.{upToEnd}
+use Rattle.fields.specs.Layouts.{padded}
 use Rattle.fields.proofs.kinds.typed.Statement.{statement}
 use Rattle.fields.proofs.kinds.typed.Tie as tie
 
 returns : tie.Need-returns
-unfolding upToEnd pick
+unfolding padded
 returns c = refl
 
 pub typed-spec : {M : Type 1} → statement M
