@@ -90,7 +90,8 @@ pub record CodeOf (p c : ℕ) : Type 0 where
 unfoldable pub knownAt : ℕ → Known
 knownAt r = pick (ltb r 51) (known (layoutAt r)) unknown
 
--- where the layout of a type byte starts in the table of codes: the server's messages, and the client's
+-- where the layout of a type byte starts in the table of codes, 51 for one that the side does not know: the server's, the client's, and
+-- by the side
 unfoldable pub serverStart : ℕ → ℕ
 serverStart t =
     pick (eqb t 0x45) 0

@@ -83,7 +83,7 @@ unfolding uncrossed
 numbered-uncrossed unknown = lit< tt
 numbered-uncrossed (known l) = lit< tt
 
--- what is put out came from a list that crosses
+-- a list that does not cross puts nothing out
 uncrossed-put : {A : Type 0} (k : Known) (b : List ℕ) → uncrossed k ≡ putOut b → A
 unfolding uncrossed
 uncrossed-put unknown b = refuse 3 b

@@ -1,3 +1,4 @@
+-- `layout::start_of` meets its contract: each return follows the tests of the definition. Assumes nothing.
 use Rattle.wire.specs.Choice.{pick}
 use Rattle.layout.specs.Tables.{startOf}
 use borrow.Author.Tests.{eq-eqb, ne-eqb}
