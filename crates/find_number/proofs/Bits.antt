@@ -9,7 +9,7 @@ use lib.Dec.{T, eqb, ltb}
 use lib.ListN.{length, take, drop, getD}
 use lib.Seq.{take-all}
 use lib.Ieee.{Format, Float, binary32, binary64, ones, hid, top, ofBits, toBits, nanBits, isNan}
-use lib.Ieee.Bits.{toBits-ofBits, nanBits-is, nanBits-above}
+use lib.Ieee.Bits.{ofBits-fits, toBits-ofBits, nanBits-is, nanBits-above}
 use borrow.Author.Tests.{le-ltb, lt-ltb, eqb-true, ltb-true, ne-eqb, eq-eqb}
 use Rattle.wire.specs.Choice.{pick}
 use Rattle.wire.specs.Be.{be, beFrom}
@@ -18,7 +18,7 @@ use Rattle.plan.specs.Plan.{look}
 use Rattle.plan.proofs.Looks.{look-leaf}
 use Rattle.wire.proofs.Picks.{clash, pick-yes, pick-no, pick-case, pick-split, both}
 use Rattle.scalars.specs.Scalars.{sized, boolean, rules, scalar}
-use Rattle.find_number.specs.Number.{Numbered, unnumbered, numbered, integral, plainBits, Width, extended, ofFormat, ofNode, ofFound, numberOf, shown, Real, Gives}
+use Rattle.find_number.specs.Number.{Numbered, unnumbered, numbered, integral, plainBits, Width, extended, ofFormat, ofNode, ofFound, numberOf, shown, Plain, Proper, Gives}
 use Rattle.find_number.specs.declared.Number.{Number}
 use Rattle.find_number.specs.declared.Number.the-variants.{Refused, Integer, Truth, Single, Double, SingleNan, DoubleNan}
 
@@ -31,19 +31,23 @@ module _ (f : Format) (n : ℕ) (plain : n % top f ≤ ones f * hid f) where
   pub pattern-plain : T (not (nanBits f n))
   pattern-plain = rw no-nan tt
 
-  pub float-real : T (not (isNan (ofBits f n)))
-  float-real = rw (← nanBits-is f n, no-nan) tt
+  pub float-plain : Plain f (ofBits f n)
+  float-plain = (ofBits-fits f n, rw (← nanBits-is f n, no-nan) tt)
 
   pub float-bits : n < 2 * top f → toBits f (ofBits f n) ≡ n
-  float-bits h = toBits-ofBits f n h float-real
+  float-bits h = toBits-ofBits f n h (float-plain .1)
+
+-- a pattern above the infinity's is a NaN's
+pub pattern-nan : (f : Format) (n : ℕ) → ones f * hid f < n % top f → T (nanBits f n)
+pattern-nan f n above = rw (nanBits-above f n, lt-ltb (ones f * hid f) (n % top f) above) tt
 
 pub gives-single : (n : ℕ) → n % 2147483648 ≤ 2139095040 → n < 2 ^ 32 → Gives (numbered 6 n) (Single (ofBits binary32 n))
-unfolding shown Real
-gives-single n p h = record { is = ap (numbered 6) (float-bits binary32 n p (omega arith)); real = float-real binary32 n p }
+unfolding shown Proper
+gives-single n p h = record { is = ap (numbered 6) (float-bits binary32 n p (omega arith)); proper = float-plain binary32 n p }
 
 pub gives-double : (n : ℕ) → n % 9223372036854775808 ≤ 9218868437227405312 → n < 2 ^ 64 → Gives (numbered 7 n) (Double (ofBits binary64 n))
-unfolding shown Real
-gives-double n p h = record { is = ap (numbered 7) (float-bits binary64 n p (omega arith)); real = float-real binary64 n p }
+unfolding shown Proper
+gives-double n p h = record { is = ap (numbered 7) (float-bits binary64 n p (omega arith)); proper = float-plain binary64 n p }
 
 -- ---- integers, of any width: h is half of what w bytes hold
 
@@ -127,8 +131,8 @@ zero-or-one (suc (suc n)) l = absurd (omega arith)
 
 module _ (f : ℕ) (b : List ℕ) where
   pub gives-integer : integral f ≡ true → (m n : ℕ) → m ≡ be (take (length b) (drop 0 b)) → n ≡ extended (length b) m → Gives (ofFormat f b) (Integer f n)
-  unfolding ofFormat shown Real
-  gives-integer i m n em en = record { is = rw (i, en, em, whole-be (length b) b refl) (sym (pick-yes _ _ _ refl)); real = tt }
+  unfolding ofFormat shown Proper
+  gives-integer i m n em en = record { is = rw (i, en, em, whole-be (length b) b refl) (sym (pick-yes _ _ _ refl)); proper = i }
 
   -- a float's bits are all of its bytes
   pub gives-bits : (h n m : ℕ) (r : Number) → Gives (numbered h m) r → m ≡ be (take n (drop 0 b)) → length b ≡ n
@@ -137,14 +141,14 @@ module _ (f : ℕ) (b : List ℕ) where
   gives-bits h n m r g em e x i q = rw (x, i, q, ← whole-be n b e, ← em) g
 
   pub gives-truth : f ≡ 9 → length b ≡ 1 → be b < 2 → Gives (ofFormat f b) (Truth (eqb (getD b 0 0) 1))
-  unfolding ofFormat integral plainBits pick shown Real
+  unfolding ofFormat integral plainBits pick shown Proper
   gives-truth x e l =
       let o = one-be b e in
-      record { is = rw (x, o) (ap (numbered 9) (zero-or-one (getD b 0 0) (rw o at l))); real = tt }
+      record { is = rw (x, o) (ap (numbered 9) (zero-or-one (getD b 0 0) (rw o at l))); proper = tt }
 
   pub gives-none : integral f ≡ false → (f ≡ 6 → ⊥) → (f ≡ 7 → ⊥) → (f ≡ 9 → ⊥) → Gives (ofFormat f b) (Refused 37 0)
-  unfolding ofFormat plainBits pick shown Real
-  gives-none i x y z = record { is = rw (i, ne-eqb f 6 x, ne-eqb f 7 y, ne-eqb f 9 z); real = tt }
+  unfolding ofFormat plainBits pick shown Proper
+  gives-none i x y z = record { is = rw (i, ne-eqb f 6 x, ne-eqb f 7 y, ne-eqb f 9 z); proper = tt }
 
 -- ---- of a node that was found
 
@@ -155,7 +159,7 @@ module _ (p : List ℕ) (k : ℕ) (b : List ℕ) where
 
   -- a node of any other kind has no number
   pub gives-other : (getD p k 0 ≡ 1 → ⊥) → Gives (ofNode (look p k) b) (Refused 37 0)
-  unfolding look ofNode shown Real
+  unfolding look ofNode shown Proper
   gives-other n =
       let P : Node → Type 0 = λ v. Gives (ofNode v b) (Refused 37 0) in
       rw (ne-eqb (getD p k 0) 1 n)
@@ -168,7 +172,7 @@ module _ (p : List ℕ) (k : ℕ) (b : List ℕ) where
       (λ _. pick-case P _ _ _ (λ _. none-of _ refl) (λ _. none-of _ refl))))))))
     where
       none-of : (x : Numbered) → unnumbered 37 0 ≡ x → Gives x (Refused 37 0)
-      none-of x e = record { is = e; real = tt }
+      none-of x e = record { is = e; proper = tt }
 
 -- an integer has at most eight bytes
 pub width-few : (w : ℕ) → Width w → w ≤ 8

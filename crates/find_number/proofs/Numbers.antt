@@ -16,7 +16,7 @@ use Rattle.value.specs.Walk.{leafKind, leafGood}
 use Rattle.value.proofs.Members.{value-leaf}
 use Rattle.find.specs.Find.{Found, unfound, found as foundPart, partIn, numberIn, placeIn, nodeIn, Finds}
 use Rattle.find.proofs.Paths.{Accepts}
-use Rattle.find_number.specs.Number.{ofNode, ofFound, shown, Real, Gives}
+use Rattle.find_number.specs.Number.{ofNode, ofFound, shown, Proper, Gives}
 use Rattle.find_number.specs.declared.Number.{Number}
 use Rattle.find_number.specs.declared.Number.the-variants as number
 
@@ -34,8 +34,8 @@ scalar-permitted p k a e i base b f h =
 
 module _ (p : List ℕ) (part : List ℕ) (m place node start : ℕ) where
   pub number-refused : (x : Found) → Accepts p x → Finds x part m place node start → node ≡ 0 → Gives (ofFound p x) (number.Refused m place)
-  unfolding Accepts numberIn placeIn nodeIn ofFound shown Real
-  number-refused (unfound n q) a g z = record { is = rw (g .no-is, g .place-is); real = tt }
+  unfolding Accepts numberIn placeIn nodeIn ofFound shown Proper
+  number-refused (unfound n q) a g z = record { is = rw (g .no-is, g .place-is); proper = tt }
   number-refused (foundPart k at b) a g z = absurd (omega (arith, at-low p k (a .0), g .node-is, z))
 
   module _ (some : node ≡ 0 → ⊥) where

@@ -7,7 +7,7 @@ use mathlib.Core.List.{List}
 use mathlib.Core.Logic.{_⊎_}
 use lib.Dec.{T, eqb, ltb}
 use lib.ListN.{length}
-use lib.Ieee.{Float, binary32, binary64, toBits, isNan}
+use lib.Ieee.{Format, Float, binary32, binary64, fits, toBits, nanBits, isNan}
 use Rattle.wire.specs.Choice.{pick}
 use Rattle.wire.specs.Be.{be}
 use Rattle.rules.specs.Node.{Node, leaf, enum, row, arrays, tuple, object, sparse, range}
@@ -72,16 +72,21 @@ shown (Double x) = numbered 7 (toBits binary64 x)
 shown (SingleNan b) = numbered 6 b
 shown (DoubleNan b) = numbered 7 b
 
--- a float case holds no NaN: those have cases of their own, since a float keeps no NaN's bits
-unfoldable pub Real : Number → Type 0
-Real (Refused n q) = Unit {0}
-Real (Integer f b) = Unit {0}
-Real (Truth b) = Unit {0}
-Real (Single x) = T (not (isNan x))
-Real (Double x) = T (not (isNan x))
-Real (SingleNan b) = Unit {0}
-Real (DoubleNan b) = Unit {0}
+-- a value that a float of the format holds, and no NaN
+abbrev pub Plain : Format → Float → Type 0
+Plain f x = (T (fits f x)) × (T (not (isNan x)))
+
+-- Each case holds only what is its own, so that one answer alone shows a number (proofs/Answers: `one-answer`): an integer has an integer's format;
+-- a float's case holds no NaN, and a NaN's case the bits of a NaN, since a float keeps no NaN's bits.
+unfoldable pub Proper : Number → Type 0
+Proper (Refused n q) = Unit {0}
+Proper (Integer f b) = integral f ≡ true
+Proper (Truth b) = Unit {0}
+Proper (Single x) = Plain binary32 x
+Proper (Double x) = Plain binary64 x
+Proper (SingleNan b) = T (nanBits binary32 b)
+Proper (DoubleNan b) = T (nanBits binary64 b)
 
 pub record Gives (x : Numbered) (r : Number) : Type 0 where
   pub is : shown r ≡ x
-  pub real : Real r
+  pub proper : Proper r

@@ -5,7 +5,7 @@ ghost use Prim.Native.Nat.{_+_, _-_, _*_, _≤_};
 ghost use lib.Dec.{T};
 ghost use lib.Ieee.{binary32, toBits, isNan};
 ghost use lib.ListN.{length, take, drop};
-ghost use Rattle.find_number.specs.Number.{unnumbered, numbered, numberOf, Real, shown};
+ghost use Rattle.find_number.specs.Number.{unnumbered, numbered, numberOf, Proper, shown};
 ghost use Rattle.crossing.specs.Crossing.{crosses};
 ghost use Rattle.panel_number.specs.Numbers.{numberFrom, numberAnswer};
 
@@ -52,7 +52,7 @@ fn single_bits(x: f32) -> u32
 
 // The format and the bits of a number, or a refusal.
 fn number_answer(number: find_number::Number) -> Number
-    requires { ⌜ Real number ⌝ }
+    requires { ⌜ Proper number ⌝ }
     ensures { λ r. ⌜ r ≡ numberAnswer (shown number) ⌝ }
 {
     match number {

@@ -2,7 +2,7 @@
 use mathlib.Core.Path.{_≡_, refl, sym, _∙_, ap}
 use mathlib.Core.Bool.{cond}
 use native.Mathlib.Omega.{arith}
-use Rattle.find_number.specs.Number.{Real, shown}
+use Rattle.find_number.specs.Number.{Proper, shown}
 use Rattle.panel_number.specs.Numbers.{numberAnswer}
 use borrow.Author.Needs.{needs}
 use Rattle.panel_number.proofs.number_answer.Statement.{statement}
@@ -38,8 +38,8 @@ enum-known-number-4 : tie.Need-enum-known-number-4
 enum-known-number-4 c = search needs
 
 single-bits-requires : tie.Need-single-bits-requires
-unfolding Real
-single-bits-requires c κs = rw (c .before .number4 .given .1) at (c .before .before .before .pre)
+unfolding Proper
+single-bits-requires c κs = (rw (c .before .number4 .given .1) at (c .before .before .before .pre)) .1
 
 cast-known : tie.Need-cast-known
 cast-known c = search needs
@@ -51,8 +51,8 @@ enum-known-number-5 : tie.Need-enum-known-number-5
 enum-known-number-5 c = search needs
 
 float-to-bits-known : tie.Need-float-to-bits-known
-unfolding Real
-float-to-bits-known c = rw (c .before .number5 .given .1) at (c .before .before .before .pre)
+unfolding Proper
+float-to-bits-known c = (rw (c .before .number5 .given .1) at (c .before .before .before .pre)) .1
 
 known-requires-5 : tie.Need-known-requires-5
 known-requires-5 c κs = search needs

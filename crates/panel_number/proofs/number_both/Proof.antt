@@ -28,7 +28,7 @@ find-number-requires : tie.Need-find-number-requires
 find-number-requires c κs = search needs
 
 number-answer-requires : tie.Need-number-answer-requires
-number-answer-requires c κs = c .find-number .ensures .real
+number-answer-requires c κs = c .find-number .ensures .proper
 
 returns : tie.Need-returns
 returns c = c .number-answer .ensures ∙ ap numberAnswer (c .before .find-number .ensures .is)
