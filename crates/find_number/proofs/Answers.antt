@@ -1,8 +1,8 @@
 -- A contract of the number leaves one answer. Assumes nothing.
 use mathlib.Core.Path.{_≡_, refl, ap, sym, _∙_}
-use mathlib.Core.Bool.{Bool, true, false, not, cond}
+use mathlib.Core.Bool.{Bool, true, false, cond}
 use Prim.Native.Nat.{ℕ}
-use lib.Dec.{T, eqb}
+use lib.Dec.{eqb}
 use lib.Ieee.{Format, Float, binary32, binary64, ofBits, toBits, nanBits, isNan}
 use lib.Ieee.Bits.{is-true, is-false, ofBits-toBits, nanBits-is}
 use Rattle.wire.specs.Choice.{pick}
