@@ -1,8 +1,8 @@
 -- The laws of the call: what a check says of the value, and where its path then leads. Assumes nothing.
-use mathlib.Core.Path.{_≡_, refl, ap, sym, _∙_}
+use mathlib.Core.Path.{_≡_, refl, ap, _∙_}
 use mathlib.Core.Bool.{Bool, true, false}
 use mathlib.Core.List.{List, []}
-use Prim.Native.Nat.{ℕ, _+_, _^_, _<_, _≤_}
+use Prim.Native.Nat.{ℕ, _^_, _<_, _≤_}
 use native.Mathlib.Omega.{arith}
 use lib.Dec.{eqb, ltb}
 use lib.ListN.{length, getD}
@@ -17,7 +17,7 @@ use Rattle.run.specs.Run.{nothingIn, valueBy, checked, Checks}
 use Rattle.run.specs.declared.Answer.{Answer}
 use Rattle.run.specs.declared.Answer.the-variants.{Refused, Listed}
 use Rattle.run.proofs.Runs.{found, turned-down}
-use Rattle.find.specs.Find.{topOf, follow, Found, unfound, found as foundPart, foundAt, foundIn, findOf, partIn, numberIn, placeIn, nodeIn, startIn, Finds}
+use Rattle.find.specs.Find.{topOf, follow, foundAt, foundIn, findOf, refusedNo, refusedPlace, partIn, numberIn, placeIn, nodeIn, startIn, Finds}
 use Rattle.find.specs.Descent.{descend}
 use Rattle.find.proofs.Paths.{follow-nowhere, Accepts, Led, leads}
 
@@ -61,10 +61,12 @@ module _ (p s : List ℕ) (f : Forest) (e : checked p s ≡ listed f) where
     led path = leads p s (passed p s f e .few) path r a 0 0 s f (omega arith) (stands-self s) root-listed
 
 module _ (p s : List ℕ) (a : Answer) (k k′ : List ℕ) (c : Checks (length s) (checked p s) a k k′) where
-  pub finds-refused : (path : List ℕ) (n q : ℕ) → a ≡ Refused n q → Finds (findOf p s path) [] n q 0 0
-  unfolding findOf foundIn partIn numberIn placeIn nodeIn startIn
-  finds-refused path n q e =
-      rw (turned-down _ _ a k k′ c n q e) (record { part-is = refl; no-is = refl; place-is = refl; node-is = refl; start-is = refl })
+  pub finds-refused : (path : List ℕ) (n q : ℕ) → a ≡ Refused n q → (m place : ℕ) → m ≡ refusedNo a → place ≡ refusedPlace a
+      → Finds (findOf p s path) [] m place 0 0
+  unfolding refusedNo refusedPlace findOf foundIn partIn numberIn placeIn nodeIn startIn
+  finds-refused path n q e m place em ep =
+      rw (turned-down _ _ a k k′ c n q e)
+      (record { part-is = refl; no-is = em ∙ ap refusedNo e; place-is = ep ∙ ap refusedPlace e; node-is = refl; start-is = refl })
 
   module _ (w : ℕ) (e : a ≡ Listed w) where
     abbrev pub forest : Forest

@@ -1,18 +1,18 @@
 -- The laws of a search among a container's heads. Assumes nothing.
-use mathlib.Core.Path.{_≡_, refl, ap, sym, _∙_}
+use mathlib.Core.Path.{_≡_, refl, sym, _∙_}
 use mathlib.Core.Bool.{Bool, true, false}
-use mathlib.Core.List.{List, []}
+use mathlib.Core.List.{List, [], _∷_}
 use mathlib.Core.Logic.{⊎-elim}
-use mathlib.Core.Option.{Option, none, some}
+use mathlib.Core.Option.{some}
 use Prim.Native.Nat.{ℕ, zero, suc, _+_, _-_, _^_, _<_, _≤_}
 use native.Mathlib.Omega.{arith}
+use denote.Enum.Declared.{tagOf}
+use types.Run.{OneOf}
 use lib.Dec.{eqb}
 use lib.ListN.{length, getD}
-use borrow.Author.Tests.{eqb-true}
 use Rattle.wire.specs.Choice.{pick}
 use Rattle.wire.proofs.Picks.{pick-case, pick-yes, pick-no, same-or-not}
 use Rattle.heads.specs.Heads.{word, optional, requires, sparseIndex, sparseHead, Inside, endOf, indexOf}
-use Rattle.heads.specs.Bounds.{Indexed, Fresh}
 use Rattle.heads.specs.Faults.{indexFault}
 use Rattle.heads.specs.declared.Head.{Head}
 use Rattle.heads.specs.declared.Head.the-variants.{Present, Absent, Fault}
@@ -20,8 +20,9 @@ use Rattle.heads.specs.declared.Index.{Index}
 use Rattle.heads.specs.declared.Index.the-variants.{Known, Bad}
 use Rattle.heads.specs.declared.Opening.{Opening}
 use Rattle.heads.specs.declared.Opening.the-variants.{Elements, Wrong}
-use Rattle.heads.proofs.Bounds.{plain-inside, object-inside, envelope-inside, sparse-inside, inside-end, plain-index, object-index, envelope-index, sparse-index-below, count-opened}
-use Rattle.rules.specs.Node.{Node, leaf, enum, row, arrays, tuple, object, sparse, range, refAt}
+use Rattle.heads.proofs.Head.{the-type}
+use Rattle.heads.proofs.Bounds.{plain-inside, object-inside, envelope-inside, sparse-inside, inside-end, count-opened}
+use Rattle.rules.specs.Node.{Node, leaf, enum, row, arrays, tuple, object, sparse, range}
 use Rattle.rules.specs.Values.{rowHead, openingOf}
 use Rattle.plan.specs.Plan.{look, refsAt, cardsAt, At}
 use Rattle.plan.specs.Readers.{Refers, KindAt}
@@ -30,7 +31,7 @@ use Rattle.plan.proofs.Refs.{kind-gives}
 use Rattle.value.specs.Walk.{IsRow, Container, HeadIn, leafKind}
 use Rattle.value.proofs.Nodes.{scalar-kind, head-bad, head-new}
 use Rattle.value.proofs.Members.{is-row, opening-holds, opened, row-headed, sparse-headed, present-in, inner-kind}
-use Rattle.find.specs.Descent.{headAt, ends, seek, seekIn, childHead}
+use Rattle.find.specs.Descent.{headAt, ends, seek, seekIn, childHead, lostAt}
 
 -- ---- the next head, by the node's kind
 
@@ -194,3 +195,21 @@ module _ (p : List ℕ) (k : ℕ) (a : At p k) (s : List ℕ) where
       go : (b : Bool) → leafKind (getD p k 0) ≡ b → Is h
       go true l = rw (e, ← child-leaf p k s w (getD p k 0) kind l) (faulty 35)
       go false l = rw e (inner (getD p k 0) (inner-kind p k (getD p k 0) kind l) w (openingOf (look p k) s) refl)
+
+-- ---- what a head says of the search
+
+-- one that is no fault ends it by its index
+pub ends-index : (w : ℕ) (h : Head) → OneOf (0 ∷ 1 ∷ []) (tagOf the-type h) → eqb (indexOf h) w ≡ ends w h
+unfolding indexOf ends
+ends-index w (Present i start size) q = refl
+ends-index w (Absent i start) q = refl
+ends-index w (Fault n) q =
+    ⊎-elim (λ (z : _≡_ {A = ℕ} 2 0). absurd (omega arith)) (λ (z : _≡_ {A = ℕ} 2 1). absurd (omega arith)) q
+
+-- one that is not absent is named by no path
+pub lost-none : (m : ℕ) (h : Head) → OneOf (0 ∷ 2 ∷ []) (tagOf the-type h) → 35 ≡ lostAt h m
+unfolding lostAt
+lost-none m (Present i start size) q = refl
+lost-none m (Absent i start) q =
+    ⊎-elim (λ (z : _≡_ {A = ℕ} 1 0). absurd (omega arith)) (λ (z : _≡_ {A = ℕ} 1 2). absurd (omega arith)) q
+lost-none m (Fault n) q = refl

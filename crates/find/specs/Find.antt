@@ -10,6 +10,8 @@ use Rattle.heads.specs.Heads.{gone}
 use Rattle.rules.specs.Forest.{Entry, Forest, empty, tree}
 use Rattle.rules.specs.Values.{Outcome, refused, listed}
 use Rattle.run.specs.Run.{checked}
+use Rattle.run.specs.declared.Answer.{Answer}
+use Rattle.run.specs.declared.Answer.the-variants.{Refused, Listed}
 
 -- no entry; or one, with those below it
 pub data Spot : Type 0 where
@@ -59,6 +61,15 @@ unfoldable pub findOf : List ℕ → List ℕ → List ℕ → Found
 findOf p s path = foundIn s path (checked p s)
 
 -- ---- what the call answers
+
+-- the number and the place of a run that refuses the value
+unfoldable pub refusedNo : Answer → ℕ
+refusedNo (Refused n p) = n
+refusedNo (Listed w) = 0
+
+unfoldable pub refusedPlace : Answer → ℕ
+refusedPlace (Refused n p) = p
+refusedPlace (Listed w) = 0
 
 -- "A refusal returns number and place, all else zero"; on success both are 0
 unfoldable pub numberIn : Found → ℕ

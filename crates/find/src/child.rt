@@ -32,15 +32,10 @@ fn head_at(plan: &[u32], node: usize, kind: u32, part: &[u8], i: usize, at: usiz
 fn ends_search(head: Head, wanted: usize) -> bool
     ensures { λ r. ⌜ r ≡ ends wanted head ⌝ }
 {
-    match head {
-        Head::Fault(_) => true,
-        Head::Absent { index, start: _ } => index == wanted,
-        Head::Present {
-            index,
-            start: _,
-            size: _,
-        } => index == wanted,
-    }
+    let Head::Fault(_) = head else {
+        return heads::parts::index_of(head) == wanted;
+    };
+    true
 }
 
 // The head of the element with an index, among those that are left.

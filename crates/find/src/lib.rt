@@ -6,27 +6,20 @@ ghost use mathlib.Core.Path.{_≡_};
 ghost use Prim.Native.Nat.{ℕ, _+_, _≤_};
 ghost use lib.ListN.{length};
 ghost use Rattle.plan.specs.Plan.{look, At};
-ghost use Rattle.find.specs.Find.{findOf, Finds};
+ghost use Rattle.find.specs.Find.{findOf, refusedNo, refusedPlace, Finds};
 ghost use Rattle.find.specs.Descent.{descend, lostAt};
 
 // The number of a path that leads to no present element: it ends at an absent one, or it names none.
 fn lost_number(head: Head, length: usize) -> u32
     ensures { λ r. ⌜ r ≡ lostAt head length ⌝ }
 {
-    match head {
-        Head::Absent { index: _, start: _ } => {
-            if length == 1 {
-                return 36;
-            }
-            35
-        }
-        Head::Fault(_) => 35,
-        Head::Present {
-            index: _,
-            start: _,
-            size: _,
-        } => 35,
+    let Head::Absent { index: _, start: _ } = head else {
+        return 35;
+    };
+    if length == 1 {
+        return 36;
     }
+    35
 }
 
 // What the path leads to from a value of a node; places count from `base`.
@@ -69,6 +62,26 @@ fn down<'v>(
     down(plan, child, place, bytes, rest, no, to, start)
 }
 
+// The number of a run's refusal, or 0.
+fn refused_no(answer: run::Answer) -> u32
+    ensures { λ r. ⌜ r ≡ refusedNo answer ⌝ }
+{
+    let run::Answer::Refused { no, place: _ } = answer else {
+        return 0;
+    };
+    no
+}
+
+// Its place.
+fn refused_place(answer: run::Answer) -> u32
+    ensures { λ r. ⌜ r ≡ refusedPlace answer ⌝ }
+{
+    let run::Answer::Refused { no: _, place } = answer else {
+        return 0;
+    };
+    place
+}
+
 // The element that a path leads to, as a part of the value; its node and start, or number and place of a refusal, go out through the
 // last four.
 pub fn find<'v>(
@@ -83,24 +96,21 @@ pub fn find<'v>(
     ensures { λ r. ⌜ Finds (findOf (now (plan .entry)) (now (value .entry)) (now (path .entry))) (now r) (now (no .exit)) (now (place .exit)) (now (node .exit)) (now (start .exit)) ⌝ }
 {
     let mut none = [0u32; 0];
-    match run::check(plan, value, &mut none) {
-        run::Answer::Refused { no: n, place: p } => {
-            *no = n;
-            *place = p;
-            *node = 0;
-            *start = 0;
-            &value[0..0]
-        }
-        run::Answer::Listed { words: _ } => {
-            *place = 0;
-            if formed::no_type(plan) {
-                *no = 35;
-                *node = 0;
-                *start = 0;
-                return &value[0..0];
-            }
-            let root = plan::node::root_of(plan);
-            down(plan, root, 0, value, path, no, node, start)
-        }
+    let answer = run::check(plan, value, &mut none);
+    let run::Answer::Listed { words: _ } = answer else {
+        *no = refused_no(answer);
+        *place = refused_place(answer);
+        *node = 0;
+        *start = 0;
+        return &value[0..0];
+    };
+    *place = 0;
+    if formed::no_type(plan) {
+        *no = 35;
+        *node = 0;
+        *start = 0;
+        return &value[0..0];
     }
+    let root = plan::node::root_of(plan);
+    down(plan, root, 0, value, path, no, node, start)
 }

@@ -1,5 +1,5 @@
 -- `find::find` meets its contract. Assumes nothing.
-use mathlib.Core.Path.{_≡_, refl, sym, _∙_, ap}
+use mathlib.Core.Path.{sym, _∙_}
 use native.Mathlib.Omega.{arith}
 use Rattle.find.proofs.Calls.{finds-refused, sound, finds-nothing, finds-down}
 use borrow.Author.Needs.{needs}
@@ -12,8 +12,17 @@ slice-aggregate-check c = search needs
 check-requires : tie.Need-check-requires
 check-requires c κs = search needs
 
-enum-known-n : tie.Need-enum-known-n
-enum-known-n c = search needs
+enum-told : tie.Need-enum-told
+enum-told c = search needs
+
+enum-told-2 : tie.Need-enum-told-2
+enum-told-2 c = search needs
+
+refused-no-requires : tie.Need-refused-no-requires
+refused-no-requires c κs = search needs
+
+refused-place-requires : tie.Need-refused-place-requires
+refused-place-requires c κs = search needs
 
 sub-result : tie.Need-sub-result
 sub-result c = search needs
@@ -24,8 +33,9 @@ part-result-start c = search needs
 part-result-end : tie.Need-part-result-end
 part-result-end c = search needs
 
-enum-told : tie.Need-enum-told
-enum-told c = search needs
+returns : tie.Need-returns
+returns c =
+    finds-refused _ _ _ _ _ (c .before .before .before .before .before .before .check .ensures) _ _ _ (c .before .before .before .enum-told2 .given .1) _ _ (c .before .before .refused-no .ensures) (c .before .refused-place .ensures)
 
 no-type-requires : tie.Need-no-type-requires
 no-type-requires c κs = search needs
@@ -39,8 +49,8 @@ part-result-start-2 c = search needs
 part-result-end-2 : tie.Need-part-result-end-2
 part-result-end-2 c = search needs
 
-returns : tie.Need-returns
-returns c =
+returns-2 : tie.Need-returns-2
+returns-2 c =
     finds-nothing _ _ _ _ _ (c .before .before .before .before .before .before .check .ensures) _ (c .before .before .before .enum-told .given .1) _ (sym (c .before .before .no-type .ensures) ∙ c .before .if1 .taken)
 
 root-of-requires : tie.Need-root-of-requires
@@ -50,10 +60,6 @@ root-of-requires c κs =
 down-requires : tie.Need-down-requires
 down-requires c κs =
     (c .before .before .before .root-of .ensures .1, omega (arith, sound _ _ _ _ _ (c .before .before .before .before .before .before .before .before .before .check .ensures) _ (c .before .before .before .before .before .before .enum-told .given .1) .few))
-
-returns-2 : tie.Need-returns-2
-returns-2 c =
-    finds-refused _ _ _ _ _ (c .before .before .before .before .before .check .ensures) _ _ _ (c .before .before .n .given .1)
 
 returns-3 : tie.Need-returns-3
 returns-3 c =
@@ -65,17 +71,19 @@ find-spec =
     (tie.spec
     slice-aggregate-check
     check-requires
-    enum-known-n
+    enum-told
+    enum-told-2
+    refused-no-requires
+    refused-place-requires
     sub-result
     part-result-start
     part-result-end
-    enum-told
+    returns
     no-type-requires
     sub-result-2
     part-result-start-2
     part-result-end-2
-    returns
+    returns-2
     root-of-requires
     down-requires
-    returns-2
     returns-3)
