@@ -53,7 +53,7 @@ module _ (p s : List ℕ) (f : Forest) (e : checked p s ≡ listed f) where
   nothing-listed n = none-listed (eqb (length s) 0) f (rw n at (passed p s f e .value))
 
   module _ (n : noType p ≡ false) (r : ℕ) (er : r ≡ getD p 1 0) (a : At p r) where
-    root-listed : valueOf (look p) r 0 0 s ≡ listed f
+    pub root-listed : valueOf (look p) r 0 0 s ≡ listed f
     unfolding valueBy pick
     root-listed = rw (n, ← er) at (passed p s f e .value)
 

@@ -4,3 +4,4 @@ pub mod Descents
 pub mod Paths
 pub mod Calls
 pub mod Entries
+pub mod Indexes

@@ -4,15 +4,13 @@ use mathlib.Core.Bool.{Bool, true, false}
 use mathlib.Core.List.{List, [], _∷_}
 use mathlib.Core.Logic.{_⊎_, inl, inr, ⊎-elim}
 use mathlib.Core.Option.{Option, none, some}
-use Prim.Native.Nat.{ℕ, zero, suc, _+_, _-_, _^_, _<_, _≤_}
+use Prim.Native.Nat.{ℕ, zero, suc, _+_, _-_, _≤_}
 use native.Mathlib.Omega.{arith}
 use lib.Dec.{eqb, leb, ltb}
 use lib.ListN.{length, take, drop, getD, length-take, length-drop}
 use borrow.Author.Tests.{eq-eqb, ne-eqb}
 use Rattle.wire.specs.Choice.{pick}
-use Rattle.wire.proofs.Picks.{pick-yes, pick-no}
 use Rattle.heads.specs.Heads.{gone, word, sparseIndex, sparseRest, sparseHead, endOf, indexOf}
-use Rattle.heads.specs.Faults.{headFault}
 use Rattle.heads.specs.declared.Index.the-variants.{Known, Bad}
 use Rattle.heads.specs.declared.Head.{Head}
 use Rattle.heads.specs.declared.Head.the-variants.{Present, Absent, Fault}
@@ -32,11 +30,11 @@ use Rattle.find.specs.Descent.{headAt, ends, seek, seekIn, childHead, mi
 
 -- ---- an accepted value is one tree, whose entry is its own
 
-record Own (e : Entry) (f : Forest) : Type 0 where
-  below : Forest
-  is : f ≡ tree e below empty
+pub record Own (e : Entry) (f : Forest) : Type 0 where
+  pub below : Forest
+  pub is : f ≡ tree e below empty
 
-abbrev Owns : Rule → Type 0
+abbrev pub Owns : Rule → Type 0
 Owns rule = (k i base : ℕ) (s : List ℕ) (f : Forest) → rule k i base s ≡ listed f → Own (entryOf k i base (length s)) f
 
 under-own : (e : Entry) (o : Outcome) (f : Forest) → under e o ≡ listed f → Own e f
@@ -75,7 +73,7 @@ unfolding value
 value-own look zero k i base s f h = let z : _≡_ {A = ℕ} 0 1 = cc in absurd (omega arith)
 value-own look (suc g) k i base s f h = node-own (look k) (value look g) k i base s f h
 
-owns : (look : ℕ → Node) → Owns (valueOf look)
+pub owns : (look : ℕ → Node) → Owns (valueOf look)
 unfolding valueOf
 owns look = value-own look _
 
@@ -88,13 +86,13 @@ Sought rule ref base s w f h =
 
 module _ (rule : Rule) (own : Owns rule) (ref : ℕ → Option ℕ) (base : ℕ) (s : List ℕ) where
   -- a member that is listed is one tree with its head's index
-  record Member (h : Head) (g : Forest) : Type 0 where
-    entry : Entry
-    inner : Forest
-    is : g ≡ tree entry inner empty
-    index-is : entry .index ≡ indexOf h
-    ends-is : (w : ℕ) → ends w h ≡ eqb (indexOf h) w
-    no-fault : (n : ℕ) → h ≡ Fault n → ⊥
+  pub record Member (h : Head) (g : Forest) : Type 0 where
+    pub entry : Entry
+    pub inner : Forest
+    pub is : g ≡ tree entry inner empty
+    pub index-is : entry .index ≡ indexOf h
+    pub ends-is : (w : ℕ) → ends w h ≡ eqb (indexOf h) w
+    pub no-fault : (n : ℕ) → h ≡ Fault n → ⊥
 
   absent-listed : (o : Option ℕ) (i start : ℕ) (g : Forest) → absent o i start ≡ listed g → (e : Entry) × (g ≡ tree e empty empty) × (e .index ≡ i)
   unfolding absent
@@ -106,7 +104,7 @@ module _ (rule : Rule) (own : Owns rule) (ref : ℕ → Option ℕ) (base : ℕ)
   present-listed none i start b g e = let z : _≡_ {A = ℕ} 0 1 = cc in absurd (omega arith)
   present-listed (some k) i start b g e = let w = own k i start b g e in (entryOf k i start (length b), w .below, w .is, refl)
 
-  member-listed : (h : Head) (g : Forest) → member rule ref base s h ≡ listed g → Member h g
+  pub member-listed : (h : Head) (g : Forest) → member rule ref base s h ≡ listed g → Member h g
   unfolding member indexOf ends
   member-listed (Fault n) g e = let z : _≡_ {A = ℕ} 0 1 = cc in absurd (omega arith)
   member-listed (Absent i start) g e = let w = absent-listed (ref i) i (base + start) g e in record { entry = w .0; inner = empty; is = w .1; index-is = w .2; ends-is = λ w. refl; no-fault = λ n x. let z : _≡_ {A = ℕ} 0 1 = cc in absurd (omega arith) }
@@ -114,13 +112,13 @@ module _ (rule : Rule) (own : Owns rule) (ref : ℕ → Option ℕ) (base : ℕ)
       let w = present-listed (ref i) i (base + start) _ g e in record { entry = w .0; inner = w .1; is = w .2; index-is = w .3; ends-is = λ w. refl; no-fault = λ n x. let z : _≡_ {A = ℕ} 0 1 = cc in absurd (omega arith) }
 
   -- the first member and the rest
-  then-listed : (a b : Outcome) (f : Forest) → then a b ≡ listed f → (g g′ : Forest) × (a ≡ listed g) × (b ≡ listed g′) × (f ≡ append g g′)
+  pub then-listed : (a b : Outcome) (f : Forest) → then a b ≡ listed f → (g g′ : Forest) × (a ≡ listed g) × (b ≡ listed g′) × (f ≡ append g g′)
   unfolding then
   then-listed (refused n p) b f e = let z : _≡_ {A = ℕ} 0 1 = cc in absurd (omega arith)
   then-listed (listed g) (refused n p) f e = let z : _≡_ {A = ℕ} 0 1 = cc in absurd (omega arith)
   then-listed (listed g) (listed g′) f e = (g, g′, refl, refl, cc)
 
-  done-listed : (a b : Bool) (f : Forest) → pick a (pick b (refused 27 base) (listed empty)) (refused 21 base) ≡ listed f → f ≡ empty
+  pub done-listed : (a b : Bool) (f : Forest) → pick a (pick b (refused 27 base) (listed empty)) (refused 21 base) ≡ listed f → f ≡ empty
   unfolding pick
   done-listed true true f x = let z : _≡_ {A = ℕ} 0 1 = cc in absurd (omega arith)
   done-listed true false f x = cc
@@ -183,7 +181,7 @@ record Inner (rule : Rule) (v : Node) (base : ℕ) (s : List ℕ) (e : Entry) (f
   is : f ≡ tree e below empty
   sought-in : (w : ℕ) → Sought rule (refAt v) base s w below (childHead v s w)
 
-under-listed : (e : Entry) (o : Outcome) (f : Forest) → under e o ≡ listed f → (g : Forest) × (o ≡ listed g) × (f ≡ tree e g empty)
+pub under-listed : (e : Entry) (o : Outcome) (f : Forest) → under e o ≡ listed f → (g : Forest) × (o ≡ listed g) × (f ≡ tree e g empty)
 unfolding under
 under-listed e (refused n p) f h = let z : _≡_ {A = ℕ} 0 1 = cc in absurd (omega arith)
 under-listed e (listed g) f h = (g, refl, cc)
