@@ -8,11 +8,10 @@ use Prim.Native.Nat.{ℕ, zero, suc, _+_, _-_, _^_, _<_, _≤_}
 use native.Mathlib.Omega.{arith}
 use denote.Enum.Declared.{tagOf}
 use types.Run.{OneOf}
-use lib.Dec.{eqb}
 use lib.ListN.{length, getD}
 use Rattle.wire.specs.Choice.{pick}
 use Rattle.wire.proofs.Picks.{pick-case, pick-yes, pick-no, same-or-not}
-use Rattle.heads.specs.Heads.{word, optional, requires, sparseIndex, sparseHead, Inside, endOf, indexOf}
+use Rattle.heads.specs.Heads.{word, optional, requires, sparseIndex, sparseHead, Inside, endOf}
 use Rattle.heads.specs.Faults.{indexFault}
 use Rattle.heads.specs.declared.Head.{Head}
 use Rattle.heads.specs.declared.Head.the-variants.{Present, Absent, Fault}
@@ -198,13 +197,14 @@ module _ (p : List ℕ) (k : ℕ) (a : At p k) (s : List ℕ) where
 
 -- ---- what a head says of the search
 
--- one that is no fault ends it by its index
-pub ends-index : (w : ℕ) (h : Head) → OneOf (0 ∷ 1 ∷ []) (tagOf the-type h) → eqb (indexOf h) w ≡ ends w h
-unfolding indexOf ends
-ends-index w (Present i start size) q = refl
-ends-index w (Absent i start) q = refl
-ends-index w (Fault n) q =
-    ⊎-elim (λ (z : _≡_ {A = ℕ} 2 0). absurd (omega arith)) (λ (z : _≡_ {A = ℕ} 2 1). absurd (omega arith)) q
+-- one that is neither present nor absent ends it
+pub ends-fault : (w : ℕ) (h : Head) → OneOf (1 ∷ 2 ∷ []) (tagOf the-type h) → OneOf (0 ∷ 2 ∷ []) (tagOf the-type h) → true ≡ ends w h
+unfolding ends
+ends-fault w (Present i start size) p q =
+    ⊎-elim (λ (z : _≡_ {A = ℕ} 0 1). absurd (omega arith)) (λ (z : _≡_ {A = ℕ} 0 2). absurd (omega arith)) p
+ends-fault w (Absent i start) p q =
+    ⊎-elim (λ (z : _≡_ {A = ℕ} 1 0). absurd (omega arith)) (λ (z : _≡_ {A = ℕ} 1 2). absurd (omega arith)) q
+ends-fault w (Fault n) p q = refl
 
 -- one that is not absent is named by no path
 pub lost-none : (m : ℕ) (h : Head) → OneOf (0 ∷ 2 ∷ []) (tagOf the-type h) → 35 ≡ lostAt h m

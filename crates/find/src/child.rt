@@ -32,10 +32,18 @@ fn head_at(plan: &[u32], node: usize, kind: u32, part: &[u8], i: usize, at: usiz
 fn ends_search(head: Head, wanted: usize) -> bool
     ensures { λ r. ⌜ r ≡ ends wanted head ⌝ }
 {
-    let Head::Fault(_) = head else {
-        return heads::parts::index_of(head) == wanted;
+    let Head::Present {
+        index,
+        start: _,
+        size: _,
+    } = head
+    else {
+        let Head::Absent { index: i, start: _ } = head else {
+            return true;
+        };
+        return i == wanted;
     };
-    true
+    index == wanted
 }
 
 // The head of the element with an index, among those that are left.

@@ -1,22 +1,27 @@
 -- `find::child::ends_search` meets its contract. Assumes nothing.
 use Rattle.find.specs.Descent.{ends}
-use Rattle.find.proofs.Seeks.{ends-index}
+use Rattle.find.proofs.Seeks.{ends-fault}
 use borrow.Author.Needs.{needs}
 use Rattle.find.proofs.child.ends_search.Statement.{statement}
 use Rattle.find.proofs.child.ends_search.Tie as tie
 
-enum-told : tie.Need-enum-told
-enum-told c = search needs
+enum-known-head : tie.Need-enum-known-head
+enum-known-head c = search needs
 
-index-of-requires : tie.Need-index-of-requires
-index-of-requires c κs = search needs
+enum-known-head-2 : tie.Need-enum-known-head-2
+enum-known-head-2 c = search needs
 
 returns : tie.Need-returns
-returns c = rw (c .index-of .ensures) (ends-index _ _ (c .before .match .keys2))
+returns c = ends-fault _ _ (c .before .match .keys2) (c .match2 .keys2)
 
 returns-2 : tie.Need-returns-2
 unfolding ends
-returns-2 c = rw (c .enum-told .given .1)
+returns-2 c = rw (c .before .head2 .given .1)
+
+returns-3 : tie.Need-returns-3
+unfolding ends
+returns-3 c = rw (c .before .head .given .1)
 
 pub ends-search-spec : {M : Type 1} → statement M
-ends-search-spec = tie.close (tie.spec enum-told index-of-requires returns returns-2)
+ends-search-spec =
+    tie.close (tie.spec enum-known-head enum-known-head-2 returns returns-2 returns-3)
