@@ -31,7 +31,8 @@ after [] n = []
 after (l ∷ ls) zero = l ∷ ls
 after (l ∷ ls) (suc n) = after ls (l .below + n)
 
--- of n entries side by side, the one that has an index, with all that comes after it; nothing if none has
+-- of n entries side by side, the first that has an index, with all that comes after it; nothing if none has. In an accepted value's list no
+-- two have the same (proofs/Indexes: `listed-distinct`).
 unfoldable pub among : ℕ → ℕ → List Line → List Line
 among i zero ls = []
 among i (suc n) [] = []
