@@ -1,20 +1,29 @@
--- 34 is given exactly when no accepted value has the supply. Assumes nothing.
-use mathlib.Core.Path.{_≡_, refl, _∙_}
+-- 34 is given exactly when no accepted value has the supply. A value, a source and a list are as lent: the first two are bytes, and the
+-- list's are words. Assumes nothing.
+use mathlib.Core.Path.{_≡_, refl}
 use mathlib.Core.Bool.{Bool, true, false}
 use mathlib.Core.List.{List, [], _∷_}
-use mathlib.Core.Logic.{_⊎_, inl, inr, ⊎-elim}
-use Prim.Native.Nat.{ℕ, _<_, _≤_}
+use mathlib.Core.Logic.{_⊎_, inl, inr, ⊎-elim, _↔_}
+use Prim.Native.Nat.{ℕ}
 use native.Mathlib.Omega.{arith}
 use lib.Dec.{ltb}
-use lib.ListN.{length, getD}
+use lib.ListN.{length}
 use borrow.Author.Tests.{le-ltb}
 use Rattle.wire.specs.Choice.{pick}
+use Rattle.wire.proofs.Picks.{pick-split}
 use Rattle.plan.specs.Plan.{planFormed}
 use Rattle.supply.specs.Supply.{HasSupply}
 use Rattle.supply.specs.Build.{Made, wrong, made}
-use Rattle.supply.specs.Write.{Put, refusedPut, putOut, madeBy, suppliedBy, roomed, writeOf}
+use Rattle.supply.specs.Write.{refusedPut, putOut, madeBy, suppliedBy, roomed, writeOf}
+use Rattle.supply_laws.proofs.Fields.{Bytes}
 use Rattle.supply_laws.proofs.SoundReads.{Words}
 use Rattle.supply_laws.proofs.Sound.{sound}
+use Rattle.supply_laws.proofs.Written.{supplied-is-bytes}
+use Rattle.supply_laws.proofs.Complete.{refused-none}
+
+-- "no accepted value has this supply": a value is bytes
+abbrev pub NoneHas : (p ws src : List ℕ) → Type 0
+NoneHas p ws src = (s : List ℕ) → Bytes s → HasSupply p s ws src → ⊥
 
 -- what is supplied is 34 or a value
 sized : (b : List ℕ) (t : Bool) → (pick t (refusedPut 34) (putOut b) ≡ refusedPut 34) ⊎ ((c : List ℕ) × (pick t (refusedPut 34) (putOut b) ≡ putOut c))
@@ -28,6 +37,12 @@ either wrong = inl refl
 either (made b (w ∷ ws)) = inl refl
 either (made b []) = sized b (ltb 65535 (length b))
 
+-- a plan that is not well formed is 33, and so 34 says that it is
+pub refused-formed : (p ws src : List ℕ) (room : ℕ) → writeOf p ws src room ≡ refusedPut 34 → planFormed p ≡ true
+unfolding writeOf
+refused-formed p ws src room e =
+    ⊎-elim (λ q. q .0) (λ q. let h = q .1 in let z : _≡_ {A = ℕ} 33 34 = cc in absurd (omega arith)) (pick-split _ _ _ _ e)
+
 module _ (p ws src : List ℕ) (formed : planFormed p ≡ true) where
   refused-is : (room : ℕ) → suppliedBy (madeBy p ws src) ≡ refusedPut 34 → writeOf p ws src room ≡ refusedPut 34
   unfolding writeOf roomed pick
@@ -37,11 +52,19 @@ module _ (p ws src : List ℕ) (formed : planFormed p ≡ true) where
   unfolding writeOf roomed pick
   written-is b e = rw (formed, e, le-ltb (length b) (length b) (omega arith))
 
-  -- where no accepted value has the supply, the call gives 34; with `refused-none`, exactly there
-  pub none-refused : Words ws → ((s : List ℕ) → HasSupply p s ws src → ⊥) → (room : ℕ) → writeOf p ws src room ≡ refusedPut 34
-  none-refused small none room =
+  -- where no accepted value has the supply, the call gives 34: else what it makes is one
+  pub none-refused : Words ws → Bytes src → NoneHas p ws src → (room : ℕ) → writeOf p ws src room ≡ refusedPut 34
+  none-refused small bytes none room =
       ⊎-elim
       (λ (e : suppliedBy (madeBy p ws src) ≡ refusedPut 34). refused-is room e)
       (λ (e : (b : List ℕ) × (suppliedBy (madeBy p ws src) ≡ putOut b)).
-      absurd (none (e .0) (sound p ws src (length (e .0)) (e .0) small (written-is (e .0) (e .1)) .0)))
+      let b = e .0 in
+      absurd (none b (supplied-is-bytes p ws src bytes b (e .1)) (sound p ws src (length b) b small (written-is b (e .1)) .0)))
       (either (madeBy p ws src))
+
+-- 34 is given exactly when the plan is well formed and no accepted value has the supply, whatever the room.
+pub exact-34 : (p ws src : List ℕ) (room : ℕ) → Words ws → Bytes src → (writeOf p ws src room ≡ refusedPut 34) ↔ ((planFormed p ≡ true) × NoneHas p ws src)
+exact-34 p ws src room small bytes = (
+  λ e. (refused-formed p ws src room e, λ s b h. refused-none p s ws src room b e h),
+  λ x. none-refused p ws src (x .0) small bytes (x .1) room,
+)

@@ -6,4 +6,5 @@ pub mod Fields
 pub mod Zeros
 pub mod Complete
 pub mod RoundTrip
+pub mod Written
 pub mod Exact
