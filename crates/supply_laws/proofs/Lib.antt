@@ -8,3 +8,4 @@ pub mod Complete
 pub mod RoundTrip
 pub mod Written
 pub mod Exact
+pub mod Crossed
