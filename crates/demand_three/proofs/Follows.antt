@@ -1,10 +1,14 @@
 -- Demand 3 of the function that compiles and then runs. Assumes nothing.
 use mathlib.Core.Path.{_≡_, refl, ap, ap₂, sym, _∙_}
 use mathlib.Core.List.{List}
-use Prim.Native.Nat.{ℕ, _≤_}
+use Prim.Native.Nat.{ℕ, _+_, _≤_}
 use native.Mathlib.Omega.{arith}
 use lib.ListN.{length, take, drop}
 use lib.Seq.{take-at}
+use Rattle.rules.specs.Forest.{count}
+use Rattle.rules.specs.Values.{Outcome, refused, listed}
+use Rattle.rules.proofs.Forests.{words-length}
+use Rattle.rules.proofs.Bound.{Fits}
 use Rattle.run.specs.Run as run
 use Rattle.run.specs.declared.Answer as ran
 use Rattle.run.specs.declared.Answer.the-variants as ran-variants
@@ -14,8 +18,19 @@ use Rattle.compile.specs.declared.Answer.{Answer}
 use Rattle.compile.specs.declared.Answer.the-variants.{Refused, Words}
 use Rattle.compile.proofs.Compiles.{refused-in, planned-room}
 use Rattle.demand_three.specs.OffDescriptor.{rulesOf}
-use Rattle.demand_three.specs.Follows.{after, Follows}
+use Rattle.demand_three.specs.Follows.{after, Few, Follows}
 use Rattle.demand_three.proofs.Demand3.{demand-three, compiled-is}
+use Rattle.demand_three.proofs.EntryBound.{rules-fit}
+
+-- an outcome of few entries answers with few
+few-of : (n : ℕ) (o : Outcome) → Fits (n + 4) o → Few n (run.answerOf o)
+unfolding Few run.answerOf
+few-of n (refused m q) h = tt
+few-of n (listed f) h = record { entries = count f; words = words-length f; most = omega arith }
+
+-- the rules read off a descriptor list few entries
+pub rules-few : (d root s : List ℕ) (room : ℕ) → Few (length s) (run.answerOf (rulesOf d root s room))
+rules-few d root s room = few-of (length s) _ (rules-fit d root s room)
 
 -- a plan that was written: its words are at the start of the room
 pub record Written (d root : List ℕ) (w : ℕ) (p p′ : List ℕ) : Type 0 where
@@ -27,10 +42,10 @@ pub record Written (d root : List ℕ) (w : ℕ) (p p′ : List ℕ) : Type 0 wh
 
 module _ (d root : List ℕ) (a : Answer) (p p′ : List ℕ) (g : Gives (compileOf d root (length p)) a p p′) where
   pub follows-refused : (s l : List ℕ) (n q : ℕ) → a ≡ Refused n q → Follows d root s (ran-variants.Refused n q) p p′ l l
-  unfolding after run.answerOf run.listAfter
+  unfolding after run.answerOf run.listAfter Few
   follows-refused s l n q e =
       let o = refused-in _ n q (sym e ∙ g .answer) in
-      record { plan = g .plan; gives = rw o (record { answer = refl; list = refl }) }
+      record { plan = g .plan; gives = rw o (record { answer = refl; list = refl }); few = tt }
 
   module _ (w : ℕ) (e : a ≡ Words w) where
     written-in : (o : Compiled) → compileOf d root (length p) ≡ o → Words w ≡ answerOf o → p′ ≡ planAfter o p → Written d root w p p′
@@ -55,4 +70,4 @@ module _ (d root : List ℕ) (a : Answer) (p p′ : List ℕ) (g : Gives (compil
         let o : run.runOf (take w p′) s (length l) ≡ rulesOf d root s (length l) =
         ap (λ (ws : List ℕ). run.runOf ws s (length l)) (written .first)
         ∙ demand-three d root (written .words) (compiled-is d root (length p) (written .words) (written .is)) s (length l) in
-        record { plan = g .plan; gives = rw (written .is) (rw o at h) }
+        record { plan = g .plan; gives = rw (written .is) (rw o at h); few = rw (h .answer, o) (rules-few d root s (length l)) }

@@ -7,12 +7,14 @@ use native.Mathlib.Omega.{arith}
 use lib.ListN.{length, getD, take, drop}
 use lib.Seq.{take-at}
 use Rattle.wire.proofs.Picks.{pick-yes}
-use Rattle.run.specs.Run.{runOf}
+use Rattle.run.specs.Run.{runOf, answerOf}
 use Rattle.descriptor.specs.Descriptor as descriptor
 use Rattle.descriptor.specs.Descriptor.{Description, refusedBy, noType, described, descriptionOf, planOf, planWords, compileOf}
 use Rattle.descriptor.proofs.Accepted.{described-is}
 use Rattle.demand_three.specs.OffDescriptor.{rulesOf}
+use Rattle.demand_three.specs.Follows.{Few}
 use Rattle.demand_three.proofs.Demand3.{demand-three, compiled-is}
+use Rattle.demand_three.proofs.Follows.{rules-few}
 use Rattle.compile.proofs.Compiles.{planned-room}
 use Rattle.demand_three.proofs.PlanSize.{Small, plan-words}
 use Rattle.crossing.specs.Crossing.{bytesOut, crosses, wordRoom}
@@ -59,3 +61,7 @@ module _ (d root p p′ : List ℕ) (r : Answer) (c : CompilesPlan d root r p p�
       ∙ pick-yes _ _ _ (ap crosses n ∙ crosses-words (length ws) few)
       ∙ ap (λ (v : List ℕ). runOf v s room) (words-back ws (compiled-words d root ws q))
       ∙ demand-three d root ws q s room
+
+  -- and list few entries
+  pub demand-three-few : (s : List ℕ) (room : ℕ) → Few (length s) (answerOf (runFrom (take (4 * length ws) p′) s room))
+  demand-three-few s room = rw (demand-three-bytes s room) (rules-few d root s room)
