@@ -5,6 +5,7 @@ pub mod Loops
 pub mod Relabel
 pub mod Fuel
 pub mod HeadSizes
+pub mod Faults
 pub mod Bound
 pub mod Widths
 pub mod Parts
