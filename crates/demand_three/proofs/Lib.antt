@@ -11,3 +11,4 @@ pub mod PlanSize
 pub mod Demand3
 pub mod Follows
 pub mod EntryBound
+pub mod Numbers
