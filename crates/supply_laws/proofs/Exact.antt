@@ -1,25 +1,25 @@
--- 34 is given exactly when no accepted value has the supply. A value, a source and a list are as lent: the first two are bytes, and the
--- list's are words. Assumes nothing.
-use mathlib.Core.Path.{_≡_, refl}
+-- The numbers of writing a value are given exactly where document 01's table says: 33, 34 and 32. A value, a source and a list are as lent:
+-- the first two are bytes, and the list's are words. Assumes nothing.
+use mathlib.Core.Path.{_≡_, refl, sym, _∙_}
 use mathlib.Core.Bool.{Bool, true, false}
 use mathlib.Core.List.{List, [], _∷_}
 use mathlib.Core.Logic.{_⊎_, inl, inr, ⊎-elim, _↔_}
-use Prim.Native.Nat.{ℕ}
+use Prim.Native.Nat.{ℕ, _<_}
 use native.Mathlib.Omega.{arith}
 use lib.Dec.{ltb}
 use lib.ListN.{length}
-use borrow.Author.Tests.{le-ltb}
+use borrow.Author.Tests.{ltb-true, lt-ltb, le-ltb}
 use Rattle.wire.specs.Choice.{pick}
-use Rattle.wire.proofs.Picks.{pick-split}
+use Rattle.wire.proofs.Picks.{pick-yes, pick-no, pick-split}
 use Rattle.plan.specs.Plan.{planFormed}
-use Rattle.supply.specs.Supply.{HasSupply}
+use Rattle.supply.specs.Supply.{zeroed, HasSupply}
 use Rattle.supply.specs.Build.{Made, wrong, made}
-use Rattle.supply.specs.Write.{refusedPut, putOut, madeBy, suppliedBy, roomed, writeOf}
+use Rattle.supply.specs.Write.{Put, refusedPut, putOut, madeBy, suppliedBy, roomed, writeOf}
 use Rattle.supply_laws.proofs.Fields.{Bytes}
 use Rattle.supply_laws.proofs.SoundReads.{Words}
 use Rattle.supply_laws.proofs.Sound.{sound}
 use Rattle.supply_laws.proofs.Written.{supplied-is-bytes}
-use Rattle.supply_laws.proofs.Complete.{refused-none}
+use Rattle.supply_laws.proofs.Complete.{zeroed-length, complete, refused-none}
 
 -- "no accepted value has this supply": a value is bytes
 abbrev pub NoneHas : (p ws src : List ℕ) → Type 0
@@ -68,3 +68,63 @@ exact-34 p ws src room small bytes = (
   λ e. (refused-formed p ws src room e, λ s b h. refused-none p s ws src room b e h),
   λ x. none-refused p ws src (x .0) small bytes (x .1) room,
 )
+
+-- ---- 33 and 32
+
+-- what the room makes of 34 or a value is 34, 32 or the value
+roomed-short : (room : ℕ) (x : Put) (n : ℕ) → (x ≡ refusedPut 34) ⊎ ((b : List ℕ) × (x ≡ putOut b)) → roomed room x ≡ refusedPut n
+    → (n ≡ 34) ⊎ ((n ≡ 32) × ((b : List ℕ) × (x ≡ putOut b) × (room < length b)))
+unfolding roomed
+roomed-short room (refusedPut m) n o e =
+    ⊎-elim
+    (λ (h : refusedPut m ≡ refusedPut 34). inl (cc))
+    (λ (h : (b : List ℕ) × (refusedPut m ≡ putOut b)). let g = h .1 in let z : _≡_ {A = ℕ} 0 1 = cc in absurd (omega arith))
+    o
+roomed-short room (putOut b) n o e =
+    ⊎-elim
+    (λ (h : (ltb room (length b) ≡ true) × (refusedPut 32 ≡ refusedPut n)). let g = h .1 in inr (cc, (b, refl, ltb-true room (length b) (h .0))))
+    (λ (h : (ltb room (length b) ≡ false) × (putOut b ≡ refusedPut n)). let g = h .1 in let z : _≡_ {A = ℕ} 0 1 = cc in absurd (omega arith))
+    (pick-split _ _ _ _ e)
+
+module _ (p ws src : List ℕ) (room : ℕ) where
+  -- a refusal by a well-formed plan
+  refused-short : (n : ℕ) → planFormed p ≡ true → writeOf p ws src room ≡ refusedPut n
+      → (n ≡ 34) ⊎ ((n ≡ 32) × ((b : List ℕ) × (suppliedBy (madeBy p ws src) ≡ putOut b) × (room < length b)))
+  unfolding writeOf
+  refused-short n f e =
+      roomed-short room (suppliedBy (madeBy p ws src)) n (either (madeBy p ws src)) (sym (pick-yes _ _ _ f) ∙ e)
+
+  unformed-is : planFormed p ≡ false → writeOf p ws src room ≡ refusedPut 33
+  unfolding writeOf
+  unformed-is f = pick-no _ _ _ f
+
+  -- 33 is given exactly when the plan is not well formed.
+  pub exact-33 : (writeOf p ws src room ≡ refusedPut 33) ↔ (planFormed p ≡ false)
+  exact-33 = (λ e. go (planFormed p) refl e, unformed-is)
+    where
+      go : (t : Bool) → planFormed p ≡ t → writeOf p ws src room ≡ refusedPut 33 → planFormed p ≡ false
+      go true f e = absurd (⊎-elim (λ a. omega arith) (λ b. omega (arith, b .0)) (refused-short 33 f e))
+      go false f e = f
+
+  -- 32 is given exactly when an accepted value has the supply, and is longer than the room.
+  pub exact-32 : Words ws → Bytes src → (writeOf p ws src room ≡ refusedPut 32) ↔ ((s : List ℕ) × Bytes s × HasSupply p s ws src × (room < length s))
+  unfolding roomed
+  exact-32 small bytes = (
+    λ e. go (planFormed p) refl e,
+    λ x.
+        let s = x .0 in
+        let h = x .2 in
+        let l : length (zeroed p s) ≡ length s = zeroed-length p s (x .1) (h .forest) (h .accepted) in
+        complete p s ws src room (x .1) h ∙ pick-yes _ _ _ (lt-ltb room (length (zeroed p s)) (rw l (x .3))),
+  )
+    where
+      go : (t : Bool) → planFormed p ≡ t → writeOf p ws src room ≡ refusedPut 32 → (s : List ℕ) × Bytes s × HasSupply p s ws src × (room < length s)
+      go true f e =
+          ⊎-elim
+          (λ a. absurd (omega arith))
+          (λ y.
+          let b = y .1 .0 in
+          let m = y .1 .1 in
+          (b, supplied-is-bytes p ws src bytes b m, sound p ws src (length b) b small (written-is p ws src f b m) .0, y .1 .2))
+          (refused-short 32 f e)
+      go false f e = let h = unformed-is f in let z : _≡_ {A = ℕ} 32 33 = cc in absurd (omega arith)
