@@ -2,18 +2,18 @@
 use mathlib.Core.Path.{_≡_, refl, ap, sym, _∙_}
 use mathlib.Core.Bool.{Bool, true, false}
 use mathlib.Core.List.{List, [], _∷_}
-use Prim.Native.Nat.{ℕ, zero, suc, _+_, _-_, _<_, _≤_}
+use Prim.Native.Nat.{ℕ, zero, suc, _+_, _*_, _/_, _-_, _<_, _≤_}
 use native.Mathlib.Omega.{arith}
-use native.Mathlib.Nat.{add-zero, add-suc, suc-add, add-assoc, le-refl, not-suc-le-zero}
+use native.Mathlib.Nat.{zero-add, add-zero, add-suc, suc-add, add-assoc, zero-mul, add-mul, le-refl, not-suc-le-zero, div-eq-of-lt, div-mul-le-self, add-div-left}
 use native.Mathlib.Numerals.{add-one, sub-one}
 use native.Mathlib.Decide.{decLt}
 use lib.Dec.{leb, ltb, eqb}
 use lib.ListN.{length, drop, getD, length-drop, drop-of-length-le}
 use lib.Seq.{drop-cons, drop-drop}
-use borrow.Author.Tests.{leb-true, lt-leb, lt-ltb, le-ltb, ltb-true, eqb-true}
+use borrow.Author.Tests.{leb-true, leb-false, le-leb, lt-leb, lt-ltb, le-ltb, ltb-true, eqb-true}
 use Rattle.wire.specs.Choice.{pick}
 use Rattle.wire.specs.Utf8.{Range, _to_, within, table, after, goesOn, wellFormed, plainRun}
-use Rattle.wire.specs.Scan.{follower, followers, ahead, second, Begins, Sequence, plainEnd, Plain}
+use Rattle.wire.specs.Scan.{follower, followers, ahead, second, Begins, Sequence, plainEnd, blocksEnd, Plain}
 use Rattle.wire.proofs.Picks.{pick-yes, pick-no, pick-case, both, clash}
 use Rattle.wire.proofs.Tables.{each, each-at}
 
@@ -162,13 +162,6 @@ module _ (s : List ℕ) (i : ℕ) where
 pub plain-ends : (s : List ℕ) (i r : ℕ) → Plain s i r → (r < length s → plainEnd s r ≡ r) → r ≡ plainEnd s i
 plain-ends s i r p f = sym (p .same ∙ elim (decLt r (length s)) [ yes l ↦ f l | no l ↦ plain-over s r (omega arith) ])
 
-pub plain-run : (s : List ℕ) (i n : ℕ) → i + n ≤ length s → ((k : ℕ) → k < n → getD s (i + k) 0 < 0x80) → plainEnd s i ≡ plainEnd s (i + n)
-plain-run s i zero h p = rw add-zero
-plain-run s i (suc n) h p =
-    plain-run s i n (omega arith) (λ k l. p k (omega arith))
-    ∙ plain-next s (i + n) (omega arith) (p n (omega arith))
-    ∙ rw (add-one, add-suc)
-
 plain-length : (l : List ℕ) → plainRun l ≤ length l
 unfolding plainRun
 plain-length [] = omega arith
@@ -193,6 +186,76 @@ module _ (s : List ℕ) (i : ℕ) where
 
   pub plain-goes : goesOn [] (drop i s) ≡ goesOn [] (drop (plainEnd s i) s)
   plain-goes = plain-go (drop i s) ∙ rw drop-drop
+
+-- ---- blocks of plain bytes
+
+-- the plain bytes past the first n of them
+run-past : (l : List ℕ) (n : ℕ) → n ≤ plainRun l → plainRun l ≡ n + plainRun (drop n l)
+unfolding plainRun
+run-past l zero h = sym (zero-add (plainRun l))
+run-past [] (suc n) h = absurd (not-suc-le-zero h)
+run-past (b ∷ l) (suc n) h =
+    pick-case (λ (m : ℕ). suc n ≤ m → m ≡ suc n + plainRun (drop n l)) (ltb b 0x80) (suc (plainRun l)) 0
+    (λ _ g. let e = run-past l n (omega arith) in omega arith)
+    (λ _ g. absurd (not-suc-le-zero g))
+    h
+
+module _ (s : List ℕ) (i : ℕ) where
+  pub plain-past : (n : ℕ) → n ≤ plainRun (drop i s) → plainEnd s i ≡ plainEnd s (i + n)
+  plain-past n h =
+      let e : plainRun (drop i s) ≡ n + plainRun (drop (i + n) s) = run-past (drop i s) n h ∙ rw drop-drop in
+      omega arith
+
+  -- what a byte says of whether k + 1 bytes are plain, with g the greater of it and of h, which tells that of the k bytes before it
+  pub plain-more :
+      (k h g : ℕ)
+      → i + k < length s
+      → ltb h 0x80 ≡ leb k (plainRun (drop i s))
+      → h ≤ g
+      → getD s (i + k) 0 ≤ g
+      → (h < 0x80 → getD s (i + k) 0 < 0x80 → g < 0x80)
+      → ltb g 0x80 ≡ leb (k + 1) (plainRun (drop i s))
+  plain-more k h g l e p q f =
+      elim (decLt g 0x80) [
+        | yes w ↦
+            let a : k ≤ plainRun (drop i s) = leb-true k (plainRun (drop i s)) (sym e ∙ lt-ltb h 0x80 (omega arith)) in
+            let o = plain-past k a in
+            let m = plain-next s (i + k) l (omega arith) in
+            lt-ltb g 0x80 w ∙ sym (le-leb (k + 1) (plainRun (drop i s)) (omega arith))
+        | no w ↦ le-ltb g 0x80 (omega arith) ∙ sym (lt-leb (k + 1) (plainRun (drop i s)) (ends (decLt h 0x80) w))
+      ]
+    where
+      ends : Dec (h < 0x80) → (g < 0x80 → ⊥) → plainRun (drop i s) < k + 1
+      ends (yes v) w =
+          let a : k ≤ plainRun (drop i s) = leb-true k (plainRun (drop i s)) (sym e ∙ lt-ltb h 0x80 v) in
+          let o = plain-past k a in
+          let b : 0x80 ≤ getD s (i + k) 0 = elim (decLt (getD s (i + k) 0) 0x80) [ yes t ↦ absurd (w (f v t)) | no t ↦ omega arith ] in
+          let m = plain-stop s (i + k) l b in
+          omega arith
+      ends (no v) w =
+          let a : plainRun (drop i s) < k = leb-false k (plainRun (drop i s)) (sym e ∙ le-ltb h 0x80 (omega arith)) in
+          omega arith
+
+  module _ (n : ℕ) (p : 0 < n) where
+    -- a block that is plain, and one that is not, or has not n bytes
+    pub blocks-next : n ≤ plainRun (drop i s) → blocksEnd s n i ≡ blocksEnd s n (i + n)
+    blocks-next h =
+        let m = plainRun (drop (i + n) s) in
+        let e : plainRun (drop i s) ≡ n + m = omega (arith, plain-past n h) in
+        rw (e, add-div-left m p, add-mul) (omega arith)
+
+    pub blocks-stop : plainRun (drop i s) < n → blocksEnd s n i ≡ i
+    blocks-stop h = rw (div-eq-of-lt h, zero-mul) (add-zero i)
+
+    pub blocks-plain : i ≤ length s → (r : ℕ) → r ≡ blocksEnd s n i → Plain s i r
+    blocks-plain h r e =
+        let l : plainRun (drop i s) / n * n ≤ plainRun (drop i s) = div-mul-le-self (plainRun (drop i s)) n in
+        rw e
+        (record {
+          onward = omega arith;
+          inside = omega (arith, plain-inside s i h);
+          same = plain-past (plainRun (drop i s) / n * n) l;
+        })
 
 -- text that is all plain
 pub plain-well : (s : List ℕ) → plainRun s ≡ length s → wellFormed s ≡ true

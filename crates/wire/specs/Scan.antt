@@ -3,7 +3,7 @@
 use mathlib.Core.Path.{_≡_}
 use mathlib.Core.Bool.{false}
 use mathlib.Core.List.{List, [], _∷_}
-use Prim.Native.Nat.{ℕ, zero, suc, _+_, _≤_, _<_}
+use Prim.Native.Nat.{ℕ, zero, suc, _+_, _*_, _/_, _≤_, _<_}
 use lib.Dec.{eqb, ltb}
 use lib.ListN.{length, drop, getD}
 use Rattle.wire.specs.Choice.{pick}
@@ -45,6 +45,10 @@ pub record Sequence (s : List ℕ) (i r : ℕ) : Type 0 where
 -- where the plain bytes at i end
 abbrev pub plainEnd : List ℕ → ℕ → ℕ
 plainEnd s i = i + plainRun (drop i s)
+
+-- where the whole blocks of n plain bytes at i end
+abbrev pub blocksEnd : List ℕ → ℕ → ℕ → ℕ
+blocksEnd s n i = i + plainRun (drop i s) / n * n
 
 -- the bytes from i to r are plain
 pub record Plain (s : List ℕ) (i r : ℕ) : Type 0 where

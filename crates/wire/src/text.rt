@@ -1,10 +1,10 @@
 // Well-formed UTF-8: the sequences of bytes of the Unicode Standard's Table 3-7.
 ghost use mathlib.Core.Path.{_≡_};
-ghost use mathlib.Core.Bool.{true};
 ghost use Prim.Native.Nat.{_+_, _≤_, _<_};
+ghost use lib.Dec.{leb};
 ghost use lib.ListN.{length, drop, getD};
 ghost use Rattle.wire.specs.Utf8.{_to_, within, wellFormed, plainRun};
-ghost use Rattle.wire.specs.Scan.{second, Begins, Sequence, Plain, PlainTo, plainEnd};
+ghost use Rattle.wire.specs.Scan.{second, Begins, Sequence, PlainTo, blocksEnd};
 
 // Whether a byte is in a range, both ends in it.
 fn is_within(b: u8, low: u8, high: u8) -> bool
@@ -106,7 +106,7 @@ fn plain_prefix(s: &[u8], from: usize, end: usize) -> usize
 // one of vectors.
 fn plain_block(s: &[u8], i: usize, n: usize) -> bool
     requires { ⌜ i + n ≤ length (now s) ⌝ }
-    ensures { λ r. ⌜ (r ≡ true → plainEnd (now (s .entry)) i ≡ plainEnd (now (s .entry)) (i + n)) ⌝ }
+    ensures { λ r. ⌜ r ≡ leb n (plainRun (drop i (now (s .entry)))) ⌝ }
 {
     let mut high: u8 = 0;
     let mut k = 0;
@@ -120,10 +120,10 @@ fn plain_block(s: &[u8], i: usize, n: usize) -> bool
     high < 0x80
 }
 
-// The end of the blocks of `n` plain bytes at `from`.
+// The end of the whole blocks of `n` plain bytes at `from`.
 fn plain_blocks(s: &[u8], from: usize, n: usize) -> usize
     requires { ⌜ (from ≤ length (now s)) × (0 < n) ⌝ }
-    ensures { λ r. ⌜ Plain (now (s .entry)) from r ⌝ }
+    ensures { λ r. ⌜ r ≡ blocksEnd (now (s .entry)) n from ⌝ }
 {
     let mut i = from;
     while n <= s.len() - i {

@@ -1,23 +1,25 @@
--- `wire::text::plain_block` meets its contract. The invariant: `high` is at least each byte passed. Assumes nothing.
+-- `wire::text::plain_block` meets its contract. The invariant: `high` is plain where each byte passed is. Assumes nothing.
+use mathlib.Core.Path.{_≡_, ap, sym, _∙_}
 use mathlib.Core.Logic.{⊎-elim}
-use Prim.Native.Nat.{ℕ, _+_, _-_, _≤_, _<_}
+use Prim.Native.Nat.{ℕ, _+_, _-_, _≤_, _<_, zero-le}
 use native.Mathlib.Omega.{arith}
-use lib.ListN.{getD}
-use borrow.Author.Count.{below-none, below-more}
-use borrow.Author.Tests.{ltb-true}
+use lib.Dec.{leb, ltb}
+use lib.ListN.{drop, getD}
+use borrow.Author.Tests.{le-leb}
 use borrow.Author.Needs.{needs}
-use Rattle.wire.proofs.Sequences.{plain-run}
+use Rattle.wire.specs.Utf8.{plainRun}
+use Rattle.wire.proofs.Sequences.{plain-more}
 use Rattle.wire.proofs.text.plain_block.Statement.{statement}
 use Rattle.wire.proofs.text.plain_block.Tie as tie
 
 abbrev Inv-loop : tie.InvT-loop
-Inv-loop s i n high₀ k₀ high k = (k ≤ n) × ((j : ℕ) → j < k → getD s (i + j) 0 ≤ high)
+Inv-loop s i n high₀ k₀ high k = (k ≤ n) × (ltb high 0x80 ≡ leb k (plainRun (drop i s)))
 
 abbrev μ-loop : tie.MeasureT-loop
 μ-loop s i n high₀ k₀ high k = n - k
 
 loop-holds : tie.Need-loop-holds Inv-loop μ-loop
-loop-holds c = (omega arith, below-none _)
+loop-holds c = (omega arith, sym (le-leb 0 (plainRun (drop (c .args .i) (c .args .s .now))) zero-le))
 
 add-b : tie.Need-add-b Inv-loop μ-loop
 add-b c = search needs
@@ -36,15 +38,14 @@ loop-again c =
     let l = c .before .before .before .loop in
     let a = c .before .before .before .before .args in
     let high = c .if1 .high in
-    let up : (l .high ≤ high) × (getD (a .s .now) (a .i + l .k) 0 ≤ high) = ⊎-elim (λ w. omega arith) (λ w. omega arith) (c .if1 .came) in
-    (omega arith, below-more (λ (j : ℕ). getD (a .s .now) (a .i + j) 0 ≤ high) (l .k) (λ j m. let p = l .inv .1 j m in omega arith) (up .1))
+    let b = getD (a .s .now) (a .i + l .k) 0 in
+    let up : (l .high ≤ high) × (b ≤ high) × (l .high < 0x80 → b < 0x80 → high < 0x80) =
+    ⊎-elim (λ w. (omega arith, omega arith, λ p q. omega arith)) (λ w. (omega arith, omega arith, λ p q. omega arith)) (c .if1 .came)
+    in
+    (omega arith, plain-more (a .s .now) (a .i) (l .k) (l .high) high (omega arith) (l .inv .1) (up .0) (up .1) (up .2))
 
 returns : tie.Need-returns Inv-loop μ-loop
-returns c =
-    λ e.
-    let a = c .before .before .args in
-    let h : c .before .loop .high < 0x80 = ltb-true _ _ e in
-    plain-run (a .s .now) (a .i) (a .n) (c .before .before .pre) (λ k l. let p = c .before .loop .inv .1 k (omega arith) in omega arith)
+returns c = c .before .loop .inv .1 ∙ ap (λ (k : ℕ). leb k (plainRun (drop (c .before .before .args .i) (c .before .before .args .s .now)))) (omega arith)
 
 pub plain-block-spec : {M : Type 1} → statement M
 plain-block-spec =

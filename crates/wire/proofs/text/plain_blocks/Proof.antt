@@ -1,22 +1,23 @@
--- `wire::text::plain_blocks` meets its contract. The invariant: all bytes up to `i` are plain. Assumes nothing.
-use mathlib.Core.Path.{refl, _∙_}
-use Prim.Native.Nat.{_-_}
+-- `wire::text::plain_blocks` meets its contract. The invariant: the blocks at `i` end where those at `from` do. Assumes nothing.
+use mathlib.Core.Path.{_≡_, refl, sym, _∙_}
+use Prim.Native.Nat.{_-_, _≤_}
 use native.Mathlib.Omega.{arith}
 use lib.ListN.{length}
-use borrow.Author.Tests.{not-false}
+use borrow.Author.Tests.{not-true, not-false, leb-true, leb-false}
 use borrow.Author.Needs.{needs}
-use Rattle.wire.specs.Scan.{Plain}
+use Rattle.wire.specs.Scan.{blocksEnd}
+use Rattle.wire.proofs.Sequences.{plain-inside, blocks-next, blocks-stop}
 use Rattle.wire.proofs.text.plain_blocks.Statement.{statement}
 use Rattle.wire.proofs.text.plain_blocks.Tie as tie
 
 abbrev Inv-loop : tie.InvT-loop
-Inv-loop s from n i₀ i = Plain s from i
+Inv-loop s from n i₀ i = (i ≤ length s) × (blocksEnd s n from ≡ blocksEnd s n i)
 
 abbrev μ-loop : tie.MeasureT-loop
 μ-loop s from n i₀ i = length s - i
 
 loop-holds : tie.Need-loop-holds Inv-loop μ-loop
-loop-holds c = record { onward = omega arith; inside = omega arith; same = refl }
+loop-holds c = (c .before .pre .0, refl)
 
 sub-loop : tie.Need-sub-loop Inv-loop μ-loop
 sub-loop c = search needs
@@ -25,7 +26,11 @@ plain-block-requires : tie.Need-plain-block-requires Inv-loop μ-loop
 plain-block-requires c κs = search needs
 
 returns : tie.Need-returns Inv-loop μ-loop
-returns c = search needs
+returns c =
+    let a = c .before .before .before .before .before .args in
+    let l = c .before .before .before .loop in
+    let e = c .before .plain-block .ensures in
+    sym (l .inv .1 ∙ blocks-stop (a .s .now) (l .i) (a .n) (c .before .before .before .before .before .pre .1) (leb-false _ _ (sym e ∙ not-true _ (c .if1 .taken))))
 
 add-i : tie.Need-add-i Inv-loop μ-loop
 add-i c = search needs
@@ -35,11 +40,17 @@ loop-less c = search needs
 
 loop-again : tie.Need-loop-again Inv-loop μ-loop
 loop-again c =
-    let p = c .before .before .before .loop .inv in
-    record { onward = omega arith; inside = omega arith; same = p .same ∙ c .before .plain-block .ensures (not-false _ (c .if1 .left)) }
+    let a = c .before .before .before .before .before .args in
+    let l = c .before .before .before .loop in
+    let e = c .before .plain-block .ensures in
+    (omega arith, l .inv .1 ∙ blocks-next (a .s .now) (l .i) (a .n) (c .before .before .before .before .before .pre .1) (leb-true _ _ (sym e ∙ not-false _ (c .if1 .left))))
 
 returns-2 : tie.Need-returns-2 Inv-loop μ-loop
-returns-2 c = search needs
+returns-2 c =
+    let a = c .before .before .before .args in
+    let l = c .before .loop in
+    let h = plain-inside (a .s .now) (l .i) (l .inv .0) in
+    sym (l .inv .1 ∙ blocks-stop (a .s .now) (l .i) (a .n) (c .before .before .before .pre .1) (omega arith))
 
 pub plain-blocks-spec : {M : Type 1} → statement M
 plain-blocks-spec =

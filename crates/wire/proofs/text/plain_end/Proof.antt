@@ -1,7 +1,8 @@
 -- `wire::text::plain_end` meets its contract: each part goes on where the one before it ended, and the last one ends where the plain bytes do. Assumes nothing.
 use mathlib.Core.Path.{sym, _∙_}
+use native.Mathlib.Omega.{arith}
 use borrow.Author.Needs.{needs}
-use Rattle.wire.proofs.Sequences.{plain-over, plain-ends}
+use Rattle.wire.proofs.Sequences.{plain-over, plain-ends, blocks-plain}
 use Rattle.wire.proofs.text.plain_end.Statement.{statement}
 use Rattle.wire.proofs.text.plain_end.Tie as tie
 
@@ -33,16 +34,26 @@ plain-blocks-requires : tie.Need-plain-blocks-requires
 plain-blocks-requires c κs = search needs
 
 plain-blocks-requires-2 : tie.Need-plain-blocks-requires-2
-plain-blocks-requires-2 c κs = search needs
+plain-blocks-requires-2 c κs =
+    let near = c .before .before .plain-prefix2 in
+    let large = blocks-plain _ (near .result) 128 (omega arith) (near .ensures .plain .inside) _ (c .plain-blocks .ensures) in
+    (large .inside, omega arith)
 
 plain-prefix-requires-3 : tie.Need-plain-prefix-requires-3
-plain-prefix-requires-3 c κs = search needs
+plain-prefix-requires-3 c κs =
+    let near = c .before .before .before .plain-prefix2 in
+    let large = blocks-plain _ (near .result) 128 (omega arith) (near .ensures .plain .inside) _ (c .before .plain-blocks .ensures) in
+    let small = blocks-plain _ (c .before .plain-blocks .result) 16 (omega arith) (large .inside) _ (c .plain-blocks2 .ensures) in
+    (small .inside, omega arith)
 
 returns-4 : tie.Need-returns-4
 returns-4 c =
+    let s = c .before .before .before .before .before .before .before .before .args .s .now in
+    let near = c .before .before .before .before .plain-prefix2 in
+    let large = blocks-plain s (near .result) 128 (omega arith) (near .ensures .plain .inside) _ (c .before .before .plain-blocks .ensures) in
+    let small = blocks-plain s (c .before .before .plain-blocks .result) 16 (omega arith) (large .inside) _ (c .before .plain-blocks2 .ensures) in
     let p = c .plain-prefix3 .ensures in
-    plain-ends (c .before .before .before .before .before .before .before .before .args .s .now) (c .before .plain-blocks2 .result) (c .plain-prefix3 .result) (p .plain) (p .stops)
-    ∙ sym (c .before .before .before .before .plain-prefix2 .ensures .plain .same ∙ c .before .before .plain-blocks .ensures .same ∙ c .before .plain-blocks2 .ensures .same)
+    plain-ends s (c .before .plain-blocks2 .result) (c .plain-prefix3 .result) (p .plain) (p .stops) ∙ sym (near .ensures .plain .same ∙ large .same ∙ small .same)
 
 pub plain-end-spec : {M : Type 1} → statement M
 plain-end-spec =
