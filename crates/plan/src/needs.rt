@@ -8,7 +8,7 @@ ghost use mathlib.Core.Path.{_≡_};
 ghost use Prim.Native.Nat.{_+_, _*_, _^_, _≤_, _<_};
 ghost use lib.ListN.{length, getD};
 ghost use Rattle.plan.specs.Plan.{At};
-ghost use Rattle.plan.specs.Memo.{neededAt, Pairs, Memo};
+ghost use Rattle.plan.specs.Memo.{neededAt, Filled, OneMore, Memo};
 
 // The kind of a sparse object.
 const SPARSE: u32 = 6;
@@ -32,8 +32,8 @@ fn count_required(plan: &[u32], at: usize, n: usize) -> usize
 // One more pair after the first m, for the sparse object at a position: its start, and how many of its elements are required. A table
 // that is full stays as it is. The answer is how many pairs there are then.
 fn put_pair(plan: &[u32], table: &mut [u32], m: usize, at: usize) -> usize
-    requires { ⌜ (Pairs (now plan) (now table) m) × (at + 2 + 2 * getD (now plan) (at + 1) 0 ≤ length (now plan)) × (length (now plan) < 2 ^ 32) ⌝ }
-    ensures { λ r. ⌜ Pairs (now (plan .entry)) (now (table .exit)) r ⌝ }
+    requires { ⌜ (2 * m ≤ length (now table)) × (at + 2 + 2 * getD (now plan) (at + 1) 0 ≤ length (now plan)) × (length (now plan) < 2 ^ 32) ⌝ }
+    ensures { λ r. ⌜ OneMore (now (plan .entry)) (now (table .entry)) (now (table .exit)) m at r ⌝ }
 {
     if table.len() < 2 * m + 2 {
         return m;
@@ -44,12 +44,11 @@ fn put_pair(plan: &[u32], table: &mut [u32], m: usize, at: usize) -> usize
     m + 1
 }
 
-// Goes over the nodes of a plan once and leaves a pair for each sparse object, in their order, as far as the table has room. The
-// answer is how many pairs there are. That each is right is all that is promised: none is lost if the plan is well formed and
-// the table has two words for each sparse object, but whoever reads the table does not rely on it.
+// Goes over the nodes of a plan once, up to one that is not whole, and leaves a pair for each sparse object, in their order, as far as
+// the table has room. The answer is how many pairs there are.
 pub fn fill(plan: &[u32], table: &mut [u32]) -> usize
     requires { ⌜ length (now plan) < 2 ^ 32 ⌝ }
-    ensures { λ r. ⌜ Pairs (now (plan .entry)) (now (table .exit)) r ⌝ }
+    ensures { λ r. ⌜ Filled (now (plan .entry)) (now (table .entry)) (now (table .exit)) r ⌝ }
 {
     let mut m: usize = 0;
     let mut at: usize = 2;

@@ -2,7 +2,7 @@
 use native.Mathlib.Omega.{arith}
 use Prim.Native.Nat.{ℕ}
 use lib.ListN.{length-take}
-use Rattle.plan.proofs.Memos.{pairs-memo}
+use Rattle.plan.proofs.Memos.{filled-memo}
 use Rattle.run.proofs.Runs.{few-words, early-refused, early-none, check-early, check-rest}
 use borrow.Author.Needs.{needs}
 use Rattle.run.proofs.check.Statement.{statement}
@@ -21,7 +21,7 @@ slice-aggregate-check-value c = simp length-take (omega (arith, c .before .befor
 
 check-value-requires : tie.Need-check-value-requires
 check-value-requires c κs =
-    let h = early-none _ _ _ (c .before .before .before .before .before .before .before .early-fault .ensures) (c .before .before .before .before .before .before .if1 .left) in (h .0, h .1, pairs-memo _ _ _ (c .before .before .before .before .fill .ensures))
+    let h = early-none _ _ _ (c .before .before .before .before .before .before .before .early-fault .ensures) (c .before .before .before .before .before .before .if1 .left) in (h .0, h .1, filled-memo _ _ _ _ (c .before .before .before .before .fill .ensures))
 
 returns-2 : tie.Need-returns-2
 returns-2 c =

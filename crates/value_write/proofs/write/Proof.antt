@@ -3,7 +3,7 @@ use mathlib.Core.Path.{sym, _∙_}
 use native.Mathlib.Omega.{arith}
 use Prim.Native.Nat.{ℕ}
 use lib.ListN.{length-take}
-use Rattle.plan.proofs.Memos.{pairs-memo}
+use Rattle.plan.proofs.Memos.{filled-memo}
 use Rattle.run.proofs.Runs.{few-words}
 use Rattle.value_write.proofs.Writes.{puts-unformed}
 use borrow.Author.Needs.{needs}
@@ -31,7 +31,7 @@ slice-aggregate-write-sized c = simp length-take (omega (arith, c .before .befor
 
 write-sized-requires : tie.Need-write-sized-requires
 write-sized-requires c κs =
-    (sym (c .before .before .before .before .before .before .before .plan-ok .ensures) ∙ c .before .before .before .before .before .before .if1 .taken, pairs-memo _ _ _ (c .before .before .before .before .fill .ensures))
+    (sym (c .before .before .before .before .before .before .before .plan-ok .ensures) ∙ c .before .before .before .before .before .before .if1 .taken, filled-memo _ _ _ _ (c .before .before .before .before .fill .ensures))
 
 same-length : tie.Need-same-length
 same-length c = search needs

@@ -2,7 +2,7 @@
 use native.Mathlib.Omega.{arith}
 use Prim.Native.Nat.{ℕ}
 use lib.ListN.{length-take}
-use Rattle.plan.proofs.Memos.{pairs-memo}
+use Rattle.plan.proofs.Memos.{filled-memo}
 use Rattle.run.proofs.Runs.{few-words}
 use borrow.Author.Needs.{needs}
 use Rattle.value_write.proofs.write_many.Statement.{statement}
@@ -26,7 +26,7 @@ slice-aggregate-write-sized c = simp length-take (omega (arith, c .before .befor
 
 write-sized-requires : tie.Need-write-sized-requires
 write-sized-requires c κs =
-    (c .before .before .before .before .before .before .before .before .before .pre, pairs-memo _ _ _ (c .before .before .before .fill .ensures))
+    (c .before .before .before .before .before .before .before .before .before .pre, filled-memo _ _ _ _ (c .before .before .before .fill .ensures))
 
 same-length : tie.Need-same-length
 same-length c = search needs

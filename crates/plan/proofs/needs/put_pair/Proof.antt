@@ -1,8 +1,8 @@
--- `plan::needs::put_pair` meets its contract: one more pair is right, and those before it stay. Assumes nothing.
+-- `plan::needs::put_pair` meets its contract, by its one test. Assumes nothing.
 use mathlib.Core.Path.{_∙_}
 use native.Mathlib.Omega.{arith}
 use lib.ListN.{length-set}
-use Rattle.plan.proofs.Memos.{needed-few, pairs-next}
+use Rattle.plan.proofs.Memos.{needed-few, one-more, no-more}
 use borrow.Author.Needs.{needs}
 use Rattle.plan.proofs.needs.put_pair.Statement.{statement}
 use Rattle.plan.proofs.needs.put_pair.Tie as tie
@@ -14,7 +14,9 @@ add-if1 : tie.Need-add-if1
 add-if1 c = search needs
 
 returns : tie.Need-returns
-returns c = search needs
+returns c =
+    let a = c .before .before .before .args in
+    no-more (a .plan .now) (a .table .now) (a .m) (a .at) (omega (arith, c .if1 .taken))
 
 add-wide : tie.Need-add-wide
 add-wide c = search needs
@@ -67,7 +69,8 @@ same-length c = search needs
 
 returns-2 : tie.Need-returns-2
 returns-2 c =
-    pairs-next (c .before .before .before .before .before .before .args .plan .now) (c .before .before .before .before .before .before .args .table .now) (c .before .before .before .before .before .before .args .m) (c .before .before .before .before .before .before .pre .0) (c .before .before .before .before .before .before .args .at) (c .count-required .result) (c .before .before .before .if1 .left) (c .count-required .ensures)
+    let a = c .before .before .before .before .before .before .args in
+    one-more (a .plan .now) (a .table .now) (a .m) (a .at) (c .count-required .result) (omega (arith, c .before .before .before .if1 .left)) (c .count-required .ensures)
 
 pub put-pair-spec : {M : Type 1} → statement M
 put-pair-spec =
