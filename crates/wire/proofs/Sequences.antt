@@ -1,8 +1,8 @@
 -- The laws of well-formed UTF-8: a first byte by the table, a sequence a byte at a time, and runs of plain bytes. Assumes nothing.
-use mathlib.Core.Path.{_≡_, refl, ap, sym, _∙_}
+use mathlib.Core.Path.{_≡_, refl, ap, ap₂, sym, _∙_}
 use mathlib.Core.Bool.{Bool, true, false}
 use mathlib.Core.List.{List, [], _∷_}
-use Prim.Native.Nat.{ℕ, zero, suc, _+_, _*_, _/_, _-_, _<_, _≤_}
+use Prim.Native.Nat.{ℕ, zero, suc, _+_, _*_, _/_, _-_, _<_, _≤_, min, zero-le}
 use native.Mathlib.Omega.{arith}
 use native.Mathlib.Nat.{zero-add, add-zero, add-suc, suc-add, add-assoc, zero-mul, add-mul, le-refl, not-suc-le-zero, div-eq-of-lt, div-mul-le-self, add-div-left}
 use native.Mathlib.Numerals.{add-one, sub-one}
@@ -13,7 +13,7 @@ use lib.Seq.{drop-cons, drop-drop}
 use borrow.Author.Tests.{leb-true, leb-false, le-leb, lt-leb, lt-ltb, le-ltb, ltb-true, eqb-true}
 use Rattle.wire.specs.Choice.{pick}
 use Rattle.wire.specs.Utf8.{Range, _to_, within, table, after, goesOn, wellFormed, plainRun}
-use Rattle.wire.specs.Scan.{follower, followers, ahead, second, Begins, Sequence, plainEnd, blocksEnd, Plain}
+use Rattle.wire.specs.Scan.{follower, followers, ahead, second, Begins, follow, sequenceSize, plainEnd, blocksEnd}
 use Rattle.wire.proofs.Picks.{pick-yes, pick-no, pick-case, both, clash}
 use Rattle.wire.proofs.Tables.{each, each-at}
 
@@ -49,7 +49,7 @@ row-is f l n t b p q = same-is (f b) (after table b) (each-at (λ b. same (f b) 
 
 -- the first k bytes at i begin a sequence of which n are yet to come, the first of them in r
 pub record Going (s : List ℕ) (i k n : ℕ) (r : Range) : Type 0 where
-  pub goes : goesOn [] (drop i s) ≡ goesOn (ahead n r) (drop (i + k) s)
+  pub is : sequenceSize (drop i s) ≡ pick (follow (ahead n r) (drop (i + k) s)) (k + n) 0
 
 ahead-followers : (n : ℕ) → followers n ≡ ahead n follower
 unfolding followers ahead
@@ -67,51 +67,47 @@ length-ahead zero r = refl
 length-ahead (suc n) r = ap suc (length-followers n)
 
 -- a next byte
-next : (s : List ℕ) (j : ℕ) (r : Range) (n : ℕ) → 0 < n → j < length s → goesOn (ahead n r) (drop j s) ≡ pick (within r (getD s j 0)) (goesOn (ahead (n - 1) follower) (drop (j + 1) s)) false
-unfolding goesOn ahead
+next : (s : List ℕ) (j : ℕ) (r : Range) (n : ℕ) → 0 < n → j < length s → follow (ahead n r) (drop j s) ≡ pick (within r (getD s j 0)) (follow (ahead (n - 1) follower) (drop (j + 1) s)) false
+unfolding follow ahead
 next s j r zero p h = absurd (not-suc-le-zero p)
 next s j r (suc n) p h = rw (add-one, sub-one, drop-cons s j 0, ahead-followers n)
 
 -- too few bytes
-short : (rs : List Range) (l : List ℕ) → length l < length rs → goesOn rs l ≡ false
-unfolding goesOn pick
+short : (rs : List Range) (l : List ℕ) → length l < length rs → follow rs l ≡ false
+unfolding follow pick
 short [] l h = absurd (not-suc-le-zero h)
 short (r ∷ rs) [] h = refl
-short (r ∷ rs) (b ∷ l) h = pick-case (λ (t : Bool). t ≡ false) (within r b) (goesOn rs l) false (λ _. short rs l (omega arith)) (λ _. refl)
+short (r ∷ rs) (b ∷ l) h = pick-case (λ (t : Bool). t ≡ false) (within r b) (follow rs l) false (λ _. short rs l (omega arith)) (λ _. refl)
 
 module _ (s : List ℕ) (i : ℕ) where
-  nothing : i ≤ length s → goesOn [] (drop i s) ≡ false → Sequence s i 0
-  unfolding pick
-  nothing h e = record { inside = omega arith; same = e }
-
   pub begun : (n : ℕ) (r : Range) → i < length s → ahead n r ≡ after table (getD s i 0) → Going s i 1 n r
-  unfolding goesOn
-  begun n r h e = record { goes = rw (e, add-one, drop-cons s i 0) }
+  unfolding sequenceSize
+  begun n r h e =
+      let l : suc (length (ahead n r)) ≡ 1 + n = ap suc (length-ahead n r) ∙ omega arith in
+      record { is = rw (add-one, drop-cons s i 0, ← e, l) }
 
   module _ (k n : ℕ) (r : Range) (g : Going s i k n r) where
     pub passed : 0 < n → i + k < length s → within r (getD s (i + k) 0) ≡ true → Going s i (k + 1) (n - 1) follower
     passed p h w =
-        record {
-          goes =
-              g .goes
-              ∙ next s (i + k) r n p h
-              ∙ pick-yes (within r (getD s (i + k) 0)) (goesOn (ahead (n - 1) follower) (drop (i + k + 1) s)) false w
-              ∙ rw add-assoc;
-        }
+        let e : k + n ≡ k + 1 + (n - 1) = omega arith in
+        let f : follow (ahead n r) (drop (i + k) s) ≡ follow (ahead (n - 1) follower) (drop (i + (k + 1)) s) =
+        next s (i + k) r n p h ∙ pick-yes (within r (getD s (i + k) 0)) (follow (ahead (n - 1) follower) (drop (i + k + 1) s)) false w ∙ rw add-assoc
+        in
+        record { is = g .is ∙ ap₂ (λ (t : Bool) (m : ℕ). pick t m 0) f e }
 
-    pub broken : 0 < n → i + k < length s → within r (getD s (i + k) 0) ≡ false → Sequence s i 0
+    none : follow (ahead n r) (drop (i + k) s) ≡ false → 0 ≡ sequenceSize (drop i s)
+    none f = sym (g .is ∙ pick-no (follow (ahead n r) (drop (i + k) s)) (k + n) 0 f)
+
+    pub broken : 0 < n → i + k < length s → within r (getD s (i + k) 0) ≡ false → 0 ≡ sequenceSize (drop i s)
     broken p h w =
-        nothing (omega arith)
-        (g .goes
-        ∙ next s (i + k) r n p h
-        ∙ pick-no (within r (getD s (i + k) 0)) (goesOn (ahead (n - 1) follower) (drop (i + k + 1) s)) false w)
+        none (next s (i + k) r n p h ∙ pick-no (within r (getD s (i + k) 0)) (follow (ahead (n - 1) follower) (drop (i + k + 1) s)) false w)
 
-    pub cut : i + k ≤ length s → length s < i + k + n → Sequence s i 0
-    cut p h = nothing (omega arith) (g .goes ∙ short (ahead n r) (drop (i + k) s) (simp (length-drop, length-ahead) (omega arith)))
+    pub cut : i + k ≤ length s → length s < i + k + n → 0 ≡ sequenceSize (drop i s)
+    cut p h = none (short (ahead n r) (drop (i + k) s) (simp (length-drop, length-ahead) (omega arith)))
 
-    pub whole : n ≡ 0 → 0 < k → i + k ≤ length s → Sequence s i k
-    unfolding ahead pick
-    whole e p h = record { inside = h; same = rw (lt-ltb 0 k p) (g .goes ∙ rw e) }
+    pub whole : n ≡ 0 → k ≡ sequenceSize (drop i s)
+    unfolding ahead follow pick
+    whole e = sym (g .is ∙ rw e (add-zero k))
 
 -- the first byte at i is one of the m bytes from l
 module _ (s : List ℕ) (i l m : ℕ) where
@@ -121,7 +117,7 @@ module _ (s : List ℕ) (i l m : ℕ) where
       record { inside = h; some = p; few = q; row = row-is (λ b. ahead n (second b)) l m t (getD s i 0) f g }
 
   -- no row has it: then a range that no byte is in is to follow
-  pub stray : each (λ b. same ((1 to 0) ∷ []) (after table b)) l m ≡ true → i < length s → l ≤ getD s i 0 → getD s i 0 < l + m → Sequence s i 0
+  pub stray : each (λ b. same ((1 to 0) ∷ []) (after table b)) l m ≡ true → i < length s → l ≤ getD s i 0 → getD s i 0 < l + m → 0 ≡ sequenceSize (drop i s)
   unfolding ahead followers within
   stray t h f g =
       let b = getD s (i + 1) 0 in
@@ -132,18 +128,67 @@ module _ (s : List ℕ) (i l m : ℕ) where
       ]
 
 -- what a sequence, or none, says of the text from i on
-module _ (s : List ℕ) (i n : ℕ) (q : Sequence s i n) where
+
+follow-goes : (rs : List Range) (l : List ℕ) → goesOn rs l ≡ pick (follow rs l) (goesOn [] (drop (length rs) l)) false
+unfolding goesOn follow pick
+follow-goes [] l = refl
+follow-goes (r ∷ rs) [] = refl
+follow-goes (r ∷ rs) (b ∷ l) = go (within r b) (follow-goes rs l)
+  where
+    go : (t : Bool) → goesOn rs l ≡ pick (follow rs l) (goesOn [] (drop (length rs) l)) false → pick t (goesOn rs l) false ≡ pick (pick t (follow rs l) false) (goesOn [] (drop (length rs) l)) false
+    go true e = e
+    go false e = refl
+
+follow-inside : (rs : List Range) (l : List ℕ) → follow rs l ≡ true → length rs ≤ length l
+unfolding follow
+follow-inside [] l e = zero-le
+follow-inside (r ∷ rs) [] e = clash e
+follow-inside (r ∷ rs) (b ∷ l) e = let h = follow-inside rs l (both (within r b) (follow rs l) e .1) in omega arith
+
+size-inside : (l : List ℕ) → sequenceSize l ≤ length l
+unfolding sequenceSize
+size-inside [] = zero-le
+size-inside (b ∷ l) =
+    pick-case (λ (n : ℕ). n ≤ suc (length l)) (follow (after table b) l) (suc (length (after table b))) 0
+    (λ e. let h = follow-inside (after table b) l e in omega arith)
+    (λ _. zero-le)
+
+size-goes : (l : List ℕ) → 0 < length l → goesOn [] l ≡ pick (ltb 0 (sequenceSize l)) (goesOn [] (drop (sequenceSize l) l)) false
+unfolding sequenceSize goesOn pick
+size-goes [] h = absurd (not-suc-le-zero h)
+size-goes (b ∷ l) h = go (follow (after table b) l) refl
+  where
+    go :
+        (t : Bool)
+        → follow (after table b) l ≡ t
+        → goesOn (after table b) l ≡ pick (ltb 0 (pick t (suc (length (after table b))) 0)) (goesOn [] (drop (pick t (suc (length (after table b))) 0) (b ∷ l))) false
+    go true e = follow-goes (after table b) l ∙ rw (e, lt-ltb 0 (suc (length (after table b))) (omega arith))
+    go false e = follow-goes (after table b) l ∙ rw e
+
+module _ (s : List ℕ) (i n : ℕ) (h : i < length s) (q : n ≡ sequenceSize (drop i s)) where
+  same-on : goesOn [] (drop i s) ≡ pick (ltb 0 n) (goesOn [] (drop (i + n) s)) false
+  same-on = size-goes (drop i s) (rw (length-drop i s) (omega arith)) ∙ rw (← q, drop-drop)
+
+  pub sequence-inside : i + n ≤ length s
+  sequence-inside = let p = size-inside (drop i s) in omega (arith, length-drop i s)
+
   pub sequence-none : n ≡ 0 → goesOn [] (drop i s) ≡ false
-  sequence-none e = q .same ∙ pick-no (ltb 0 n) (goesOn [] (drop (i + n) s)) false (le-ltb 0 n (omega arith))
+  sequence-none e = same-on ∙ pick-no (ltb 0 n) (goesOn [] (drop (i + n) s)) false (le-ltb 0 n (omega arith))
 
   pub sequence-on : (n ≡ 0 → ⊥) → goesOn [] (drop i s) ≡ goesOn [] (drop (i + n) s)
-  sequence-on e = q .same ∙ pick-yes (ltb 0 n) (goesOn [] (drop (i + n) s)) false (lt-ltb 0 n (omega (arith, e)))
+  sequence-on e = same-on ∙ pick-yes (ltb 0 n) (goesOn [] (drop (i + n) s)) false (lt-ltb 0 n (omega (arith, e)))
 
 pub ended : (s : List ℕ) (i : ℕ) → length s ≤ i → goesOn [] (drop i s) ≡ true
 unfolding goesOn
 ended s i h = rw (drop-of-length-le s h)
 
 -- ---- runs of plain bytes
+
+-- the bytes from i to r are plain
+pub record Plain (s : List ℕ) (i r : ℕ) : Type 0 where
+  pub onward : i ≤ r
+  pub inside : r ≤ length s
+  pub same : plainEnd s i ≡ plainEnd s r
 
 module _ (s : List ℕ) (i : ℕ) where
   pub plain-next : i < length s → getD s i 0 < 0x80 → plainEnd s i ≡ plainEnd s (i + 1)
@@ -157,10 +202,6 @@ module _ (s : List ℕ) (i : ℕ) where
   pub plain-over : length s ≤ i → plainEnd s i ≡ i
   unfolding plainRun
   plain-over h = rw (drop-of-length-le s h) (add-zero i)
-
--- a run that goes on to the end, or stops before it, ends there
-pub plain-ends : (s : List ℕ) (i r : ℕ) → Plain s i r → (r < length s → plainEnd s r ≡ r) → r ≡ plainEnd s i
-plain-ends s i r p f = sym (p .same ∙ elim (decLt r (length s)) [ yes l ↦ f l | no l ↦ plain-over s r (omega arith) ])
 
 plain-length : (l : List ℕ) → plainRun l ≤ length l
 unfolding plainRun
@@ -205,6 +246,12 @@ module _ (s : List ℕ) (i : ℕ) where
   plain-past n h =
       let e : plainRun (drop i s) ≡ n + plainRun (drop (i + n) s) = run-past (drop i s) n h ∙ rw drop-drop in
       omega arith
+
+  -- the plain bytes up to an end
+  pub prefix-plain : (end r : ℕ) → i ≤ end → end ≤ length s → r ≡ min end (plainEnd s i) → Plain s i r
+  prefix-plain end r h l e =
+      let k : i + (r - i) ≡ r = omega arith in
+      record { onward = omega arith; inside = omega arith; same = plain-past (r - i) (omega arith) ∙ ap (plainEnd s) k }
 
   -- what a byte says of whether k + 1 bytes are plain, with g the greater of it and of h, which tells that of the k bytes before it
   pub plain-more :

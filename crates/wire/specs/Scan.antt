@@ -1,13 +1,13 @@
 -- What the functions of src/text.rt say to each other of a scan of text: forms of Utf8's definitions that no other crate needs.
 -- Assumes nothing: these are definitions.
 use mathlib.Core.Path.{_≡_}
-use mathlib.Core.Bool.{false}
+use mathlib.Core.Bool.{Bool, true, false}
 use mathlib.Core.List.{List, [], _∷_}
-use Prim.Native.Nat.{ℕ, zero, suc, _+_, _*_, _/_, _≤_, _<_}
-use lib.Dec.{eqb, ltb}
+use Prim.Native.Nat.{ℕ, zero, suc, _+_, _*_, _/_, _<_}
+use lib.Dec.{eqb}
 use lib.ListN.{length, drop, getD}
 use Rattle.wire.specs.Choice.{pick}
-use Rattle.wire.specs.Utf8.{Range, _to_, table, after, goesOn, plainRun}
+use Rattle.wire.specs.Utf8.{Range, _to_, within, table, after, plainRun}
 
 -- the range of a byte that is not the first, and is not narrowed by the first
 abbrev pub follower : Range
@@ -37,10 +37,16 @@ pub record Begins (s : List ℕ) (i n : ℕ) : Type 0 where
   pub few : n < 4
   pub row : ahead n (second (getD s i 0)) ≡ after table (getD s i 0)
 
--- what stands at i: a whole sequence of r bytes, or, where r is 0, none
-pub record Sequence (s : List ℕ) (i r : ℕ) : Type 0 where
-  pub inside : i + r ≤ length s
-  pub same : goesOn [] (drop i s) ≡ pick (ltb 0 r) (goesOn [] (drop (i + r) s)) false
+-- bytes in ranges, in their order
+unfoldable pub follow : List Range → List ℕ → Bool
+follow [] s = true
+follow (r ∷ rs) [] = false
+follow (r ∷ rs) (b ∷ s) = pick (within r b) (follow rs s) false
+
+-- how many bytes the sequence at the front has, by the row of its first byte; 0 where none stands there
+unfoldable pub sequenceSize : List ℕ → ℕ
+sequenceSize [] = 0
+sequenceSize (b ∷ s) = pick (follow (after table b) s) (suc (length (after table b))) 0
 
 -- where the plain bytes at i end
 abbrev pub plainEnd : List ℕ → ℕ → ℕ
@@ -49,15 +55,3 @@ plainEnd s i = i + plainRun (drop i s)
 -- where the whole blocks of n plain bytes at i end
 abbrev pub blocksEnd : List ℕ → ℕ → ℕ → ℕ
 blocksEnd s n i = i + plainRun (drop i s) / n * n
-
--- the bytes from i to r are plain
-pub record Plain (s : List ℕ) (i r : ℕ) : Type 0 where
-  pub onward : i ≤ r
-  pub inside : r ≤ length s
-  pub same : plainEnd s i ≡ plainEnd s r
-
--- they end before the byte at the given end, or all up to it are plain
-pub record PlainTo (s : List ℕ) (i end r : ℕ) : Type 0 where
-  pub plain : Plain s i r
-  pub bound : r ≤ end
-  pub stops : r < end → plainEnd s r ≡ r

@@ -1,10 +1,10 @@
 // Well-formed UTF-8: the sequences of bytes of the Unicode Standard's Table 3-7.
 ghost use mathlib.Core.Path.{_≡_};
-ghost use Prim.Native.Nat.{_+_, _≤_, _<_};
+ghost use Prim.Native.Nat.{_+_, _≤_, _<_, min};
 ghost use lib.Dec.{leb};
 ghost use lib.ListN.{length, drop, getD};
 ghost use Rattle.wire.specs.Utf8.{_to_, within, wellFormed, plainRun};
-ghost use Rattle.wire.specs.Scan.{second, Begins, Sequence, PlainTo, blocksEnd};
+ghost use Rattle.wire.specs.Scan.{second, Begins, sequenceSize, plainEnd, blocksEnd};
 
 // Whether a byte is in a range, both ends in it.
 fn is_within(b: u8, low: u8, high: u8) -> bool
@@ -41,7 +41,7 @@ fn may_follow(b: u8, c: u8) -> bool
 // not stand there.
 fn rest_at(s: &[u8], i: usize, left: usize) -> usize
     requires { ⌜ Begins (now s) i left ⌝ }
-    ensures { λ r. ⌜ Sequence (now (s .entry)) i r ⌝ }
+    ensures { λ r. ⌜ r ≡ sequenceSize (drop i (now (s .entry))) ⌝ }
 {
     if s.len() - i <= left {
         return 0;
@@ -68,7 +68,7 @@ fn rest_at(s: &[u8], i: usize, left: usize) -> usize
 // length has its own call, with a constant, so that each becomes its own short row of tests.
 fn sequence_at(s: &[u8], i: usize) -> usize
     requires { ⌜ (i < length (now s)) × (0x80 ≤ getD (now s) i 0) ⌝ }
-    ensures { λ r. ⌜ Sequence (now (s .entry)) i r ⌝ }
+    ensures { λ r. ⌜ r ≡ sequenceSize (drop i (now (s .entry))) ⌝ }
 {
     let b = s[i];
     if b < 0xc2 {
@@ -89,7 +89,7 @@ fn sequence_at(s: &[u8], i: usize) -> usize
 // The first index from `from` up to `end` whose byte is not plain, or `end`.
 fn plain_prefix(s: &[u8], from: usize, end: usize) -> usize
     requires { ⌜ (from ≤ end) × (end ≤ length (now s)) ⌝ }
-    ensures { λ r. ⌜ PlainTo (now (s .entry)) from end r ⌝ }
+    ensures { λ r. ⌜ r ≡ min end (plainEnd (now (s .entry)) from) ⌝ }
 {
     let mut i = from;
     while i < end {

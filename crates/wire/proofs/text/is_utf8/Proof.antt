@@ -6,7 +6,7 @@ use native.Mathlib.Omega.{arith}
 use lib.ListN.{length, drop}
 use borrow.Author.Needs.{needs}
 use Rattle.wire.specs.Utf8.{goesOn, wellFormed}
-use Rattle.wire.proofs.Sequences.{sequence-none, sequence-on, ended, plain-next, plain-inside, plain-goes}
+use Rattle.wire.proofs.Sequences.{sequence-inside, sequence-none, sequence-on, ended, plain-next, plain-inside, plain-goes}
 use Rattle.wire.proofs.text.is_utf8.Statement.{statement}
 use Rattle.wire.proofs.text.is_utf8.Tie as tie
 
@@ -44,17 +44,17 @@ sequence-at-requires c κs = search needs
 
 returns : tie.Need-returns Inv-loop μ-loop
 returns c =
-    sym (c .before .before .before .before .before .loop .inv .1 ∙ sequence-none _ _ _ (c .before .sequence-at .ensures) (c .if2 .taken))
+    sym (c .before .before .before .before .before .loop .inv .1 ∙ sequence-none _ _ _ (c .before .before .before .before .loop-test .taken) (c .before .sequence-at .ensures) (c .if2 .taken))
 
 add-i : tie.Need-add-i Inv-loop μ-loop
-add-i c = search needs
+add-i c = search (needs, sequence-inside _ _ _ (c .before .before .before .before .loop-test .taken) (c .before .sequence-at .ensures))
 
 loop-less-2 : tie.Need-loop-less-2 Inv-loop μ-loop
 loop-less-2 c = omega (arith, c .if2 .left)
 
 loop-again-2 : tie.Need-loop-again-2 Inv-loop μ-loop
 loop-again-2 c =
-    (c .before .sequence-at .ensures .inside, c .before .before .before .before .before .loop .inv .1 ∙ sequence-on _ _ _ (c .before .sequence-at .ensures) (c .if2 .left))
+    (sequence-inside _ _ _ (c .before .before .before .before .loop-test .taken) (c .before .sequence-at .ensures), c .before .before .before .before .before .loop .inv .1 ∙ sequence-on _ _ _ (c .before .before .before .before .loop-test .taken) (c .before .sequence-at .ensures) (c .if2 .left))
 
 returns-2 : tie.Need-returns-2 Inv-loop μ-loop
 returns-2 c = sym (c .before .loop .inv .1 ∙ ended _ _ (c .loop-test .left))

@@ -1,8 +1,9 @@
 -- `wire::text::plain_end` meets its contract: each part goes on where the one before it ended, and the last one ends where the plain bytes do. Assumes nothing.
-use mathlib.Core.Path.{sym, _∙_}
+use mathlib.Core.Path.{sym}
+use Prim.Native.Nat.{_+_}
 use native.Mathlib.Omega.{arith}
 use borrow.Author.Needs.{needs}
-use Rattle.wire.proofs.Sequences.{plain-over, plain-ends, blocks-plain}
+use Rattle.wire.proofs.Sequences.{plain-over, plain-inside, prefix-plain, blocks-plain}
 use Rattle.wire.proofs.text.plain_end.Statement.{statement}
 use Rattle.wire.proofs.text.plain_end.Tie as tie
 
@@ -18,7 +19,8 @@ plain-prefix-requires c κs = search needs
 
 returns-2 : tie.Need-returns-2
 returns-2 c =
-    plain-ends (c .before .before .before .before .args .s .now) (c .before .before .before .before .args .from) (c .plain-prefix .result) (c .plain-prefix .ensures .plain) (c .plain-prefix .ensures .stops)
+    let a = c .before .before .before .before .args in
+    omega (arith, c .plain-prefix .ensures, plain-inside (a .s .now) (a .from) (omega arith))
 
 add-near : tie.Need-add-near
 add-near c = search needs
@@ -27,33 +29,33 @@ plain-prefix-requires-2 : tie.Need-plain-prefix-requires-2
 plain-prefix-requires-2 c κs = search needs
 
 returns-3 : tie.Need-returns-3
-returns-3 c =
-    sym (c .before .plain-prefix2 .ensures .plain .same ∙ c .before .plain-prefix2 .ensures .stops (c .if3 .taken))
+returns-3 c = omega (arith, c .before .plain-prefix2 .ensures, c .if3 .taken)
 
 plain-blocks-requires : tie.Need-plain-blocks-requires
 plain-blocks-requires c κs = search needs
 
 plain-blocks-requires-2 : tie.Need-plain-blocks-requires-2
 plain-blocks-requires-2 c κs =
-    let near = c .before .before .plain-prefix2 in
-    let large = blocks-plain _ (near .result) 128 (omega arith) (near .ensures .plain .inside) _ (c .plain-blocks .ensures) in
+    let a = c .before .before .before .before .before .before .args in
+    let near = prefix-plain (a .s .now) (a .from) (a .from + 16) _ (omega arith) (omega arith) (c .before .before .plain-prefix2 .ensures) in
+    let large = blocks-plain (a .s .now) _ 128 (omega arith) (near .inside) _ (c .plain-blocks .ensures) in
     (large .inside, omega arith)
 
 plain-prefix-requires-3 : tie.Need-plain-prefix-requires-3
 plain-prefix-requires-3 c κs =
-    let near = c .before .before .before .plain-prefix2 in
-    let large = blocks-plain _ (near .result) 128 (omega arith) (near .ensures .plain .inside) _ (c .before .plain-blocks .ensures) in
-    let small = blocks-plain _ (c .before .plain-blocks .result) 16 (omega arith) (large .inside) _ (c .plain-blocks2 .ensures) in
+    let a = c .before .before .before .before .before .before .before .args in
+    let near = prefix-plain (a .s .now) (a .from) (a .from + 16) _ (omega arith) (omega arith) (c .before .before .before .plain-prefix2 .ensures) in
+    let large = blocks-plain (a .s .now) _ 128 (omega arith) (near .inside) _ (c .before .plain-blocks .ensures) in
+    let small = blocks-plain (a .s .now) _ 16 (omega arith) (large .inside) _ (c .plain-blocks2 .ensures) in
     (small .inside, omega arith)
 
 returns-4 : tie.Need-returns-4
 returns-4 c =
-    let s = c .before .before .before .before .before .before .before .before .args .s .now in
-    let near = c .before .before .before .before .plain-prefix2 in
-    let large = blocks-plain s (near .result) 128 (omega arith) (near .ensures .plain .inside) _ (c .before .before .plain-blocks .ensures) in
-    let small = blocks-plain s (c .before .before .plain-blocks .result) 16 (omega arith) (large .inside) _ (c .before .plain-blocks2 .ensures) in
-    let p = c .plain-prefix3 .ensures in
-    plain-ends s (c .before .plain-blocks2 .result) (c .plain-prefix3 .result) (p .plain) (p .stops) ∙ sym (near .ensures .plain .same ∙ large .same ∙ small .same)
+    let a = c .before .before .before .before .before .before .before .before .args in
+    let near = prefix-plain (a .s .now) (a .from) (a .from + 16) _ (omega arith) (omega arith) (c .before .before .before .before .plain-prefix2 .ensures) in
+    let large = blocks-plain (a .s .now) _ 128 (omega arith) (near .inside) _ (c .before .before .plain-blocks .ensures) in
+    let small = blocks-plain (a .s .now) _ 16 (omega arith) (large .inside) _ (c .before .plain-blocks2 .ensures) in
+    omega (arith, c .plain-prefix3 .ensures, plain-inside (a .s .now) (c .before .plain-blocks2 .result) (small .inside), near .same, large .same, small .same)
 
 pub plain-end-spec : {M : Type 1} → statement M
 plain-end-spec =

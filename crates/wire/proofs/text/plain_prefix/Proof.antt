@@ -3,8 +3,7 @@ use mathlib.Core.Path.{refl, _∙_}
 use Prim.Native.Nat.{_-_, _≤_}
 use native.Mathlib.Omega.{arith}
 use borrow.Author.Needs.{needs}
-use Rattle.wire.specs.Scan.{Plain}
-use Rattle.wire.proofs.Sequences.{plain-next, plain-stop}
+use Rattle.wire.proofs.Sequences.{Plain, plain-next, plain-stop}
 use Rattle.wire.proofs.text.plain_prefix.Statement.{statement}
 use Rattle.wire.proofs.text.plain_prefix.Tie as tie
 
@@ -22,7 +21,9 @@ shared-slice-read-if1 c = search needs
 
 returns : tie.Need-returns Inv-loop μ-loop
 returns c =
-    record { plain = c .before .before .before .loop .inv .1; bound = omega arith; stops = λ h. plain-stop (c .before .before .before .before .args .s .now) (c .before .before .before .loop .i) (omega arith) (c .if1 .taken) }
+    let l = c .before .before .before .loop in
+    let e = plain-stop (c .before .before .before .before .args .s .now) (l .i) (omega arith) (c .if1 .taken) in
+    omega (arith, l .inv .1 .same, e)
 
 add-i : tie.Need-add-i Inv-loop μ-loop
 add-i c = search needs
@@ -36,8 +37,7 @@ loop-again c =
     (omega arith, record { onward = omega arith; inside = omega arith; same = p .same ∙ plain-next (c .before .before .before .before .args .s .now) (c .before .before .before .loop .i) (omega arith) (c .if1 .left) })
 
 returns-2 : tie.Need-returns-2 Inv-loop μ-loop
-returns-2 c =
-    record { plain = c .before .loop .inv .1; bound = omega arith; stops = λ h. absurd (omega arith) }
+returns-2 c = omega (arith, c .before .loop .inv .1 .same)
 
 pub plain-prefix-spec : {M : Type 1} → statement M
 plain-prefix-spec =

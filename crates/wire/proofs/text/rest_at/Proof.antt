@@ -49,7 +49,7 @@ returns-2 : tie.Need-returns-2
 returns-2 c = broken _ _ 1 _ _ (one (c .before .before .before .before .before .before)) (omega arith) (omega arith) (sym (c .before .may-follow .ensures) ∙ not-true _ (c .if2 .taken))
 
 returns-3 : tie.Need-returns-3
-returns-3 c = whole _ _ 2 _ _ (two (c .before)) (omega arith) (omega arith) (omega arith)
+returns-3 c = whole _ _ 2 _ _ (two (c .before)) (omega arith)
 
 add-is-within : tie.Need-add-is-within
 add-is-within c = search needs
@@ -64,7 +64,7 @@ returns-4 : tie.Need-returns-4
 returns-4 c = broken _ _ 2 _ _ (two (c .before .before .before .before)) (omega arith) (omega arith) (sym (c .before .is-within .ensures) ∙ not-true _ (c .if4 .taken))
 
 returns-5 : tie.Need-returns-5
-returns-5 c = whole _ _ 3 _ _ (three (c .before)) (omega arith) (omega arith) (omega arith)
+returns-5 c = whole _ _ 3 _ _ (three (c .before)) (omega arith)
 
 add-is-within-2 : tie.Need-add-is-within-2
 add-is-within-2 c = search needs
@@ -79,7 +79,7 @@ returns-6 : tie.Need-returns-6
 returns-6 c = broken _ _ 3 _ _ (three (c .before .before .before .before)) (omega arith) (omega arith) (sym (c .before .is-within2 .ensures) ∙ not-true _ (c .if6 .taken))
 
 returns-7 : tie.Need-returns-7
-returns-7 c = whole _ _ 4 _ _ (four c) (omega arith) (omega arith) (omega arith)
+returns-7 c = whole _ _ 4 _ _ (four c) (omega arith)
 
 pub rest-at-spec : {M : Type 1} → statement M
 rest-at-spec =
