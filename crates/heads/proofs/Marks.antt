@@ -2,13 +2,16 @@
 use mathlib.Core.Path.{_≡_, refl, ap, sym, _∙_}
 use mathlib.Core.Bool.{Bool, true, false}
 use mathlib.Core.List.{List, [], _∷_, _++_}
-use Prim.Native.Nat.{ℕ, zero, suc, _+_, _<_, _≤_}
+use Prim.Native.Nat.{ℕ, zero, suc, _+_, _-_, _<_, _≤_}
 use native.Mathlib.Omega.{arith}
-use native.Mathlib.Numerals.{add-one}
-use lib.ListN.{length, getD, set, take, drop, length-set, drop-of-length-le, List·getD-eq-default}
-use lib.Seq.{drop-cons, set-out, take-suc-set}
+use native.Mathlib.Nat.{zero-add}
+use native.Mathlib.Numerals.{sub-one}
+use lib.ListN.{length, getD, set, length-set, List·getD-eq-default}
+use lib.Seq.{append-snoc, set-out}
+use borrow.Author.Tests.{lt-ltb, le-ltb, le-leb, lt-leb}
 use Rattle.wire.specs.Choice.{pick}
-use Rattle.heads.specs.Marks.{marked, repeats}
+use Rattle.heads.specs.Heads.{word}
+use Rattle.heads.specs.Marks.{marked, repeats, indexesIn, indexesApart}
 
 -- ---- an index more
 
@@ -34,18 +37,7 @@ repeats-snoc marks (j ∷ is) i =
     ap (pick (getD marks j false) true) (repeats-snoc (set marks j true) is i)
     ∙ either-picked (getD marks j false) (repeats (set marks j true) is) (getD (marked (set marks j true) is) i false)
 
--- with an index more in an array, of which n were there
-module _ (marks : List Bool) (is : List ℕ) (n i : ℕ) (h : n < length is) where
-  more : take (n + 1) (set is n i) ≡ take n is ++ (i ∷ [])
-  more = rw add-one (take-suc-set is n i h)
-
-  pub marked-more : marked marks (take (n + 1) (set is n i)) ≡ set (marked marks (take n is)) i true
-  marked-more = rw more (marked-snoc marks (take n is) i)
-
-  pub repeats-more : repeats marks (take (n + 1) (set is n i)) ≡ pick (repeats marks (take n is)) true (getD (marked marks (take n is)) i false)
-  repeats-more = rw more (repeats-snoc marks (take n is) i)
-
--- ---- the loop over the indexes
+-- ---- the loop over the indexes of a stretch
 
 either-turned : (a b c : Bool) → pick a true (pick b true c) ≡ pick (pick b true a) true c
 unfolding pick
@@ -55,36 +47,92 @@ either-turned false true c = refl
 either-turned false false c = refl
 
 -- what is left of the indexes leads to the same marks
-abbrev pub Marking : List Bool → List ℕ → List Bool → Bool → ℕ → Type 0
-Marking marks₀ is marks twice k =
-    (length marks ≡ 512) × (k ≤ length is) × (repeats marks₀ is ≡ pick twice true (repeats marks (drop k is))) × (marked marks₀ is ≡ marked marks (drop k is))
+abbrev pub Marking : List Bool → List ℕ → List Bool → Bool → List ℕ → Type 0
+Marking marks₀ is marks twice rest =
+    (length marks ≡ 512) × (repeats marks₀ is ≡ pick twice true (repeats marks rest)) × (marked marks₀ is ≡ marked marks rest)
 
-pub marking-start : (marks : List Bool) (is : List ℕ) → length marks ≡ 512 → Marking marks is marks false 0
+pub marking-start : (marks : List Bool) (is : List ℕ) → length marks ≡ 512 → Marking marks is marks false is
 unfolding pick
-marking-start marks is e = (e, omega arith, refl, refl)
+marking-start marks is e = (e, refl, refl)
 
-module _ (marks₀ : List Bool) (is : List ℕ) (marks : List Bool) (twice : Bool) (k : ℕ) (m : Marking marks₀ is marks twice k) where
+module _ (marks₀ : List Bool) (is : List ℕ) (marks : List Bool) (twice : Bool) (rest : List ℕ) (m : Marking marks₀ is marks twice rest) where
   -- the next index, which had been given or not
-  pub marking-next : k < length is → (t : Bool) → getD marks (getD is k 0) false ≡ t → Marking marks₀ is (set marks (getD is k 0) true) (pick t true twice) (k + 1)
+  pub marking-next : (i : ℕ) (next : List ℕ) → rest ≡ i ∷ next → (t : Bool) → t ≡ pick (getD marks i false) true twice → Marking marks₀ is (set marks i true) t next
   unfolding repeats marked
-  marking-next l t e =
-      let d : drop k is ≡ getD is k 0 ∷ drop (k + 1) is = rw add-one (drop-cons is k 0 l) in (
-        length-set marks (getD is k 0) true ∙ m .0,
-        omega arith,
-        (rw (d, e) at (m .2)) ∙ either-turned twice t (repeats (set marks (getD is k 0) true) (drop (k + 1) is)),
-        rw d at (m .3),
-      )
+  marking-next i next e t et = (
+    length-set marks i true ∙ m .0,
+    (rw e at (m .1)) ∙ either-turned twice (getD marks i false) (repeats (set marks i true) next) ∙ ap (λ (b : Bool). pick b true (repeats (set marks i true) next)) (sym et),
+    rw e at (m .2),
+  )
 
   -- an index that has no mark
-  pub marking-past : k < length is → 512 ≤ getD is k 0 → Marking marks₀ is marks twice (k + 1)
+  pub marking-past : (i : ℕ) (next : List ℕ) → rest ≡ i ∷ next → 512 ≤ i → Marking marks₀ is marks twice next
   unfolding pick
-  marking-past l h =
-      let long : length marks ≤ getD is k 0 = omega (arith, m .0) in
-      rw (set-out marks (getD is k 0) true long) at (marking-next l false (List·getD-eq-default marks false long))
+  marking-past i next e h =
+      let long : length marks ≤ i = omega (arith, m .0) in
+      let none : getD marks i false ≡ false = List·getD-eq-default marks false long in
+      rw (set-out marks i true long) at (marking-next i next e twice (rw none))
 
-  pub marking-done : length is ≤ k → (twice ≡ repeats marks₀ is) × (marks ≡ marked marks₀ is)
+  pub marking-done : rest ≡ [] → (twice ≡ repeats marks₀ is) × (marks ≡ marked marks₀ is)
   unfolding repeats marked
-  marking-done h =
-      let d : drop k is ≡ [] = drop-of-length-le is h in
-      let r = rw d at (m .2) in
-      (sym (r ∙ only twice), sym (rw d at (m .3)))
+  marking-done e =
+      let r = rw e at (m .1) in
+      (sym (r ∙ only twice), sym (rw e at (m .2)))
+
+-- ---- the indexes of a stretch, one more
+
+module _ (s : List ℕ) where
+  pub in-none : (n at : ℕ) → n ≤ 0 → indexesIn s n at ≡ []
+  unfolding indexesIn
+  in-none zero at h = refl
+  in-none (suc n) at h = absurd (omega arith)
+
+  pub in-past : (n at : ℕ) → length s < at + 8 → indexesIn s n at ≡ []
+  unfolding indexesIn pick
+  in-past zero at h = refl
+  in-past (suc n) at h = rw (lt-ltb (length s) (at + 8) h)
+
+  pub in-more : (n at : ℕ) → 0 < n → at + 8 ≤ length s → indexesIn s n at ≡ word s at ∷ indexesIn s (n - 1) (at + (8 + word s (at + 4)))
+  unfolding indexesIn pick
+  in-more zero at z h = absurd (omega arith)
+  in-more (suc n) at z h = rw (le-ltb (length s) (at + 8) h, sub-one)
+
+module _ (l : List ℕ) (step : ℕ) where
+  pub apart-none : (n at : ℕ) → n ≤ 0 → indexesApart l step n at ≡ []
+  unfolding indexesApart
+  apart-none zero at h = refl
+  apart-none (suc n) at h = absurd (omega arith)
+
+  pub apart-past : (n at : ℕ) → length l ≤ at → indexesApart l step n at ≡ []
+  unfolding indexesApart pick
+  apart-past zero at h = refl
+  apart-past (suc n) at h = rw (le-leb (length l) at h)
+
+  pub apart-more : (n at : ℕ) → 0 < n → at < length l → indexesApart l step n at ≡ getD l at 0 ∷ indexesApart l step (n - 1) (at + step)
+  unfolding indexesApart pick
+  apart-more zero at z h = absurd (omega arith)
+  apart-more (suc n) at z h = rw (lt-leb (length l) at h, sub-one)
+
+-- ---- a stretch that grows at its end: whatever comes after it
+
+-- the first n indexes, then those from where the n elements end
+abbrev pub Followed : (ℕ → ℕ → List ℕ) → ℕ → ℕ → ℕ → Type 0
+Followed f from n at = (r : ℕ) → f (n + r) from ≡ f n from ++ f r at
+
+pub followed-start : (f : ℕ → ℕ → List ℕ) (from : ℕ) → f 0 from ≡ [] → Followed f from 0 from
+followed-start f from e r = ap (λ (m : ℕ). f m from) (zero-add r) ∙ ap (λ (t : List ℕ). t ++ f r from) (sym e)
+
+module _ (f : ℕ → ℕ → List ℕ) (from n at : ℕ) (w : Followed f from n at) (i at′ : ℕ) (more : (r : ℕ) → f (r + 1) at ≡ i ∷ f r at′) (none : f 0 at′ ≡ []) where
+  last : f (n + 1) from ≡ f n from ++ (i ∷ [])
+  last = w 1 ∙ ap (λ (t : List ℕ). f n from ++ t) (more 0 ∙ ap (λ (t : List ℕ). i ∷ t) none)
+
+  pub followed-next : Followed f from (n + 1) at′
+  followed-next r =
+      let e : n + 1 + r ≡ n + (r + 1) = omega arith in
+      ap (λ (m : ℕ). f m from) e ∙ w (r + 1) ∙ ap (λ (t : List ℕ). f n from ++ t) (more r) ∙ sym (append-snoc (f n from) i (f r at′)) ∙ ap (λ (t : List ℕ). t ++ f r at′) (sym last)
+
+  pub marked-more : (marks : List Bool) → marked marks (f (n + 1) from) ≡ set (marked marks (f n from)) i true
+  marked-more marks = rw last (marked-snoc marks (f n from) i)
+
+  pub repeats-more : (marks : List Bool) → repeats marks (f (n + 1) from) ≡ pick (repeats marks (f n from)) true (getD (marked marks (f n from)) i false)
+  repeats-more marks = rw last (repeats-snoc marks (f n from) i)

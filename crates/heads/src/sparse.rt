@@ -5,11 +5,15 @@ ghost use mathlib.Core.Bool.{true, false};
 ghost use mathlib.Core.List.{[]};
 ghost use Prim.Native.Nat.{_≤_, _<_};
 ghost use lib.ListN.{length, getD, set, replicate};
+ghost use Rattle.wire.specs.Choice.{pick};
 ghost use Rattle.heads.specs.Heads.{sparseIndex};
-ghost use Rattle.heads.specs.Marks.{marked, repeats};
+ghost use Rattle.heads.specs.Marks.{marked, repeats, indexesIn, indexesApart};
 
 // How many marks a set has: "512 elements .. in a block".
 pub const MOST: usize = 512;
+
+// How many bytes an element's head has: its index and its length.
+const HEAD: usize = 8;
 
 // Which indexes of a sparse object were given, and whether one of those that came last had been given before. The marks are read and written
 // by the methods here alone: each takes the set by value, and hands the marked set back.
@@ -40,26 +44,64 @@ impl Seen {
         Seen { marks, twice }
     }
 
-    // Tests and marks the indexes of a stretch of elements, one after the other: the set is taken and handed back once for all of them. An
-    // index that has no mark is passed over.
-    pub fn mark_all(self, indexes: &[u32]) -> Self
-        ensures { λ r. ⌜ (r .twice ≡ repeats (self .marks) (now (indexes .entry))) × (r .marks ≡ marked (self .marks) (now (indexes .entry))) ⌝ }
+    // Tests and marks the indexes of a stretch of elements in a sparse object's bytes: n of them, one after the other, from `at` on. The set is
+    // taken and handed back once for all of them. An index that has no mark is passed over, and so is what passes the end.
+    pub fn mark_elements(self, s: &[u8], n: usize, at: usize) -> Self
+        requires { ⌜ at ≤ length (now s) ⌝ }
+        ensures { λ r. ⌜ (r .twice ≡ repeats (self .marks) (indexesIn (now (s .entry)) n at)) × (r .marks ≡ marked (self .marks) (indexesIn (now (s .entry)) n at)) ⌝ }
     {
         let mut marks = self.marks;
         let mut twice = false;
-        let mut k: usize = 0;
-        while k < indexes.len() {
-            let i = indexes[k] as usize;
+        let mut left = n;
+        let mut pos = at;
+        while 0 < left {
+            if s.len() < pos + HEAD {
+                return Seen { marks, twice };
+            }
+            let i = wire::be::u32_at(s, pos) as usize;
             if i < MOST {
-                if marks[i] {
-                    twice = true;
-                }
+                twice = either(twice, marks[i]);
                 marks[i] = true;
             }
-            k += 1;
+            pos += HEAD + wire::be::u32_at(s, pos + 4) as usize;
+            left -= 1;
         }
         Seen { marks, twice }
     }
+
+    // The same of a supply's entries, whose index words stand `step` apart in its list, from `first` on.
+    pub fn mark_entries(self, list: &[u32], n: usize, first: usize, step: usize) -> Self
+        requires { ⌜ step ≤ 16 ⌝ }
+        ensures { λ r. ⌜ (r .twice ≡ repeats (self .marks) (indexesApart (now (list .entry)) step n first)) × (r .marks ≡ marked (self .marks) (indexesApart (now (list .entry)) step n first)) ⌝ }
+    {
+        let mut marks = self.marks;
+        let mut twice = false;
+        let mut left = n;
+        let mut word = first;
+        while 0 < left {
+            if list.len() <= word {
+                return Seen { marks, twice };
+            }
+            let i = list[word] as usize;
+            if i < MOST {
+                twice = either(twice, marks[i]);
+                marks[i] = true;
+            }
+            word += step;
+            left -= 1;
+        }
+        Seen { marks, twice }
+    }
+}
+
+// Whether one of two holds.
+fn either(a: bool, b: bool) -> bool
+    ensures { λ r. ⌜ r ≡ pick b true a ⌝ }
+{
+    if b {
+        return true;
+    }
+    a
 }
 
 // The index of the element at `at`, of n, before it is looked for among the marks. The head must be whole (20) and the index known

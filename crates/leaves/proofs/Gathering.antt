@@ -2,19 +2,19 @@
 -- object is refused since an index was given twice. Assumes nothing.
 use mathlib.Core.Path.{_≡_, refl, ap, sym, _∙_}
 use mathlib.Core.Bool.{Bool, true, false}
-use mathlib.Core.List.{List, []}
+use mathlib.Core.List.{List, [], _∷_}
 use mathlib.Core.Option.{some}
 use Prim.Native.Nat.{ℕ, _+_, _-_, _*_, _<_, _≤_}
 use native.Mathlib.Omega.{arith}
 use native.Mathlib.Nat.{sub-zero}
-use lib.ListN.{length, take, drop, getD, set as store, length-set}
+use lib.ListN.{length, take, drop, getD, set as store}
 use lib.Seq.{sets}
 use Rattle.wire.specs.Choice.{pick}
 use Rattle.wire.proofs.Picks.{clash}
 use Rattle.heads.specs.Heads.{word, optional, requires, sparseIndex, endOf}
 use Rattle.heads.specs.Faults.{headFault}
-use Rattle.heads.specs.Marks.{marked, repeats}
-use Rattle.heads.proofs.Marks.{marked-more, repeats-more}
+use Rattle.heads.specs.Marks.{marked, repeats, indexesIn}
+use Rattle.heads.proofs.Marks.{Followed, followed-start, followed-next, marked-more, repeats-more, in-none, in-more}
 use Rattle.heads.specs.declared.Index.the-variants.{Known}
 use Rattle.heads.specs.declared.Head.the-variants.{Present}
 use Rattle.rules.specs.Node.{refAt}
@@ -31,7 +31,7 @@ use Rattle.value.proofs.Walks.{single, turn-fault, turn-go}
 use Rattle.leaves.specs.Leaves.{givenAt, Gathers}
 use Rattle.leaves.specs.declared.Given.{Given}
 use Rattle.leaves.specs.declared.Given.the-variants.{Whole}
-use Rattle.leaves.proofs.Single.{head-there, given-in}
+use Rattle.leaves.proofs.Single.{head-there, given-in, known-word, optional-end}
 use Rattle.leaves.proofs.Stretches.{leaf-led}
 
 one-at-most : (r : Bool) (count count′ m : ℕ) → count ≤ m → count′ ≡ count + pick r 1 0 → count′ ≤ m + 1
@@ -111,37 +111,47 @@ module _ (p : List ℕ) (k base : ℕ) (s : List ℕ) (n from at : ℕ) (l : Lis
   unfolding pick
   gathers-go e = rw e at (g .leads)
 
--- ---- the loop over the leaves, which keeps their indexes
+-- ---- the loop over the leaves, whose indexes are marked at its end
 
-abbrev pub Gathering : List ℕ → ℕ → ℕ → List ℕ → ℕ → ℕ → ℕ → List ℕ → List ℕ → List ℕ → ℕ → ℕ → ℕ → ℕ → Type 0
-Gathering p k base s n from at l l′ indexes m count pos to =
-    (length l′ ≡ length l) × (length indexes ≡ 512) × (m ≤ n) × (count ≤ m)
-    × Gathers p k base s n from at l (marked noMarks (take m indexes)) (repeats noMarks (take m indexes)) count (n - m) pos to l′
+abbrev pub Gathering : List ℕ → ℕ → ℕ → List ℕ → ℕ → ℕ → ℕ → List ℕ → List ℕ → ℕ → ℕ → ℕ → ℕ → Type 0
+Gathering p k base s n from at l l′ m count pos to =
+    (length l′ ≡ length l) × (m ≤ n) × (count ≤ m) × Followed (indexesIn s) from m pos
+    × Gathers p k base s n from at l (marked noMarks (indexesIn s m from)) (repeats noMarks (indexesIn s m from)) count (n - m) pos to l′
 
 module _ (p : List ℕ) (k base : ℕ) (s : List ℕ) (n from at : ℕ) (l : List ℕ) where
-  pub gathering-start : (indexes : List ℕ) → length indexes ≡ 512 → from ≤ length s → 4 * at ≤ 5 * (base + from) + 20 → Gathering p k base s n from at l l indexes 0 0 from at
-  unfolding marked repeats
-  gathering-start indexes e inside few =
-      (refl, e, omega arith, omega arith, rw sub-zero (gathers-start p k base s n from at l inside few))
+  pub gathering-start : from ≤ length s → 4 * at ≤ 5 * (base + from) + 20 → Gathering p k base s n from at l l 0 0 from at
+  unfolding marked repeats indexesIn
+  gathering-start inside few =
+      (refl, omega arith, omega arith, followed-start (indexesIn s) from (in-none s 0 from (omega arith)), rw sub-zero (gathers-start p k base s n from at l inside few))
 
-  pub gathering-next : At p k → getD p k 0 ≡ 6 → (l′ indexes : List ℕ) (m count pos to : ℕ) → Gathering p k base s n from at l l′ indexes m count pos to → m < n → m < 512
+  pub gathering-next : At p k → getD p k 0 ≡ 6 → (l′ : List ℕ) (m count pos to : ℕ) → Gathering p k base s n from at l l′ m count pos to → m < n
       → (x : Given) (i child start size : ℕ) → x ≡ givenAt p k s pos → x ≡ Whole i child start size
       → (count′ : ℕ) → count′ ≡ count + pick (requires (getD (cardsAt p k) i 0)) 1 0
       → (l″ : List ℕ) → l″ ≡ sets l′ to (entryWords (entryOf child i (base + start) size) 0) → length l″ ≡ length l′
-      → Gathering p k base s n from at l l″ (store indexes m i) (m + 1) count′ (start + size) (to + 5)
-  gathering-next a e l′ indexes m count pos to g below room x i child start size gx ex count′ ec l″ el same =
-      let inside : m < length indexes = omega (arith, g .1) in
+      → Gathering p k base s n from at l l″ (m + 1) count′ (start + size) (to + 5)
+  gathering-next a e l′ m count pos to g below x i child start size gx ex count′ ec l″ el same =
+      let t = given-in p k s pos a e (g .4 .inside) x i child start size gx ex in
+      let w = known-in p k a e s pos (getD p (k + 1) 0) i refl (Known i) (sym (t .0)) refl (g .4 .inside) in
+      let iw = known-word s (getD p (k + 1) 0) pos i (t .0) in
+      let end = optional-end s (requires (getD (cardsAt p k) i 0)) i pos i start size (t .2) in
+      let more : (r : ℕ) → indexesIn s (r + 1) pos ≡ i ∷ indexesIn s r (start + size) = λ r. one-more r iw end (w .2) in
+      let none : indexesIn s 0 (start + size) ≡ [] = in-none s 0 (start + size) (omega arith) in
       let left : n - (m + 1) ≡ n - m - 1 = omega arith in (
         same ∙ g .0,
-        length-set indexes m i ∙ g .1,
         omega arith,
-        one-at-most (requires (getD (cardsAt p k) i 0)) count count′ m (g .3) ec,
-        rw (marked-more noMarks indexes m i inside, repeats-more noMarks indexes m i inside, left)
+        one-at-most (requires (getD (cardsAt p k) i 0)) count count′ m (g .2) ec,
+        followed-next (indexesIn s) from m pos (g .3) i (start + size) more none,
+        rw (marked-more (indexesIn s) from m pos (g .3) i (start + size) more none noMarks, repeats-more (indexesIn s) from m pos (g .3) i (start + size) more none noMarks, left)
             (gathers-next p k base s n from at l a e pos (g .4 .inside) x i child start size gx ex _ _ count (n - m) to l′ (g .4) (omega arith) count′ ec l″ el),
       )
+    where
+      one-more : (r : ℕ) → word s pos ≡ i → start + size ≡ pos + (8 + word s (pos + 4)) → pos + 8 ≤ length s → indexesIn s (r + 1) pos ≡ i ∷ indexesIn s r (start + size)
+      one-more r iw end whole =
+          let z : r + 1 - 1 ≡ r = omega arith in
+          in-more s (r + 1) pos (omega arith) whole ∙ rw (iw, z, ← end)
 
   -- the set that all the indexes were handed to
-  pub gathering-end : (l′ indexes : List ℕ) (m count pos to : ℕ) → Gathering p k base s n from at l l′ indexes m count pos to
-      → (marks₀ : List Bool) → marks₀ ≡ noMarks → (is : List ℕ) → is ≡ take m indexes → (marks : List Bool) → marks ≡ marked marks₀ is → (twice : Bool) → twice ≡ repeats marks₀ is
+  pub gathering-end : (l′ : List ℕ) (m count pos to : ℕ) → Gathering p k base s n from at l l′ m count pos to
+      → (marks₀ : List Bool) → marks₀ ≡ noMarks → (marks : List Bool) → marks ≡ marked marks₀ (indexesIn s m from) → (twice : Bool) → twice ≡ repeats marks₀ (indexesIn s m from)
       → Gathers p k base s n from at l marks twice count (n - m) pos to l′
-  gathering-end l′ indexes m count pos to g marks₀ e₀ is ei marks em twice et = rw (em, et, e₀, ei) (g .4)
+  gathering-end l′ m count pos to g marks₀ e₀ marks em twice et = rw (em, et, e₀) (g .4)

@@ -261,6 +261,28 @@ unfolding wholeOf
 whole-of j c Other i child start size e = let z : _≡_ {A = ℕ} 0 1 = cc in absurd (omega arith)
 whole-of j c (Good at n) i child start size e = (cc, cc, cc)
 
+-- the index, and where the next element stands
+three : (a b c : Bool) (w i : ℕ) → pick a (Bad 20) (pick b (Bad 25) (pick c (Bad 26) (Known w))) ≡ Known i → w ≡ i
+unfolding pick
+three true b c w i e = let z : _≡_ {A = ℕ} 0 1 = cc in absurd (omega arith)
+three false true c w i e = let z : _≡_ {A = ℕ} 0 1 = cc in absurd (omega arith)
+three false false true w i e = let z : _≡_ {A = ℕ} 0 1 = cc in absurd (omega arith)
+three false false false w i e = cc
+
+pub known-word : (s : List ℕ) (n at i : ℕ) → sparseIndex s n [] at ≡ Known i → word s at ≡ i
+unfolding sparseIndex
+known-word s n at i e = three (ltb (length s - at) 8) (leb n (word s at)) (getD [] (word s at) false) (word s at) i e
+
+pub optional-end : (s : List ℕ) (q : Bool) (i at j start size : ℕ) → optional s q i (at + 8) (word s (at + 4)) ≡ Present j start size → start + size ≡ at + (8 + word s (at + 4))
+optional-end s q i at j start size =
+    optional-cases (λ h. h ≡ Present j start size → start + size ≡ at + (8 + word s (at + 4)))
+    (λ _ _ e. let z : _≡_ {A = ℕ} 0 1 = cc in absurd (omega arith)) s q i (at + 8) (word s (at + 4))
+    (λ _ e. let z : _≡_ {A = ℕ} 0 1 = cc in absurd (omega arith))
+    (λ few fits e.
+    let a : at + 8 ≡ start = cc in
+    let b : word s (at + 4) ≡ size = cc in
+    omega (arith, a, b))
+
 -- the node of a sparse object's element
 pub pair-is : (p : List ℕ) (k : ℕ) → getD p k 0 ≡ 6 → (i child : ℕ) → i < getD p (k + 1) 0 → refAt (look p k) i ≡ some child → pairRef p k i ≡ child
 pair-is p k e i child h r = let q : some (pairRef p k i) ≡ some child = sym (ref-pairs p k i (inr e) h) ∙ r in cc

@@ -262,9 +262,9 @@ fn given_leaf(plan: &[u32], node: usize, part: &[u8], pos: usize) -> Given
     Given::Unknown
 }
 
-// The leaves that a sparse object starts with: in most such objects, all of its elements. Their indexes are kept, and the set of seen indexes
-// is handed them all at once, since each of its methods copies it. No more are taken than a shape has elements: with one more an index is
-// given twice. If the set says that one was, the object is refused.
+// The leaves that a sparse object starts with: in most such objects, all of its elements. Their indexes are marked at the end, all at once,
+// since each method of the set of seen indexes copies it. No more are taken than a shape has elements: with one more an index is given
+// twice. If the set says that one was, the object is refused.
 pub fn sparse_leaves(
     plan: &[u32],
     node: usize,
@@ -279,7 +279,6 @@ pub fn sparse_leaves(
     ensures { λ r. ⌜ Gathers (now (plan .entry)) node base (now (part .entry)) count from at (now (list .entry)) (r .seen .marks) (r .seen .twice) (r .given) (r .left) (r .pos) (r .at) (now (list .exit)) ⌝ }
 {
     let most = wire::copy::least(count, MOST);
-    let mut indexes = [0u32; MOST];
     let mut n: usize = 0;
     let mut given: usize = 0;
     let mut pos = from;
@@ -295,13 +294,12 @@ pub fn sparse_leaves(
         else {
             break;
         };
-        indexes[n] = index as u32;
         n += 1;
         given = node::count_given(plan, node, index, given);
         entry::put_entry(list, to, child, index, base + start, size, 0);
         to += entry::WORDS;
         pos = start + size;
     }
-    let seen = Seen::new().mark_all(&indexes[..n]);
+    let seen = Seen::new().mark_elements(part, n, from);
     gather(seen, given, count - n, pos, to)
 }

@@ -1,21 +1,21 @@
 -- The laws of a container's elements, one after the other. Assumes nothing.
 use mathlib.Core.Path.{_≡_, refl, ap, sym, _∙_}
 use mathlib.Core.Bool.{Bool, true, false}
-use mathlib.Core.List.{List, []}
+use mathlib.Core.List.{List, [], _∷_}
 use Prim.Native.Nat.{ℕ, zero, suc, _+_, _-_, _<_, _≤_}
 use native.Mathlib.Omega.{arith}
 use native.Mathlib.Nat.{add-zero, sub-zero, not-suc-le-zero}
 use native.Mathlib.Numerals.{sub-one}
 use lib.Dec.{ltb}
-use lib.ListN.{length, take, getD, set as store, length-set}
+use lib.ListN.{length, drop, getD, set as store}
 use borrow.Author.Tests.{lt-ltb, le-ltb, ltb-false}
 use Rattle.wire.specs.Choice.{pick}
 use Rattle.wire.proofs.Picks.{clash}
 use Rattle.rules.specs.Node.{Node, refAt}
 use Rattle.rules.specs.Values.{noMarks}
 use Rattle.heads.specs.Heads.{requires}
-use Rattle.heads.specs.Marks.{marked, repeats}
-use Rattle.heads.proofs.Marks.{marked-more, repeats-more}
+use Rattle.heads.specs.Marks.{marked, repeats, indexesApart}
+use Rattle.heads.proofs.Marks.{Followed, followed-start, followed-next, marked-more, repeats-more, apart-none, apart-more}
 use Rattle.plan.specs.Plan.{look, cardsAt, At}
 use Rattle.plan.proofs.Looks.{cards-length}
 use Rattle.plan.proofs.Nodes.{at-few}
@@ -163,26 +163,30 @@ module _ (src p : List ℕ) (k n : ℕ) (from : List Bool) (ws : List ℕ) (at :
       g .leads ∙ sym (turn-barred (sparseOrder (cardsAt p k)) (buildOf src (look p)) (look p k) marks us at′ out′ left z c rest e
       (same-index p k marks (getD p (k + 1) 0) (c .index) refl known twice))
 
--- ---- the loop over the leaves that a sparse object starts with, which keeps their indexes
+-- ---- the loop over the leaves that a sparse object starts with, whose indexes are marked at its end
 
 one-at-most : (r : Bool) (count count′ m : ℕ) → count ≤ m → count′ ≡ count + pick r 1 0 → count′ ≤ m + 1
 unfolding pick
 one-at-most true count count′ m h e = omega arith
 one-at-most false count count′ m h e = omega arith
 
-abbrev pub Gathering : List ℕ → List ℕ → ℕ → ℕ → List ℕ → ℕ → List ℕ → List ℕ → ℕ → ℕ → List ℕ → ℕ → List ℕ → Type 0
-Gathering src p k n ws at out indexes m count us at′ out′ =
-    (length out′ ≡ length out) × (length indexes ≡ 512) × (m ≤ n) × (count ≤ m)
-    × GathersNew src p k n ws at out (marked noMarks (take m indexes)) (repeats noMarks (take m indexes)) count (n - m) us at′ out′
+abbrev pub Gathering : List ℕ → List ℕ → ℕ → ℕ → List ℕ → ℕ → ℕ → List ℕ → ℕ → ℕ → ℕ → ℕ → List ℕ → Type 0
+Gathering src p k n list first at out m count word at′ out′ =
+    (length out′ ≡ length out) × (m ≤ n) × (count ≤ m) × Followed (indexesApart list 5) (first + 1) m (word + 1)
+    × GathersNew src p k n (drop first list) at out (marked noMarks (indexesApart list 5 m (first + 1))) (repeats noMarks (indexesApart list 5 m (first + 1)))
+    count (n - m) (drop word list) at′ out′
 
-module _ (src p : List ℕ) (k n : ℕ) (ws : List ℕ) (at : ℕ) (out : List ℕ) where
-  pub gathering-start : (indexes : List ℕ) → length indexes ≡ 512 → at ≤ 65535 → Gathering src p k n ws at out indexes 0 0 ws at out
-  unfolding marked repeats
-  gathering-start indexes e h = (
+module _ (src p : List ℕ) (k n : ℕ) (list : List ℕ) (first at : ℕ) (out : List ℕ) where
+  abbrev ws : List ℕ
+  ws = drop first list
+
+  pub gathering-start : at ≤ 65535 → Gathering src p k n list first at out 0 0 first at out
+  unfolding marked repeats indexesApart
+  gathering-start h = (
     refl,
-    e,
     omega arith,
     omega arith,
+    followed-start (indexesApart list 5) (first + 1) (apart-none list 5 0 (first + 1) (omega arith)),
     record {
       small = h;
       barred = λ q. clash q;
@@ -218,25 +222,36 @@ module _ (src p : List ℕ) (k n : ℕ) (ws : List ℕ) (at : ℕ) (out : List �
       new-by false false et em f =
           gathers-next src p k n noMarks ws at out marks count left us at′ out′ (g .new et) z a six c rest e known em us″ at″ out″ q (store marks (c .index) true) refl count′ ec (left - 1) refl
 
-  pub gathering-next : (indexes : List ℕ) (m count : ℕ) (us : List ℕ) (at′ : ℕ) (out′ : List ℕ) → Gathering src p k n ws at out indexes m count us at′ out′ → m < n → m < 512
-      → At p k → getD p k 0 ≡ 6 → (c : Claim) (rest : List ℕ) → nextOf us ≡ next c rest → c .index < getD p (k + 1) 0
-      → (us″ : List ℕ) (at″ : ℕ) (out″ : List ℕ)
-      → stands us″ at″ out″ ≡ put-at (partMade (buildOf src (look p)) (look p k) (refAt (look p k) (c .index)) c rest us) at′ out′ → length out″ ≡ length out′
-      → (count′ : ℕ) → count′ ≡ count + pick (requires (getD (cardsAt p k) (c .index) 0)) 1 0
-      → Gathering src p k n ws at out (store indexes m (c .index)) (m + 1) count′ us″ at″ out″
-  gathering-next indexes m count us at′ out′ g below room a six c rest e known us″ at″ out″ q same count′ ec =
-      let inside : m < length indexes = omega (arith, g .1) in
+  pub gathering-next : (m count word at′ : ℕ) (out′ : List ℕ) → Gathering src p k n list first at out m count word at′ out′ → m < n
+      → At p k → getD p k 0 ≡ 6 → (c : Claim) → nextOf (drop word list) ≡ next c (drop (word + 5) list) → c .index ≡ getD list (word + 1) 0 → word + 5 ≤ length list
+      → c .index < getD p (k + 1) 0 → (at″ : ℕ) (out″ : List ℕ)
+      → stands (drop (word + 5) list) at″ out″ ≡ put-at (partMade (buildOf src (look p)) (look p k) (refAt (look p k) (c .index)) c (drop (word + 5) list) (drop word list)) at′ out′
+      → length out″ ≡ length out′ → (count′ : ℕ) → count′ ≡ count + pick (requires (getD (cardsAt p k) (c .index) 0)) 1 0
+      → Gathering src p k n list first at out (m + 1) count′ (word + 5) at″ out″
+  gathering-next m count word at′ out′ g below a six c e ei inside known at″ out″ q same count′ ec =
+      let more : (r : ℕ) → indexesApart list 5 (r + 1) (word + 1) ≡ c .index ∷ indexesApart list 5 r (word + 5 + 1) = λ r. one-more r in
+      let none : indexesApart list 5 0 (word + 5 + 1) ≡ [] = apart-none list 5 0 (word + 5 + 1) (omega arith) in
       let left : n - (m + 1) ≡ n - m - 1 = omega arith in (
         same ∙ g .0,
-        length-set indexes m (c .index) ∙ g .1,
         omega arith,
-        one-at-most (requires (getD (cardsAt p k) (c .index) 0)) count count′ m (g .3) ec,
-        rw (marked-more noMarks indexes m (c .index) inside, repeats-more noMarks indexes m (c .index) inside, left)
-            (next-new _ _ count (n - m) us at′ out′ (g .4) (omega arith) a six c rest e known us″ at″ out″ q count′ ec),
+        one-at-most (requires (getD (cardsAt p k) (c .index) 0)) count count′ m (g .2) ec,
+        followed-next (indexesApart list 5) (first + 1) m (word + 1) (g .3) (c .index) (word + 5 + 1) more none,
+        rw (
+          marked-more (indexesApart list 5) (first + 1) m (word + 1) (g .3) (c .index) (word + 5 + 1) more none noMarks,
+          repeats-more (indexesApart list 5) (first + 1) m (word + 1) (g .3) (c .index) (word + 5 + 1) more none noMarks,
+          left,
+        ) (next-new _ _ count (n - m) (drop word list) at′ out′ (g .4) (omega arith) a six c (drop (word + 5) list) e known (drop (word + 5) list) at″ out″ q count′ ec),
       )
+    where
+      one-more : (r : ℕ) → indexesApart list 5 (r + 1) (word + 1) ≡ c .index ∷ indexesApart list 5 r (word + 5 + 1)
+      one-more r =
+          let z : r + 1 - 1 ≡ r = omega arith in
+          let y : word + 1 + 5 ≡ word + 5 + 1 = omega arith in
+          apart-more list 5 (r + 1) (word + 1) (omega arith) (omega arith) ∙ rw (sym ei, z, y)
 
   -- the set that all the indexes were handed to
-  pub gathering-end : (indexes : List ℕ) (m count : ℕ) (us : List ℕ) (at′ : ℕ) (out′ : List ℕ) → Gathering src p k n ws at out indexes m count us at′ out′
-      → (marks₀ : List Bool) → marks₀ ≡ noMarks → (is : List ℕ) → is ≡ take m indexes → (marks : List Bool) → marks ≡ marked marks₀ is → (twice : Bool) → twice ≡ repeats marks₀ is
-      → GathersNew src p k n ws at out marks twice count (n - m) us at′ out′
-  gathering-end indexes m count us at′ out′ g marks₀ e₀ is ei marks em twice et = rw (em, et, e₀, ei) (g .4)
+  pub gathering-end : (m count word at′ : ℕ) (out′ : List ℕ) → Gathering src p k n list first at out m count word at′ out′
+      → (marks₀ : List Bool) → marks₀ ≡ noMarks → (marks : List Bool) → marks ≡ marked marks₀ (indexesApart list 5 m (first + 1))
+      → (twice : Bool) → twice ≡ repeats marks₀ (indexesApart list 5 m (first + 1))
+      → GathersNew src p k n ws at out marks twice count (n - m) (drop word list) at′ out′
+  gathering-end m count word at′ out′ g marks₀ e₀ marks em twice et = rw (em, et, e₀) (g .4)

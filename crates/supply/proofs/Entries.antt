@@ -63,6 +63,9 @@ module _ (l : List ℕ) (w : ℕ) where
           let f : e ≡ record { node = getD (drop w l) 0 0; index = getD (drop w l) 1 0; start = getD (drop w l) 2 0; size = getD (drop w l) 3 0; count = getD (drop w l) 4 0 } = cc in
           rw (le-ltb (length (drop w l)) 5 k, f, drop-drop)
 
+      pub entry-index : e .index ≡ getD l (w + 1) 0
+      entry-index = ap index-of (sym is ∙ q ∙ sym (read-whole entry-inside))
+
 -- ---- the entry of a sparse object, whose index is one of n
 
 module _ (n : ℕ) where

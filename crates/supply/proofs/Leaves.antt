@@ -23,7 +23,7 @@ use Rattle.value.proofs.Nodes.{good-scalar}
 use Rattle.value.proofs.Members.{inner-kind}
 use Rattle.supply.specs.Supply.{Claim, next, nextOf}
 use Rattle.supply.specs.Build.{Made, wrong, made, before, andThen, Builder, rowOrder, partMade, memberMade, stateAfter, elementsMade, buildOf}
-use Rattle.supply.specs.Emitting.{claim, Stand, stands, put-at, headOf, headSize, leafTo, LeafPut}
+use Rattle.supply.specs.Emitting.{claim, Stand, stands, put-at, headOf, headSize, leafSize, LeafPut}
 use Rattle.supply.specs.declared.Entry.{Entry}
 use Rattle.supply.specs.declared.Emitted.{Emitted}
 use Rattle.supply.specs.declared.Emitted.the-variants.{Leaf, Other}
@@ -68,61 +68,62 @@ module _ (src p : List ℕ) (k kind : ℕ) (is : Container p k kind) (c : Claim)
 -- ---- what is put out, and when
 
 module _ (src p : List ℕ) (k kind : ℕ) (e : Entry) (child : ℕ) (er : refAt (look p k) (e .index) ≡ some child) (at : ℕ) (out : List ℕ) where
-  known-to : (r : Emitted) → r ≡ leafTo src p kind child e at → (child′ : ℕ) → refAt (look p k) (e .index) ≡ some child′ → r ≡ leafTo src p kind child′ e at
+  known-to : (r : Emitted) → r ≡ leafSize src p kind child e at → (child′ : ℕ) → refAt (look p k) (e .index) ≡ some child′ → r ≡ leafSize src p kind child′ e at
   known-to r q child′ er′ = let z : some child ≡ some child′ = sym er ∙ er′ in let y : child ≡ child′ = cc in rw y at q
 
-  other-put : Other ≡ leafTo src p kind child e at → LeafPut src p k kind e at out Other out
+  other-put : Other ≡ leafSize src p kind child e at → LeafPut src p k kind e at out Other out
   other-put q =
       record { is = known-to Other q; kept = λ _. refl; put = λ to z. let y : _≡_ {A = ℕ} 0 1 = cc in absurd (omega arith) }
 
   pub put-stranger : (e .node ≡ child → ⊥) → LeafPut src p k kind e at out Other out
-  unfolding leafTo pick
+  unfolding leafSize pick
   put-stranger n = other-put (rw (ne-eqb (e .node) child n))
 
   module _ (en : e .node ≡ child) where
     pub put-above : (e .count ≡ 0 → ⊥) → LeafPut src p k kind e at out Other out
-    unfolding leafTo pick
+    unfolding leafSize pick
     put-above n = other-put (rw (eq-eqb (e .node) child en, ne-eqb (e .count) 0 n))
 
     module _ (ec : e .count ≡ 0) (h : ℕ) (eh : h ≡ headSize kind) where
-      abbrev end : ℕ
-      end = at + h + (e .start + e .size - e .start)
+      abbrev size : ℕ
+      size = h + (e .start + e .size - e .start)
 
-      end-is : end ≡ at + headSize kind + e .size
-      end-is = rw (eh, add-sub-cancel-left (e .start) (e .size))
+      size-is : size ≡ headSize kind + e .size
+      size-is = rw (eh, add-sub-cancel-left (e .start) (e .size))
 
-      pub put-large : 65535 < end → LeafPut src p k kind e at out Other out
-      unfolding leafTo pick
-      put-large l = other-put (rw (eq-eqb (e .node) child en, eq-eqb (e .count) 0 ec, lt-ltb 65535 (at + headSize kind + e .size) (omega (arith, end-is))))
+      pub put-large : 65535 < at + size → LeafPut src p k kind e at out Other out
+      unfolding leafSize pick
+      put-large l = other-put (rw (eq-eqb (e .node) child en, eq-eqb (e .count) 0 ec, lt-ltb 65535 (at + (headSize kind + e .size)) (omega (arith, size-is))))
 
-      module _ (small : end ≤ 65535) where
+      module _ (small : at + size ≤ 65535) where
         pub put-outside : length src < e .start + e .size → LeafPut src p k kind e at out Other out
-        unfolding leafTo pick
+        unfolding leafSize pick
         put-outside l =
-            other-put (rw (eq-eqb (e .node) child en, eq-eqb (e .count) 0 ec, le-ltb 65535 (at + headSize kind + e .size) (omega (arith, end-is)), lt-ltb (length src) (e .start + e .size) l))
+            other-put (rw (eq-eqb (e .node) child en, eq-eqb (e .count) 0 ec, le-ltb 65535 (at + (headSize kind + e .size)) (omega (arith, size-is)), lt-ltb (length src) (e .start + e .size) l))
 
         module _ (inside : e .start + e .size ≤ length src) (b : Bool) (eb : b ≡ leafGood (look p child) (take (e .start + e .size - e .start) (drop (e .start) src))) where
-          judged : pick b (Leaf end) Other ≡ leafTo src p kind child e at
-          unfolding leafTo pick
+          judged : pick b (Leaf size) Other ≡ leafSize src p kind child e at
+          unfolding leafSize pick
           judged =
               let g : b ≡ leafGood (look p child) (take (e .size) (drop (e .start) src)) = rw add-sub-cancel-left at eb in
-              ap (λ (m : ℕ). pick b (Leaf m) Other) end-is
-              ∙ rw (eq-eqb (e .node) child en, eq-eqb (e .count) 0 ec, le-ltb 65535 (at + headSize kind + e .size) (omega (arith, end-is)), le-ltb (length src) (e .start + e .size) inside, ← g)
+              ap (λ (m : ℕ). pick b (Leaf m) Other) size-is
+              ∙ rw (eq-eqb (e .node) child en, eq-eqb (e .count) 0 ec, le-ltb 65535 (at + (headSize kind + e .size)) (omega (arith, size-is)), le-ltb (length src) (e .start + e .size) inside, ← g)
 
           pub put-bad : b ≡ false → LeafPut src p k kind e at out Other out
           unfolding pick
           put-bad f = other-put (rw f at judged)
 
           pub put-good : Container p k kind → At p child → b ≡ true → (out₁ : List ℕ) → out₁ ≡ sets out (at + h) (take (e .start + e .size - e .start) (drop (e .start) src))
-              → (out₂ : List ℕ) → out₂ ≡ sets out₁ at (headOf kind (e .index) (e .size)) → LeafPut src p k kind e at out (Leaf end) out₂
+              → (out₂ : List ℕ) → out₂ ≡ sets out₁ at (headOf kind (e .index) (e .size)) → LeafPut src p k kind e at out (Leaf size) out₂
           unfolding pick
           put-good is a t out₁ o₁ out₂ o₂ =
               record {
-                is = known-to (Leaf end) (rw t at judged);
+                is = known-to (Leaf size) (rw t at judged);
                 kept = λ z. let y : _≡_ {A = ℕ} 0 1 = cc in absurd (omega arith);
-                put = λ to z rest ws q.
-                    let y : end ≡ to = cc in
-                    rw (sym y) (leaf-put src p k kind is (claim e) child er a en ec at out h eh small inside b eb t out₁ o₁ out₂ o₂ rest ws q);
+                put = λ n z rest ws q.
+                    let y : size ≡ n = cc in
+                    let d : at + n ≡ at + h + (e .start + e .size - e .start) = omega (arith, y) in
+                    rw d (leaf-put src p k kind is (claim e) child er a en ec at out h eh (omega arith) inside b eb t out₁ o₁ out₂ o₂ rest ws q);
               }
 
 -- the same output

@@ -85,22 +85,22 @@ standOf (Done word at) ws out = stands (drop word ws) at out
 
 -- ---- a leaf
 
--- where the output stands after the leaf of an entry and its head, if it is one: its node is the element's own, no entry is below it, it fits, lies
--- inside the source and is permitted
-unfoldable pub leafTo : List ℕ → List ℕ → ℕ → ℕ → Entry → ℕ → Emitted
-leafTo src p kind child e at =
+-- how many bytes the leaf of an entry has with its head, if it is one: its node is the element's own, no entry is below it, it fits, lies inside the
+-- source and is permitted
+unfoldable pub leafSize : List ℕ → List ℕ → ℕ → ℕ → Entry → ℕ → Emitted
+leafSize src p kind child e at =
     pick (eqb (e .node) child)
     (pick (eqb (e .count) 0)
-    (pick (ltb 65535 (at + headSize kind + e .size)) Other
+    (pick (ltb 65535 (at + (headSize kind + e .size))) Other
     (pick (ltb (length src) (e .start + e .size)) Other
-    (pick (leafGood (look p child) (take (e .size) (drop (e .start) src))) (Leaf (at + headSize kind + e .size)) Other))) Other) Other
+    (pick (leafGood (look p child) (take (e .size) (drop (e .start) src))) (Leaf (headSize kind + e .size)) Other))) Other) Other
 
 -- whether it was put out, and what then stands there: the element's part of the building. Otherwise the output is as it was.
 pub record LeafPut (src p : List ℕ) (k kind : ℕ) (e : Entry) (at : ℕ) (out : List ℕ) (r : Emitted) (out′ : List ℕ) : Type 0 where
-  pub is : (child : ℕ) → refAt (look p k) (e .index) ≡ some child → r ≡ leafTo src p kind child e at
+  pub is : (child : ℕ) → refAt (look p k) (e .index) ≡ some child → r ≡ leafSize src p kind child e at
   pub kept : r ≡ Other → out′ ≡ out
-  pub put : (to : ℕ) → r ≡ Leaf to → (rest ws : List ℕ) → nextOf ws ≡ next (claim e) rest
-      → stands rest to out′ ≡ put-at (Spec.partMade (Spec.buildOf src (look p)) (look p k) (refAt (look p k) (e .index)) (claim e) rest ws) at out
+  pub put : (n : ℕ) → r ≡ Leaf n → (rest ws : List ℕ) → nextOf ws ≡ next (claim e) rest
+      → stands rest (at + n) out′ ≡ put-at (Spec.partMade (Spec.buildOf src (look p)) (look p k) (refAt (look p k) (e .index)) (claim e) rest ws) at out
 
 -- ---- a stretch of leaves
 

@@ -60,18 +60,18 @@ fn put_leaf(
     }
     let s = entry.start as usize;
     let e = s + entry.size as usize;
-    let from = at + head::head_size(kind);
-    let end = from + (e - s);
-    if front::LARGEST < end {
+    let head = head::head_size(kind);
+    let size = head + (e - s);
+    if front::LARGEST < at + size {
         return Emitted::Other;
     }
     if src.len() < e {
         return Emitted::Other;
     }
     if leaf_fits(plan, child, src, s, e) {
-        wire::copy::put_bytes(&src[s..e], out, from);
+        wire::copy::put_bytes(&src[s..e], out, at + head);
         head::put_head(kind, entry.index, entry.size, out, at);
-        return Emitted::Leaf { at: end };
+        return Emitted::Leaf { size };
     }
     Emitted::Other
 }
@@ -101,19 +101,19 @@ pub fn put_leaves(
             break;
         }
         let leaf = put_leaf(plan, node, kind, src, entry, out, at);
-        let Emitted::Leaf { at: to } = leaf else {
+        let Emitted::Leaf { size } = leaf else {
             break;
         };
         word += list::WORDS;
-        at = to;
+        at += size;
         index += 1;
     }
     Place { index, word, at }
 }
 
-// The leaves that a sparse object starts with: in most such objects, all of its elements. Their indexes are kept, and the set of seen indexes
-// is handed them all at once, since each of its methods copies it. No more are taken than a shape has elements: with one more an index is
-// given twice. If the set says that one was, the object is refused.
+// The leaves that a sparse object starts with: in most such objects, all of its elements. Their indexes are marked at the end, all at once,
+// since each method of the set of seen indexes copies it. No more are taken than a shape has elements: with one more an index is given
+// twice. If the set says that one was, the object is refused.
 pub fn put_given(
     plan: &[u32],
     node: usize,
@@ -124,12 +124,12 @@ pub fn put_given(
     out: &mut [u8],
     mut at: usize,
 ) -> Gathered
-    requires { ⌜ (At (now plan) node) × (getD (now plan) node 0 ≡ 6) × (at ≤ 65535) ⌝ }
+    requires { ⌜ (At (now plan) node) × (getD (now plan) node 0 ≡ 6) × (at ≤ 65535) × (word ≤ length (now list)) ⌝ }
     ensures { λ r. ⌜ GathersNew (now (src .entry)) (now (plan .entry)) node count (drop word (now (list .entry))) at (now (out .entry)) (r .seen .marks) (r .seen .twice) (r .given) (r .left) (drop (r .word) (now (list .entry))) (r .at) (now (out .exit)) ⌝ }
 {
     let known = plan::node::second_at(plan, node);
     let most = wire::copy::least(count, MOST);
-    let mut indexes = [0u32; MOST];
+    let first = word;
     let mut n: usize = 0;
     let mut given: usize = 0;
     while n < most {
@@ -137,16 +137,15 @@ pub fn put_given(
             break;
         };
         let leaf = put_leaf(plan, node, 6, src, entry, out, at);
-        let Emitted::Leaf { at: to } = leaf else {
+        let Emitted::Leaf { size } = leaf else {
             break;
         };
-        indexes[n] = entry.index;
         n += 1;
         given = value::node::count_given(plan, node, entry.index as usize, given);
         word += list::WORDS;
-        at = to;
+        at += size;
     }
-    let seen = Seen::new().mark_all(&indexes[..n]);
+    let seen = Seen::new().mark_entries(list, n, first + list::INDEX, list::WORDS);
     Gathered {
         seen,
         given,

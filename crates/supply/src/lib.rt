@@ -41,9 +41,9 @@ pub struct Place {
     pub at: usize,
 }
 
-// A leaf that was put out with its head, and the next byte of the output; or another element, and nothing was put out.
+// A leaf that was put out, and how many bytes it has with its head; or another element, and nothing was put out.
 pub enum Emitted {
-    Leaf { at: usize },
+    Leaf { size: usize },
     Other,
 }
 

@@ -9,6 +9,9 @@ ghost use Rattle.supply.specs.Emitting.{readOf, known};
 // How many words an entry has.
 pub const WORDS: usize = 5;
 
+// Which of them is its index.
+pub const INDEX: usize = 1;
+
 // The length word of an absent element: "ffffffff hex if absent".
 pub const ABSENT: u32 = 4294967295;
 

@@ -1,7 +1,7 @@
 use native.Mathlib.Omega.{arith}
 use mathlib.Core.Path.{_≡_, refl, sym, _∙_}
-use Prim.Native.Nat.{ℕ, _-_, _≤_}
-use lib.ListN.{length, replicate, length-replicate, length-take}
+use Prim.Native.Nat.{_-_, _≤_}
+use lib.ListN.{length}
 use Rattle.leaves.proofs.Single.{given-few}
 use Rattle.leaves.proofs.Gathering.{Gathering, gathering-start, gathering-next, gathering-end}
 use borrow.Author.Needs.{needs}
@@ -9,7 +9,7 @@ use Rattle.leaves.proofs.sparse_leaves.Statement.{statement}
 use Rattle.leaves.proofs.sparse_leaves.Tie as tie
 use Rattle.leaves.proofs.sparse_leaves.Reads as reads
 use Rattle.leaves.proofs.sparse_leaves.Lts as lts
-use Rattle.heads.proofs.sparse.Seen.mark_all.Reads as mark-all-reads
+use Rattle.heads.proofs.sparse.Seen.mark_elements.Reads as mark-elements-reads
 use Rattle.heads.proofs.sparse.Seen.new.Reads as new-reads
 use Rattle.leaves.proofs.given_leaf.Reads as given-leaf-reads
 use Rattle.value.proofs.entry.put_entry.Reads as put-entry-reads
@@ -18,18 +18,17 @@ use Rattle.value.proofs.node.count_given.Reads as count-given-reads
 use Rattle.wire.proofs.copy.least.Reads as least-reads
 
 abbrev Inv-loop : tie.InvT-loop
-Inv-loop plan node count base from part list₀ at most indexes₀ n₀ given₀ pos₀ to₀ list indexes n given pos to = (n ≤ most) × Gathering plan node base part count from at list₀ list indexes n given pos to
+Inv-loop plan node count base from part list₀ at most n₀ given₀ pos₀ to₀ list n given pos to = (n ≤ most) × Gathering plan node base part count from at list₀ list n given pos to
 
 abbrev μ-loop : tie.MeasureT-loop
-μ-loop plan node count base from part list₀ at most indexes₀ n₀ given₀ pos₀ to₀ list indexes n given pos to = most - n
+μ-loop plan node count base from part list₀ at most n₀ given₀ pos₀ to₀ list n given pos to = most - n
 
 least-requires : tie.Need-least-requires Inv-loop μ-loop
 least-requires c κs = search needs
 
 loop-holds : tie.Need-loop-holds Inv-loop μ-loop
 loop-holds c =
-    let z : ℕ = 0 in
-    (omega arith, gathering-start _ _ _ _ _ _ _ _ (replicate 512 z) (length-replicate 512 z) (c .before .before .before .before .pre .3) (c .before .before .before .before .pre .4))
+    (omega arith, gathering-start _ _ _ _ _ _ _ _ (c .before .before .before .before .pre .3) (c .before .before .before .before .pre .4))
 
 given-leaf-requires : tie.Need-given-leaf-requires Inv-loop μ-loop
 given-leaf-requires c κs =
@@ -41,23 +40,13 @@ enum-known-leaf c = search needs
 enum-told : tie.Need-enum-told Inv-loop μ-loop
 enum-told c = search needs
 
-cast-indexes : tie.Need-cast-indexes Inv-loop μ-loop
-cast-indexes c =
-    let f = given-few _ _ _ _ (c .before .before .before .before .before .before .before .before .before .before .pre .0) (c .before .before .before .before .before .before .before .before .before .before .pre .1) (c .before .before .before .before .before .loop .inv .1 .4 .inside) _ _ _ _ _ (c .before .before .before .given-leaf .ensures) (c .before .leaf .given .1) in omega (arith, f .1)
-
-mul-indexes : tie.Need-mul-indexes Inv-loop μ-loop
-mul-indexes c = search needs
-
-array-write-indexes : tie.Need-array-write-indexes Inv-loop μ-loop
-array-write-indexes c = search needs
-
 add-n : tie.Need-add-n Inv-loop μ-loop
 add-n c = search needs
 
 count-given-requires : tie.Need-count-given-requires Inv-loop μ-loop
 count-given-requires c κs =
     let f = given-few _ _ _ _ (c .before .before .before .before .before .before .before .before .before .before .pre .0) (c .before .before .before .before .before .before .before .before .before .before .pre .1) (c .before .before .before .before .before .loop .inv .1 .4 .inside) _ _ _ _ _ (c .before .before .before .given-leaf .ensures) (c .before .leaf .given .1) in
-    (c .before .before .before .before .before .before .before .before .before .before .pre .0, c .before .before .before .before .before .before .before .before .before .before .pre .1, f .0, omega (arith, c .before .before .before .before .before .loop .inv .1 .3, c .before .before .before .before .loop-test .taken, c .before .before .before .before .before .before .least .ensures))
+    (c .before .before .before .before .before .before .before .before .before .before .pre .0, c .before .before .before .before .before .before .before .before .before .before .pre .1, f .0, omega (arith, c .before .before .before .before .before .loop .inv .1 .2, c .before .before .before .before .loop-test .taken, c .before .before .before .before .before .before .least .ensures))
 
 add-put-entry : tie.Need-add-put-entry Inv-loop μ-loop
 add-put-entry c =
@@ -83,34 +72,27 @@ loop-less c =
 loop-again : tie.Need-loop-again Inv-loop μ-loop
 loop-again c =
     let t = c .before .before .before .before .before .before .before .before .before .loop-test .taken in
-    (omega arith, gathering-next _ _ _ _ _ _ _ _ (c .before .before .before .before .before .before .before .before .before .before .before .before .before .before .before .pre .0) (c .before .before .before .before .before .before .before .before .before .before .before .before .before .before .before .pre .1) _ _ _ _ _ _ (c .before .before .before .before .before .before .before .before .before .before .loop .inv .1) (omega (arith, c .before .before .before .before .before .before .before .before .before .before .before .least .ensures)) (omega (arith, c .before .before .before .before .before .before .before .before .before .before .before .least .ensures)) _ _ _ _ _ (c .before .before .before .before .before .before .before .before .given-leaf .ensures) (c .before .before .before .before .before .before .leaf .given .1) _ (c .before .before .before .before .count-given .ensures) _ (c .before .before .put-entry .ensures) (c .before .before .put-entry .kept .0))
+    (omega arith, gathering-next _ _ _ _ _ _ _ _ (c .before .before .before .before .before .before .before .before .before .before .before .before .before .before .before .pre .0) (c .before .before .before .before .before .before .before .before .before .before .before .before .before .before .before .pre .1) _ _ _ _ _ (c .before .before .before .before .before .before .before .before .before .before .loop .inv .1) (omega (arith, c .before .before .before .before .before .before .before .before .before .before .before .least .ensures)) _ _ _ _ _ (c .before .before .before .before .before .before .before .before .given-leaf .ensures) (c .before .before .before .before .before .before .leaf .given .1) _ (c .before .before .before .before .count-given .ensures) _ (c .before .before .put-entry .ensures) (c .before .before .put-entry .kept .0))
 
 new-requires : tie.Need-new-requires Inv-loop μ-loop
 new-requires c κs = search needs
 
-array-share-prefix-indexes : tie.Need-array-share-prefix-indexes Inv-loop μ-loop
-array-share-prefix-indexes c = search needs
-
-slice-aggregate-mark-all : tie.Need-slice-aggregate-mark-all Inv-loop μ-loop
-slice-aggregate-mark-all c =
-    sym (length-take (c .before .before .before .loop .n) (c .before .before .before .loop .indexes) ∙ omega (arith, c .before .before .before .loop .inv .0, c .before .before .before .before .least .ensures, c .before .before .before .loop .inv .1 .1))
-
-mark-all-requires : tie.Need-mark-all-requires Inv-loop μ-loop
-mark-all-requires c κs = search needs
+mark-elements-requires : tie.Need-mark-elements-requires Inv-loop μ-loop
+mark-elements-requires c κs = c .before .before .before .before .before .before .before .pre .3
 
 sub-gather : tie.Need-sub-gather Inv-loop μ-loop
-sub-gather c = omega (arith, c .before .before .before .before .loop .inv .1 .2)
+sub-gather c = omega (arith, c .before .before .before .loop .inv .1 .1)
 
 gather-requires : tie.Need-gather-requires Inv-loop μ-loop
 gather-requires c κs = search needs
 
 same-length : tie.Need-same-length Inv-loop μ-loop
-same-length c = c .before .before .before .before .before .loop .inv .1 .0
+same-length c = c .before .before .before .before .loop .inv .1 .0
 
 returns : tie.Need-returns Inv-loop μ-loop
 returns c =
     let e = c .gather .ensures in
-    rw (e .0, e .1, e .2, e .3, e .4) (gathering-end _ _ _ _ _ _ _ _ _ _ _ _ _ _ (c .before .before .before .before .before .loop .inv .1) _ (c .before .before .before .new .ensures .0) _ refl _ (c .before .mark-all .ensures .1) _ (c .before .mark-all .ensures .0))
+    rw (e .0, e .1, e .2, e .3, e .4) (gathering-end _ _ _ _ _ _ _ _ _ _ _ _ _ (c .before .before .before .before .loop .inv .1) _ (c .before .before .new .ensures .0) _ (c .before .mark-elements .ensures .1) _ (c .before .mark-elements .ensures .0))
 
 pub sparse-leaves-spec : {M : Type 1} → statement M
 sparse-leaves-spec =
@@ -123,9 +105,6 @@ sparse-leaves-spec =
     given-leaf-requires
     enum-known-leaf
     enum-told
-    cast-indexes
-    mul-indexes
-    array-write-indexes
     add-n
     count-given-requires
     add-put-entry
@@ -135,9 +114,7 @@ sparse-leaves-spec =
     loop-less
     loop-again
     new-requires
-    array-share-prefix-indexes
-    slice-aggregate-mark-all
-    mark-all-requires
+    mark-elements-requires
     sub-gather
     gather-requires
     same-length

@@ -1,18 +1,19 @@
 use mathlib.Core.Path.{_≡_, refl, ap, sym, _∙_}
 use mathlib.Core.Logic.{⊎-elim}
 use native.Mathlib.Omega.{arith}
-use Prim.Native.Nat.{ℕ, _-_, _≤_}
-use lib.ListN.{length, drop, replicate, length-replicate, length-take}
+use Prim.Native.Nat.{_-_, _≤_}
+use lib.ListN.{length, drop}
 use Rattle.plan.proofs.Looks.{cards-length}
 use Rattle.value.proofs.Members.{sparse-holds}
-use Rattle.supply.proofs.Entries.{known-is, entry-at, entry-inside}
+use Rattle.supply.proofs.Entries.{known-is, entry-at, entry-inside, entry-index}
+use Rattle.supply.proofs.Stands.{stood}
 use Rattle.supply.proofs.Elements.{Gathering, gathering-start, gathering-next, gathering-end}
 use borrow.Author.Needs.{needs}
 use Rattle.supply.proofs.leaf.put_given.Statement.{statement}
 use Rattle.supply.proofs.leaf.put_given.Tie as tie
 use Rattle.supply.proofs.leaf.put_given.Reads as reads
 use Rattle.supply.proofs.leaf.put_given.Lts as lts
-use Rattle.heads.proofs.sparse.Seen.mark_all.Reads as mark-all-reads
+use Rattle.heads.proofs.sparse.Seen.mark_entries.Reads as mark-entries-reads
 use Rattle.heads.proofs.sparse.Seen.new.Reads as new-reads
 use Rattle.plan.proofs.node.second_at.Reads as second-at-reads
 use Rattle.supply.proofs.leaf.put_leaf.Reads as put-leaf-reads
@@ -21,11 +22,10 @@ use Rattle.value.proofs.node.count_given.Reads as count-given-reads
 use Rattle.wire.proofs.copy.least.Reads as least-reads
 
 abbrev Inv-loop : tie.InvT-loop
-Inv-loop plan node src list count word₀ out₀ at₀ known most indexes₀ n₀ given₀ word out at indexes n given =
-    (n ≤ most) × Gathering src plan node count (drop word₀ list) at₀ out₀ indexes n given (drop word list) at out
+Inv-loop plan node src list count word₀ out₀ at₀ known most first n₀ given₀ word out at n given = (n ≤ most) × Gathering src plan node count list first at₀ out₀ n given word at out
 
 abbrev μ-loop : tie.MeasureT-loop
-μ-loop plan node src list count word₀ out₀ at₀ known most indexes₀ n₀ given₀ word out at indexes n given = most - n
+μ-loop plan node src list count word₀ out₀ at₀ known most first n₀ given₀ word out at n given = most - n
 
 second-at-requires : tie.Need-second-at-requires Inv-loop μ-loop
 second-at-requires c κs =
@@ -36,7 +36,7 @@ least-requires c κs = search needs
 
 loop-holds : tie.Need-loop-holds Inv-loop μ-loop
 loop-holds c =
-    let z : ℕ = 0 in (omega arith, gathering-start _ _ _ _ _ _ _ (replicate 512 z) (length-replicate 512 z) (c .before .before .before .before .before .before .pre .2))
+    (omega arith, gathering-start _ _ _ _ _ _ _ _ (c .before .before .before .before .before .before .pre .2))
 
 known-entry-requires : tie.Need-known-entry-requires Inv-loop μ-loop
 known-entry-requires c κs = search needs
@@ -58,13 +58,6 @@ enum-known-leaf c = search needs
 enum-told-2 : tie.Need-enum-told-2 Inv-loop μ-loop
 enum-told-2 c = search needs
 
-mul-indexes : tie.Need-mul-indexes Inv-loop μ-loop
-mul-indexes c = search needs
-
-array-write-indexes : tie.Need-array-write-indexes Inv-loop μ-loop
-array-write-indexes c =
-    omega (arith, c .before .before .before .before .before .before .before .before .before .before .before .loop-test .taken, c .before .before .before .before .before .before .before .before .before .before .before .before .before .least .ensures)
-
 add-n : tie.Need-add-n Inv-loop μ-loop
 add-n c = search needs
 
@@ -74,12 +67,19 @@ cast-count-given c = search needs
 count-given-requires : tie.Need-count-given-requires Inv-loop μ-loop
 count-given-requires c κs =
     let k = known-is _ _ _ _ (c .before .before .before .before .before .before .before .before .before .before .before .known-entry .ensures) (c .before .before .before .before .before .before .before .before .before .entry .given .1) in
-    (c .before .before .before .before .before .before .before .before .before .before .before .before .before .before .before .before .before .before .before .before .pre .0, c .before .before .before .before .before .before .before .before .before .before .before .before .before .before .before .before .before .before .before .before .pre .1, omega (arith, k .1, c .before .before .before .before .before .before .before .before .before .before .before .before .before .before .before .second-at .ensures), omega (arith, c .before .before .before .before .before .before .before .before .before .before .before .before .before .loop .inv .1 .3, c .before .before .before .before .before .before .before .before .before .before .before .before .loop-test .taken, c .before .before .before .before .before .before .before .before .before .before .before .before .before .before .least .ensures))
+    (c .before .before .before .before .before .before .before .before .before .before .before .before .before .before .before .before .before .before .before .before .pre .0, c .before .before .before .before .before .before .before .before .before .before .before .before .before .before .before .before .before .before .before .before .pre .1, omega (arith, k .1, c .before .before .before .before .before .before .before .before .before .before .before .before .before .before .before .second-at .ensures), omega (arith, c .before .before .before .before .before .before .before .before .before .before .before .before .before .loop .inv .1 .2, c .before .before .before .before .before .before .before .before .before .before .before .before .loop-test .taken, c .before .before .before .before .before .before .before .before .before .before .before .before .before .before .least .ensures))
 
 add-word : tie.Need-add-word Inv-loop μ-loop
 add-word c =
     let k = known-is _ _ _ _ (c .before .before .before .before .before .before .before .before .before .before .before .before .known-entry .ensures) (c .before .before .before .before .before .before .before .before .before .before .entry .given .1) in
     omega (arith, entry-inside (c .before .before .before .before .before .before .before .before .before .before .before .before .before .before .before .before .before .before .before .before .before .args .list .now) (c .before .before .before .before .before .before .before .before .before .before .before .before .before .before .loop .word) _ (k .0) _ (c .before .before .before .before .before .before .before .before .before .before .entry .given .1), c .before .before .before .before .before .before .before .before .before .before .before .before .before .before .before .before .before .before .before .before .before .good)
+
+add-at : tie.Need-add-at Inv-loop μ-loop
+add-at c =
+    let k = known-is _ _ _ _ (c .before .before .before .before .before .before .before .before .before .before .before .before .known-entry .ensures) (c .before .before .before .before .before .before .before .before .before .before .entry .given .1) in
+    let e = entry-at (c .before .before .before .before .before .before .before .before .before .before .before .before .before .before .before .before .before .before .before .before .before .args .list .now) (c .before .before .before .before .before .before .before .before .before .before .before .before .before .before .loop .word) _ (k .0) _ (c .before .before .before .before .before .before .before .before .before .before .entry .given .1) in
+    let q = c .before .before .before .before .before .before .before .put-leaf .ensures .put _ (c .before .before .before .leaf .given .1) _ _ e in
+    omega (arith, stood _ _ _ _ _ _ q .small)
 
 loop-less : tie.Need-loop-less Inv-loop μ-loop
 loop-less c =
@@ -89,32 +89,31 @@ loop-again : tie.Need-loop-again Inv-loop μ-loop
 loop-again c =
     let k = known-is _ _ _ _ (c .before .before .before .before .before .before .before .before .before .before .before .before .known-entry .ensures) (c .before .before .before .before .before .before .before .before .before .before .entry .given .1) in
     let e = entry-at (c .before .before .before .before .before .before .before .before .before .before .before .before .before .before .before .before .before .before .before .before .before .args .list .now) (c .before .before .before .before .before .before .before .before .before .before .before .before .before .before .loop .word) _ (k .0) _ (c .before .before .before .before .before .before .before .before .before .before .entry .given .1) in
+    let i = entry-index (c .before .before .before .before .before .before .before .before .before .before .before .before .before .before .before .before .before .before .before .before .before .args .list .now) (c .before .before .before .before .before .before .before .before .before .before .before .before .before .before .loop .word) _ (k .0) _ (c .before .before .before .before .before .before .before .before .before .before .entry .given .1) in
+    let w = entry-inside (c .before .before .before .before .before .before .before .before .before .before .before .before .before .before .before .before .before .before .before .before .before .args .list .now) (c .before .before .before .before .before .before .before .before .before .before .before .before .before .before .loop .word) _ (k .0) _ (c .before .before .before .before .before .before .before .before .before .before .entry .given .1) in
     let t = c .before .before .before .before .before .before .before .before .before .before .before .before .before .loop-test .taken in
-    (omega arith, gathering-next _ _ _ _ _ _ _ _ _ _ _ _ _ (c .before .before .before .before .before .before .before .before .before .before .before .before .before .before .loop .inv .1) (omega (arith, c .before .before .before .before .before .before .before .before .before .before .before .before .before .before .before .least .ensures)) (omega (arith, c .before .before .before .before .before .before .before .before .before .before .before .before .before .before .before .least .ensures)) (c .before .before .before .before .before .before .before .before .before .before .before .before .before .before .before .before .before .before .before .before .before .pre .0) (c .before .before .before .before .before .before .before .before .before .before .before .before .before .before .before .before .before .before .before .before .before .pre .1) _ _ e (omega (arith, k .1, c .before .before .before .before .before .before .before .before .before .before .before .before .before .before .before .before .second-at .ensures)) _ _ _ (c .before .before .before .before .before .before .before .put-leaf .ensures .put _ (c .before .before .before .leaf .given .1) _ _ e) (c .before .before .before .before .before .before .before .put-leaf .kept .1 .1 .1 .1 .1 .0) _ (c .count-given .ensures))
+    (omega arith, gathering-next _ _ _ _ _ _ _ _ _ _ _ _ _ (c .before .before .before .before .before .before .before .before .before .before .before .before .before .before .loop .inv .1) (omega (arith, c .before .before .before .before .before .before .before .before .before .before .before .before .before .before .before .least .ensures)) (c .before .before .before .before .before .before .before .before .before .before .before .before .before .before .before .before .before .before .before .before .before .pre .0) (c .before .before .before .before .before .before .before .before .before .before .before .before .before .before .before .before .before .before .before .before .before .pre .1) _ e i w (omega (arith, k .1, c .before .before .before .before .before .before .before .before .before .before .before .before .before .before .before .before .second-at .ensures)) _ _ (c .before .before .before .before .before .before .before .put-leaf .ensures .put _ (c .before .before .before .leaf .given .1) _ _ e) (c .before .before .before .before .before .before .before .put-leaf .kept .1 .1 .1 .1 .1 .0) _ (c .count-given .ensures))
 
 new-requires : tie.Need-new-requires Inv-loop μ-loop
 new-requires c κs = search needs
 
-array-share-prefix-indexes : tie.Need-array-share-prefix-indexes Inv-loop μ-loop
-array-share-prefix-indexes c = search needs
+add-mark-entries : tie.Need-add-mark-entries Inv-loop μ-loop
+add-mark-entries c =
+    omega (arith, c .before .before .before .before .before .before .before .before .before .pre .3, c .before .before .before .before .before .before .before .before .before .good)
 
-slice-aggregate-mark-all : tie.Need-slice-aggregate-mark-all Inv-loop μ-loop
-slice-aggregate-mark-all c =
-    sym (length-take (c .before .before .before .loop .n) (c .before .before .before .loop .indexes) ∙ omega (arith, c .before .before .before .loop .inv .0, c .before .before .before .before .least .ensures, c .before .before .before .loop .inv .1 .1))
+mark-entries-requires : tie.Need-mark-entries-requires Inv-loop μ-loop
+mark-entries-requires c κs = search needs
 
-mark-all-requires : tie.Need-mark-all-requires Inv-loop μ-loop
-mark-all-requires c κs = search needs
-
-sub-t28 : tie.Need-sub-t28 Inv-loop μ-loop
-sub-t28 c = search needs
+sub-t24 : tie.Need-sub-t24 Inv-loop μ-loop
+sub-t24 c = search needs
 
 same-length : tie.Need-same-length Inv-loop μ-loop
 same-length c =
-    ap length (⊎-elim (λ w. w .1) (⊎-elim (λ w. w .4) (λ w. w .11 ∙ w .6 .ensures .kept (w .10 .given .1))) (c .before .before .before .loop-test .came)) ∙ c .before .before .before .before .loop .inv .1 .0
+    ap length (⊎-elim (λ w. w .1) (⊎-elim (λ w. w .4) (λ w. w .11 ∙ w .6 .ensures .kept (w .10 .given .1))) (c .before .before .loop-test .came)) ∙ c .before .before .before .loop .inv .1 .0
 
 returns : tie.Need-returns Inv-loop μ-loop
 returns c =
-    let o : c .before .before .before .loop-test .out ≡ c .before .before .before .before .loop .out = ⊎-elim (λ w. w .1) (⊎-elim (λ w. w .4) (λ w. w .11 ∙ w .6 .ensures .kept (w .10 .given .1))) (c .before .before .before .loop-test .came) in rw o (gathering-end _ _ _ _ _ _ _ _ _ _ _ _ _ (c .before .before .before .before .loop .inv .1) _ (c .before .before .new .ensures .0) _ refl _ (c .mark-all .ensures .1) _ (c .mark-all .ensures .0))
+    let o : c .before .before .loop-test .out ≡ c .before .before .before .loop .out = ⊎-elim (λ w. w .1) (⊎-elim (λ w. w .4) (λ w. w .11 ∙ w .6 .ensures .kept (w .10 .given .1))) (c .before .before .loop-test .came) in rw o (gathering-end _ _ _ _ _ _ _ _ _ _ _ _ _ (c .before .before .before .loop .inv .1) _ (c .before .new .ensures .0) _ (c .mark-entries .ensures .1) _ (c .mark-entries .ensures .0))
 
 pub put-given-spec : {M : Type 1} → statement M
 put-given-spec =
@@ -131,18 +130,16 @@ put-given-spec =
     put-leaf-requires
     enum-known-leaf
     enum-told-2
-    mul-indexes
-    array-write-indexes
     add-n
     cast-count-given
     count-given-requires
     add-word
+    add-at
     loop-less
     loop-again
     new-requires
-    array-share-prefix-indexes
-    slice-aggregate-mark-all
-    mark-all-requires
-    sub-t28
+    add-mark-entries
+    mark-entries-requires
+    sub-t24
     same-length
     returns)

@@ -42,15 +42,15 @@ add-e c = search needs
 head-size-requires : tie.Need-head-size-requires
 head-size-requires c κs = search needs
 
-add-from : tie.Need-add-from
-add-from c =
+sub-size : tie.Need-sub-size
+sub-size c = search needs
+
+add-size : tie.Need-add-size
+add-size c =
     omega (arith, c .head-size .ensures, size-few (c .before .before .before .before .before .before .before .before .before .before .before .before .args .kind), c .before .before .before .before .before .before .before .before .before .before .before .before .pre .3)
 
-sub-end : tie.Need-sub-end
-sub-end c = search needs
-
-add-end : tie.Need-add-end
-add-end c =
+add-if3 : tie.Need-add-if3
+add-if3 c =
     omega (arith, c .head-size .ensures, size-few (c .before .before .before .before .before .before .before .before .before .before .before .before .args .kind), c .before .before .before .before .before .before .before .before .before .before .before .before .pre .3)
 
 returns-3 : tie.Need-returns-3
@@ -73,6 +73,9 @@ part-put-bytes-start c = search needs
 
 part-put-bytes-end : tie.Need-part-put-bytes-end
 part-put-bytes-end c = search needs
+
+add-put-bytes : tie.Need-add-put-bytes
+add-put-bytes c = search needs
 
 put-bytes-requires : tie.Need-put-bytes-requires
 put-bytes-requires c κs = search needs
@@ -105,15 +108,16 @@ put-leaf-spec =
     cast-e
     add-e
     head-size-requires
-    add-from
-    sub-end
-    add-end
+    sub-size
+    add-size
+    add-if3
     returns-3
     returns-4
     leaf-fits-requires
     sub-put-bytes
     part-put-bytes-start
     part-put-bytes-end
+    add-put-bytes
     put-bytes-requires
     put-head-requires
     same-length

@@ -57,6 +57,12 @@ add-word : tie.Need-add-word Inv-loop μ-loop
 add-word c =
     omega (arith, entry-inside (c .before .before .before .before .before .before .before .before .before .before .before .before .before .before .before .before .before .before .before .args .list .now) (c .before .before .before .before .before .before .before .before .before .before .before .before .before .before .loop .word) _ (c .before .before .before .before .before .before .before .before .before .before .before .before .next-entry .ensures) _ (c .before .before .before .before .before .before .before .before .before .before .entry .given .1), c .before .before .before .before .before .before .before .before .before .before .before .before .before .before .before .before .before .before .before .good)
 
+add-at : tie.Need-add-at Inv-loop μ-loop
+add-at c =
+    let e = entry-at (c .before .before .before .before .before .before .before .before .before .before .before .before .before .before .before .before .before .before .before .args .list .now) (c .before .before .before .before .before .before .before .before .before .before .before .before .before .before .loop .word) _ (c .before .before .before .before .before .before .before .before .before .before .before .before .next-entry .ensures) _ (c .before .before .before .before .before .before .before .before .before .before .entry .given .1) in
+    let q = c .before .before .before .before .before .put-leaf .ensures .put _ (c .before .leaf .given .1) _ _ e in
+    omega (arith, stood _ _ _ _ _ _ q .small)
+
 add-index : tie.Need-add-index Inv-loop μ-loop
 add-index c =
     omega (arith, c .before .before .before .before .before .before .before .before .before .before .before .before .before .loop-test .taken, c .before .before .before .before .before .before .before .before .before .before .before .before .before .before .before .before .before .before .before .pre .4)
@@ -111,6 +117,7 @@ put-leaves-spec =
     enum-known-leaf
     enum-told-2
     add-word
+    add-at
     add-index
     loop-less
     loop-again
