@@ -150,6 +150,12 @@ module _ (p : List ℕ) (k base : ℕ) (s : List ℕ) (n from at : ℕ) (l : Lis
           let z : r + 1 - 1 ≡ r = omega arith in
           in-more s (r + 1) pos (omega arith) whole ∙ rw (iw, z, ← end)
 
+  -- no leaf, and so no index
+  pub gathering-none : (l′ : List ℕ) (m count pos to : ℕ) → Gathering p k base s n from at l l′ m count pos to → m ≡ 0
+      → (marks : List Bool) → marks ≡ noMarks → (twice : Bool) → twice ≡ false → Gathers p k base s n from at l marks twice count n pos to l′
+  unfolding marked repeats indexesIn
+  gathering-none l′ m count pos to g e marks em twice et = rw (em, et) (rw sub-zero at (rw e at (g .4)))
+
   -- the set that all the indexes were handed to
   pub gathering-end : (l′ : List ℕ) (m count pos to : ℕ) → Gathering p k base s n from at l l′ m count pos to
       → (marks₀ : List Bool) → marks₀ ≡ noMarks → (marks : List Bool) → marks ≡ marked marks₀ (indexesIn s m from) → (twice : Bool) → twice ≡ repeats marks₀ (indexesIn s m from)

@@ -300,6 +300,9 @@ pub fn sparse_leaves(
         to += entry::WORDS;
         pos = start + size;
     }
+    if n == 0 {
+        return gather(Seen::new(), given, count, pos, to);
+    }
     let seen = Seen::new().mark_elements(part, n, from);
     gather(seen, given, count - n, pos, to)
 }

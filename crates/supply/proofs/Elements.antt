@@ -249,6 +249,12 @@ module _ (src p : List ℕ) (k n : ℕ) (list : List ℕ) (first at : ℕ) (out 
           let y : word + 1 + 5 ≡ word + 5 + 1 = omega arith in
           apart-more list 5 (r + 1) (word + 1) (omega arith) (omega arith) ∙ rw (sym ei, z, y)
 
+  -- no leaf, and so no index
+  pub gathering-none : (m count word at′ : ℕ) (out′ : List ℕ) → Gathering src p k n list first at out m count word at′ out′ → m ≡ 0
+      → (marks : List Bool) → marks ≡ noMarks → (twice : Bool) → twice ≡ false → GathersNew src p k n ws at out marks twice count n (drop word list) at′ out′
+  unfolding marked repeats indexesApart
+  gathering-none m count word at′ out′ g e marks em twice et = rw (em, et) (rw sub-zero at (rw e at (g .4)))
+
   -- the set that all the indexes were handed to
   pub gathering-end : (m count word at′ : ℕ) (out′ : List ℕ) → Gathering src p k n list first at out m count word at′ out′
       → (marks₀ : List Bool) → marks₀ ≡ noMarks → (marks : List Bool) → marks ≡ marked marks₀ (indexesApart list 5 m (first + 1))

@@ -145,6 +145,15 @@ pub fn put_given(
         word += list::WORDS;
         at += size;
     }
+    if n == 0 {
+        return Gathered {
+            seen: Seen::new(),
+            given,
+            left: count,
+            word,
+            at,
+        };
+    }
     let seen = Seen::new().mark_entries(list, n, first + list::INDEX, list::WORDS);
     Gathered {
         seen,

@@ -3,7 +3,7 @@ use mathlib.Core.Path.{_≡_, refl, sym, _∙_}
 use Prim.Native.Nat.{_-_, _≤_}
 use lib.ListN.{length}
 use Rattle.leaves.proofs.Single.{given-few}
-use Rattle.leaves.proofs.Gathering.{Gathering, gathering-start, gathering-next, gathering-end}
+use Rattle.leaves.proofs.Gathering.{Gathering, gathering-start, gathering-next, gathering-none, gathering-end}
 use borrow.Author.Needs.{needs}
 use Rattle.leaves.proofs.sparse_leaves.Statement.{statement}
 use Rattle.leaves.proofs.sparse_leaves.Tie as tie
@@ -77,12 +77,6 @@ loop-again c =
 new-requires : tie.Need-new-requires Inv-loop μ-loop
 new-requires c κs = search needs
 
-mark-elements-requires : tie.Need-mark-elements-requires Inv-loop μ-loop
-mark-elements-requires c κs = c .before .before .before .before .before .before .before .pre .3
-
-sub-gather : tie.Need-sub-gather Inv-loop μ-loop
-sub-gather c = omega (arith, c .before .before .before .loop .inv .1 .1)
-
 gather-requires : tie.Need-gather-requires Inv-loop μ-loop
 gather-requires c κs = search needs
 
@@ -92,7 +86,27 @@ same-length c = c .before .before .before .before .loop .inv .1 .0
 returns : tie.Need-returns Inv-loop μ-loop
 returns c =
     let e = c .gather .ensures in
-    rw (e .0, e .1, e .2, e .3, e .4) (gathering-end _ _ _ _ _ _ _ _ _ _ _ _ _ (c .before .before .before .before .loop .inv .1) _ (c .before .before .new .ensures .0) _ (c .before .mark-elements .ensures .1) _ (c .before .mark-elements .ensures .0))
+    rw (e .0, e .1, e .2, e .3, e .4) (gathering-none _ _ _ _ _ _ _ _ _ _ _ _ _ (c .before .before .before .before .loop .inv .1) (c .before .before .if1 .taken) _ (c .before .new .ensures .0) _ (c .before .new .ensures .1))
+
+new-requires-2 : tie.Need-new-requires-2 Inv-loop μ-loop
+new-requires-2 c κs = search needs
+
+mark-elements-requires : tie.Need-mark-elements-requires Inv-loop μ-loop
+mark-elements-requires c κs = c .before .before .before .before .before .before .before .before .pre .3
+
+sub-gather : tie.Need-sub-gather Inv-loop μ-loop
+sub-gather c = omega (arith, c .before .before .before .before .loop .inv .1 .1)
+
+gather-requires-2 : tie.Need-gather-requires-2 Inv-loop μ-loop
+gather-requires-2 c κs = search needs
+
+same-length-2 : tie.Need-same-length-2 Inv-loop μ-loop
+same-length-2 c = c .before .before .before .before .before .loop .inv .1 .0
+
+returns-2 : tie.Need-returns-2 Inv-loop μ-loop
+returns-2 c =
+    let e = c .gather2 .ensures in
+    rw (e .0, e .1, e .2, e .3, e .4) (gathering-end _ _ _ _ _ _ _ _ _ _ _ _ _ (c .before .before .before .before .before .loop .inv .1) _ (c .before .before .new2 .ensures .0) _ (c .before .mark-elements .ensures .1) _ (c .before .mark-elements .ensures .0))
 
 pub sparse-leaves-spec : {M : Type 1} → statement M
 sparse-leaves-spec =
@@ -114,8 +128,12 @@ sparse-leaves-spec =
     loop-less
     loop-again
     new-requires
-    mark-elements-requires
-    sub-gather
     gather-requires
     same-length
-    returns)
+    returns
+    new-requires-2
+    mark-elements-requires
+    sub-gather
+    gather-requires-2
+    same-length-2
+    returns-2)

@@ -7,7 +7,7 @@ use Rattle.plan.proofs.Looks.{cards-length}
 use Rattle.value.proofs.Members.{sparse-holds}
 use Rattle.supply.proofs.Entries.{known-is, entry-at, entry-inside, entry-index}
 use Rattle.supply.proofs.Stands.{stood}
-use Rattle.supply.proofs.Elements.{Gathering, gathering-start, gathering-next, gathering-end}
+use Rattle.supply.proofs.Elements.{Gathering, gathering-start, gathering-next, gathering-none, gathering-end}
 use borrow.Author.Needs.{needs}
 use Rattle.supply.proofs.leaf.put_given.Statement.{statement}
 use Rattle.supply.proofs.leaf.put_given.Tie as tie
@@ -97,23 +97,34 @@ loop-again c =
 new-requires : tie.Need-new-requires Inv-loop μ-loop
 new-requires c κs = search needs
 
-add-mark-entries : tie.Need-add-mark-entries Inv-loop μ-loop
-add-mark-entries c =
-    omega (arith, c .before .before .before .before .before .before .before .before .before .pre .3, c .before .before .before .before .before .before .before .before .before .good)
-
-mark-entries-requires : tie.Need-mark-entries-requires Inv-loop μ-loop
-mark-entries-requires c κs = search needs
-
-sub-t24 : tie.Need-sub-t24 Inv-loop μ-loop
-sub-t24 c = search needs
-
 same-length : tie.Need-same-length Inv-loop μ-loop
 same-length c =
     ap length (⊎-elim (λ w. w .1) (⊎-elim (λ w. w .4) (λ w. w .11 ∙ w .6 .ensures .kept (w .10 .given .1))) (c .before .before .loop-test .came)) ∙ c .before .before .before .loop .inv .1 .0
 
 returns : tie.Need-returns Inv-loop μ-loop
 returns c =
-    let o : c .before .before .loop-test .out ≡ c .before .before .before .loop .out = ⊎-elim (λ w. w .1) (⊎-elim (λ w. w .4) (λ w. w .11 ∙ w .6 .ensures .kept (w .10 .given .1))) (c .before .before .loop-test .came) in rw o (gathering-end _ _ _ _ _ _ _ _ _ _ _ _ _ (c .before .before .before .loop .inv .1) _ (c .before .new .ensures .0) _ (c .mark-entries .ensures .1) _ (c .mark-entries .ensures .0))
+    let o : c .before .before .loop-test .out ≡ c .before .before .before .loop .out = ⊎-elim (λ w. w .1) (⊎-elim (λ w. w .4) (λ w. w .11 ∙ w .6 .ensures .kept (w .10 .given .1))) (c .before .before .loop-test .came) in rw o (gathering-none _ _ _ _ _ _ _ _ _ _ _ _ _ (c .before .before .before .loop .inv .1) (c .before .if1 .taken) _ (c .new .ensures .0) _ (c .new .ensures .1))
+
+new-requires-2 : tie.Need-new-requires-2 Inv-loop μ-loop
+new-requires-2 c κs = search needs
+
+add-mark-entries : tie.Need-add-mark-entries Inv-loop μ-loop
+add-mark-entries c =
+    omega (arith, c .before .before .before .before .before .before .before .before .before .before .pre .3, c .before .before .before .before .before .before .before .before .before .before .good)
+
+mark-entries-requires : tie.Need-mark-entries-requires Inv-loop μ-loop
+mark-entries-requires c κs = search needs
+
+sub-t26 : tie.Need-sub-t26 Inv-loop μ-loop
+sub-t26 c = search needs
+
+same-length-2 : tie.Need-same-length-2 Inv-loop μ-loop
+same-length-2 c =
+    ap length (⊎-elim (λ w. w .1) (⊎-elim (λ w. w .4) (λ w. w .11 ∙ w .6 .ensures .kept (w .10 .given .1))) (c .before .before .before .loop-test .came)) ∙ c .before .before .before .before .loop .inv .1 .0
+
+returns-2 : tie.Need-returns-2 Inv-loop μ-loop
+returns-2 c =
+    let o : c .before .before .before .loop-test .out ≡ c .before .before .before .before .loop .out = ⊎-elim (λ w. w .1) (⊎-elim (λ w. w .4) (λ w. w .11 ∙ w .6 .ensures .kept (w .10 .given .1))) (c .before .before .before .loop-test .came) in rw o (gathering-end _ _ _ _ _ _ _ _ _ _ _ _ _ (c .before .before .before .before .loop .inv .1) _ (c .before .new2 .ensures .0) _ (c .mark-entries .ensures .1) _ (c .mark-entries .ensures .0))
 
 pub put-given-spec : {M : Type 1} → statement M
 put-given-spec =
@@ -138,8 +149,11 @@ put-given-spec =
     loop-less
     loop-again
     new-requires
+    same-length
+    returns
+    new-requires-2
     add-mark-entries
     mark-entries-requires
-    sub-t24
-    same-length
-    returns)
+    sub-t26
+    same-length-2
+    returns-2)
