@@ -6,12 +6,22 @@ use Prim.Native.Nat.{ℕ, zero, suc, _+_, _-_, _<_, _≤_}
 use native.Mathlib.Omega.{arith}
 use native.Mathlib.Nat.{zero-add}
 use native.Mathlib.Numerals.{sub-one}
+use denote.Enum.Declared.{tagOf}
+use types.Run.{OneOf}
 use lib.ListN.{length, getD, set, length-set, List·getD-eq-default}
 use lib.Seq.{append-snoc, set-out}
-use borrow.Author.Tests.{lt-ltb, le-ltb, le-leb, lt-leb}
+use borrow.Author.Tests.{le-leb, lt-leb}
 use Rattle.wire.specs.Choice.{pick}
-use Rattle.heads.specs.Heads.{word}
-use Rattle.heads.specs.Marks.{marked, repeats, indexesIn, indexesApart}
+use Rattle.heads.specs.Heads.{word, optional, sparseIndex}
+use Rattle.heads.specs.Marks.{marked, repeats, afterHead, fromIndex, indexesIn, indexesApart}
+use Rattle.heads.specs.declared.Head.{Head}
+use Rattle.heads.specs.declared.Head.the-variants.{Present, Absent, Fault}
+use Rattle.heads.specs.declared.Index.{Index}
+use Rattle.heads.specs.declared.Index.the-variants.{Known, Bad}
+use Rattle.heads.proofs.Head.{the-type}
+use Rattle.heads.proofs.Told.{not-present}
+use Rattle.heads.proofs.Cases.{optional-cases}
+use Rattle.heads.proofs.Bounds.{known-new}
 
 -- ---- an index more
 
@@ -87,15 +97,47 @@ module _ (s : List ℕ) where
   in-none zero at h = refl
   in-none (suc n) at h = absurd (omega arith)
 
-  pub in-past : (n at : ℕ) → length s < at + 8 → indexesIn s n at ≡ []
-  unfolding indexesIn pick
-  in-past zero at h = refl
-  in-past (suc n) at h = rw (lt-ltb (length s) (at + 8) h)
+  -- the next element, by its index
+  module _ (n at : ℕ) (z : 0 < n) (x : Index) (ex : x ≡ sparseIndex s 512 [] at) where
+    in-next : indexesIn s n at ≡ fromIndex (indexesIn s (n - 1)) s at x
+    unfolding indexesIn
+    in-next = go n z
+      where
+        go : (m : ℕ) → 0 < m → indexesIn s m at ≡ fromIndex (indexesIn s (m - 1)) s at x
+        go zero h = absurd (omega arith)
+        go (suc m) h = rw (sub-one, ex)
 
-  pub in-more : (n at : ℕ) → 0 < n → at + 8 ≤ length s → indexesIn s n at ≡ word s at ∷ indexesIn s (n - 1) (at + (8 + word s (at + 4)))
-  unfolding indexesIn pick
-  in-more zero at z h = absurd (omega arith)
-  in-more (suc n) at z h = rw (le-ltb (length s) (at + 8) h, sub-one)
+    pub in-bad : (m : ℕ) → x ≡ Bad m → indexesIn s n at ≡ []
+    unfolding fromIndex
+    in-bad m e = in-next ∙ rw e
+
+    pub in-known : (i : ℕ) → x ≡ Known i → (h : Head) → h ≡ optional s false i (at + 8) (word s (at + 4)) → indexesIn s n at ≡ i ∷ afterHead (indexesIn s (n - 1)) h
+    unfolding fromIndex
+    in-known i e h eh = in-next ∙ rw (e, eh)
+
+    -- its index has a mark, and its head is whole
+    pub in-whole : (i : ℕ) → x ≡ Known i → at ≤ length s → (i < 512) × (at + 8 ≤ length s)
+    in-whole i e h = let k = known-new s 512 [] at i (sym ex ∙ e) in (k .0, omega (arith, k .2))
+
+-- and by its head
+pub there-inside : (s : List ℕ) (q : Bool) (i from n j start size : ℕ) → from ≤ length s → (h : Head) → h ≡ optional s q i from n → h ≡ Present j start size → start + size ≤ length s
+there-inside s q i from n j start size inside h eh e =
+    optional-cases (λ x. x ≡ Present j start size → start + size ≤ length s)
+    (λ _ _ y. let z : _≡_ {A = ℕ} 0 1 = cc in absurd (omega arith)) s q i from n
+    (λ _ y. let z : _≡_ {A = ℕ} 0 1 = cc in absurd (omega arith))
+    (λ few fits y.
+    let a : from ≡ start = cc in
+    let b : n ≡ size = cc in
+    omega (arith, a, b))
+    (sym eh ∙ e)
+
+pub after-there : (f : ℕ → List ℕ) (h : Head) (i start size : ℕ) → h ≡ Present i start size → afterHead f h ≡ f (start + size)
+unfolding afterHead
+after-there f h i start size e = rw e
+
+pub after-none : (f : ℕ → List ℕ) (h : Head) → OneOf (1 ∷ 2 ∷ []) (tagOf the-type h) → afterHead f h ≡ []
+unfolding afterHead
+after-none f = not-present (λ h. afterHead f h ≡ []) (λ i start. refl) (λ n. refl)
 
 module _ (l : List ℕ) (step : ℕ) where
   pub apart-none : (n at : ℕ) → n ≤ 0 → indexesApart l step n at ≡ []

@@ -3,10 +3,14 @@
 use Prim.Native.Nat.{ℕ, zero, suc, _+_}
 use mathlib.Core.Bool.{Bool, true, false}
 use mathlib.Core.List.{List, [], _∷_}
-use lib.Dec.{leb, ltb}
+use lib.Dec.{leb}
 use lib.ListN.{length, getD, set}
 use Rattle.wire.specs.Choice.{pick}
-use Rattle.heads.specs.Heads.{word}
+use Rattle.heads.specs.Heads.{word, optional, sparseIndex}
+use Rattle.heads.specs.declared.Head.{Head}
+use Rattle.heads.specs.declared.Head.the-variants.{Present, Absent, Fault}
+use Rattle.heads.specs.declared.Index.{Index}
+use Rattle.heads.specs.declared.Index.the-variants.{Known, Bad}
 
 -- the marks with those of some indexes
 unfoldable pub marked : List Bool → List ℕ → List Bool
@@ -20,10 +24,20 @@ repeats marks (i ∷ is) = pick (getD marks i false) true (repeats (set marks i 
 
 -- ---- the indexes of a stretch of elements
 
--- of n elements in a sparse object's bytes, one after the other from a position on: each an index, a length and its data
+-- what comes after an element: the rest from where it ends, if it is there
+unfoldable pub afterHead : (ℕ → List ℕ) → Head → List ℕ
+afterHead rest (Present i start size) = rest (start + size)
+afterHead rest (Absent i start) = []
+afterHead rest (Fault n) = []
+
+unfoldable pub fromIndex : (ℕ → List ℕ) → List ℕ → ℕ → Index → List ℕ
+fromIndex rest s at (Bad n) = []
+fromIndex rest s at (Known i) = i ∷ afterHead rest (optional s false i (at + 8) (word s (at + 4)))
+
+-- of n elements in a sparse object's bytes that are there, one after the other from a position on
 unfoldable pub indexesIn : List ℕ → ℕ → ℕ → List ℕ
 indexesIn s zero at = []
-indexesIn s (suc n) at = pick (ltb (length s) (at + 8)) [] (word s at ∷ indexesIn s n (at + (8 + word s (at + 4))))
+indexesIn s (suc n) at = fromIndex (indexesIn s n) s at (sparseIndex s 512 [] at)
 
 -- of n entries of a list, whose index words stand `step` apart from a position on
 unfoldable pub indexesApart : List ℕ → ℕ → ℕ → ℕ → List ℕ

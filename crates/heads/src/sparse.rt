@@ -1,5 +1,7 @@
 // The indexes of a sparse object's elements, which the wire gives.
+use crate::Head;
 use crate::Index;
+use crate::element::sparse_length;
 ghost use mathlib.Core.Path.{_≡_};
 ghost use mathlib.Core.Bool.{true, false};
 ghost use mathlib.Core.List.{[]};
@@ -11,9 +13,6 @@ ghost use Rattle.heads.specs.Marks.{marked, repeats, indexesIn, indexesA
 
 // How many marks a set has: "512 elements .. in a block".
 pub const MOST: usize = 512;
-
-// How many bytes an element's head has: its index and its length.
-const HEAD: usize = 8;
 
 // Which indexes of a sparse object were given, and whether one of those that came last had been given before. The marks are read and written
 // by the methods here alone: each takes the set by value, and hands the marked set back.
@@ -44,8 +43,8 @@ impl Seen {
         Seen { marks, twice }
     }
 
-    // Tests and marks the indexes of a stretch of elements in a sparse object's bytes: n of them, one after the other, from `at` on. The set is
-    // taken and handed back once for all of them. An index that has no mark is passed over, and so is what passes the end.
+    // Tests and marks the indexes of a stretch of elements in a sparse object's bytes: n that are there, one after the other, from `at` on. The
+    // set is taken and handed back once for all of them. At a head that is none of such an element it stops.
     pub fn mark_elements(self, s: &[u8], n: usize, at: usize) -> Self
         requires { ⌜ at ≤ length (now s) ⌝ }
         ensures { λ r. ⌜ (r .twice ≡ repeats (self .marks) (indexesIn (now (s .entry)) n at)) × (r .marks ≡ marked (self .marks) (indexesIn (now (s .entry)) n at)) ⌝ }
@@ -55,15 +54,22 @@ impl Seen {
         let mut left = n;
         let mut pos = at;
         while 0 < left {
-            if s.len() < pos + HEAD {
+            let index = sparse_index(s, MOST, pos);
+            let Index::Known(i) = index else {
                 return Seen { marks, twice };
-            }
-            let i = wire::be::u32_at(s, pos) as usize;
-            if i < MOST {
-                twice = either(twice, marks[i]);
-                marks[i] = true;
-            }
-            pos += HEAD + wire::be::u32_at(s, pos + 4) as usize;
+            };
+            twice = either(twice, marks[i]);
+            marks[i] = true;
+            let head = sparse_length(s, false, i, pos);
+            let Head::Present {
+                index: _,
+                start,
+                size,
+            } = head
+            else {
+                return Seen { marks, twice };
+            };
+            pos = start + size;
             left -= 1;
         }
         Seen { marks, twice }

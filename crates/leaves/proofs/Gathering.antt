@@ -14,7 +14,7 @@ use Rattle.wire.proofs.Picks.{clash}
 use Rattle.heads.specs.Heads.{word, optional, requires, sparseIndex, endOf}
 use Rattle.heads.specs.Faults.{headFault}
 use Rattle.heads.specs.Marks.{marked, repeats, indexesIn}
-use Rattle.heads.proofs.Marks.{Followed, followed-start, followed-next, marked-more, repeats-more, in-none, in-more}
+use Rattle.heads.proofs.Marks.{Followed, followed-start, followed-next, marked-more, repeats-more, in-none, in-known, after-there}
 use Rattle.heads.specs.declared.Index.the-variants.{Known}
 use Rattle.heads.specs.declared.Head.the-variants.{Present}
 use Rattle.rules.specs.Node.{refAt}
@@ -31,7 +31,7 @@ use Rattle.value.proofs.Walks.{single, turn-fault, turn-go}
 use Rattle.leaves.specs.Leaves.{givenAt, Gathers}
 use Rattle.leaves.specs.declared.Given.{Given}
 use Rattle.leaves.specs.declared.Given.the-variants.{Whole}
-use Rattle.leaves.proofs.Single.{head-there, given-in, known-word, optional-end}
+use Rattle.leaves.proofs.Single.{head-there, given-in, known-any, there-any}
 use Rattle.leaves.proofs.Stretches.{leaf-led}
 
 one-at-most : (r : Bool) (count count′ m : ℕ) → count ≤ m → count′ ≡ count + pick r 1 0 → count′ ≤ m + 1
@@ -132,9 +132,9 @@ module _ (p : List ℕ) (k base : ℕ) (s : List ℕ) (n from at : ℕ) (l : Lis
   gathering-next a e l′ m count pos to g below x i child start size gx ex count′ ec l″ el same =
       let t = given-in p k s pos a e (g .4 .inside) x i child start size gx ex in
       let w = known-in p k a e s pos (getD p (k + 1) 0) i refl (Known i) (sym (t .0)) refl (g .4 .inside) in
-      let iw = known-word s (getD p (k + 1) 0) pos i (t .0) in
-      let end = optional-end s (requires (getD (cardsAt p k) i 0)) i pos i start size (t .2) in
-      let more : (r : ℕ) → indexesIn s (r + 1) pos ≡ i ∷ indexesIn s r (start + size) = λ r. one-more r iw end (w .2) in
+      let known = known-any s (getD p (k + 1) 0) pos i (t .0) (w .1) in
+      let there = there-any s (requires (getD (cardsAt p k) i 0)) i (pos + 8) (word s (pos + 4)) i start size (t .2) in
+      let more : (r : ℕ) → indexesIn s (r + 1) pos ≡ i ∷ indexesIn s r (start + size) = λ r. one-more r known there in
       let none : indexesIn s 0 (start + size) ≡ [] = in-none s 0 (start + size) (omega arith) in
       let left : n - (m + 1) ≡ n - m - 1 = omega arith in (
         same ∙ g .0,
@@ -145,10 +145,12 @@ module _ (p : List ℕ) (k base : ℕ) (s : List ℕ) (n from at : ℕ) (l : Lis
             (gathers-next p k base s n from at l a e pos (g .4 .inside) x i child start size gx ex _ _ count (n - m) to l′ (g .4) (omega arith) count′ ec l″ el),
       )
     where
-      one-more : (r : ℕ) → word s pos ≡ i → start + size ≡ pos + (8 + word s (pos + 4)) → pos + 8 ≤ length s → indexesIn s (r + 1) pos ≡ i ∷ indexesIn s r (start + size)
-      one-more r iw end whole =
+      one-more : (r : ℕ) → sparseIndex s 512 [] pos ≡ Known i → optional s false i (pos + 8) (word s (pos + 4)) ≡ Present i start size
+          → indexesIn s (r + 1) pos ≡ i ∷ indexesIn s r (start + size)
+      one-more r known there =
           let z : r + 1 - 1 ≡ r = omega arith in
-          in-more s (r + 1) pos (omega arith) whole ∙ rw (iw, z, ← end)
+          in-known s (r + 1) pos (omega arith) (Known i) (sym known) i refl (Present i start size) (sym there)
+          ∙ ap (λ (x : List ℕ). i ∷ x) (after-there (indexesIn s (r + 1 - 1)) (Present i start size) i start size refl ∙ rw z)
 
   -- no leaf, and so no index
   pub gathering-none : (l′ : List ℕ) (m count pos to : ℕ) → Gathering p k base s n from at l l′ m count pos to → m ≡ 0

@@ -25,6 +25,7 @@ use Rattle.heads.specs.declared.Head.the-variants.{Present, Absent, Fault}
 use Rattle.heads.proofs.Head.{the-type}
 use Rattle.heads.proofs.Told.{not-present}
 use Rattle.heads.proofs.Cases.{plain-cases, optional-cases}
+use Rattle.heads.proofs.Bounds.{known-new}
 use Rattle.rules.specs.Node.{Node, leaf, enum, row, arrays, tuple, object, sparse, range, refAt}
 use Rattle.plan.specs.Plan.{look, refsAt, pairRef, cardsAt, At}
 use Rattle.plan.specs.Readers.{KindAt}
@@ -261,7 +262,7 @@ unfolding wholeOf
 whole-of j c Other i child start size e = let z : _≡_ {A = ℕ} 0 1 = cc in absurd (omega arith)
 whole-of j c (Good at n) i child start size e = (cc, cc, cc)
 
--- the index, and where the next element stands
+-- the index on the wire
 three : (a b c : Bool) (w i : ℕ) → pick a (Bad 20) (pick b (Bad 25) (pick c (Bad 26) (Known w))) ≡ Known i → w ≡ i
 unfolding pick
 three true b c w i e = let z : _≡_ {A = ℕ} 0 1 = cc in absurd (omega arith)
@@ -269,19 +270,26 @@ three false true c w i e = let z : _≡_ {A = ℕ} 0 1 = cc in absurd (omega ari
 three false false true w i e = let z : _≡_ {A = ℕ} 0 1 = cc in absurd (omega arith)
 three false false false w i e = cc
 
-pub known-word : (s : List ℕ) (n at i : ℕ) → sparseIndex s n [] at ≡ Known i → word s at ≡ i
-unfolding sparseIndex
-known-word s n at i e = three (ltb (length s - at) 8) (leb n (word s at)) (getD [] (word s at) false) (word s at) i e
+-- one index that is known among n is known among 512
+pub known-any : (s : List ℕ) (n at i : ℕ) → sparseIndex s n [] at ≡ Known i → i < 512 → sparseIndex s 512 [] at ≡ Known i
+unfolding sparseIndex pick
+known-any s n at i e few =
+    let k = known-new s n [] at i e in
+    let w : word s at ≡ i = three (ltb (length s - at) 8) (leb n (word s at)) (getD [] (word s at) false) (word s at) i e in
+    rw (le-ltb (length s - at) 8 (k .2), w, lt-leb 512 i few)
 
-pub optional-end : (s : List ℕ) (q : Bool) (i at j start size : ℕ) → optional s q i (at + 8) (word s (at + 4)) ≡ Present j start size → start + size ≡ at + (8 + word s (at + 4))
-optional-end s q i at j start size =
-    optional-cases (λ h. h ≡ Present j start size → start + size ≡ at + (8 + word s (at + 4)))
-    (λ _ _ e. let z : _≡_ {A = ℕ} 0 1 = cc in absurd (omega arith)) s q i (at + 8) (word s (at + 4))
+-- an element that is there, whatever its cardinality
+pub there-any : (s : List ℕ) (q : Bool) (i from n j start size : ℕ) → optional s q i from n ≡ Present j start size → optional s false i from n ≡ Present i start size
+unfolding optional sized negative pick
+there-any s q i from n j start size =
+    optional-cases (λ h. h ≡ Present j start size → optional s false i from n ≡ Present i start size)
+    (λ _ _ e. let z : _≡_ {A = ℕ} 0 1 = cc in absurd (omega arith)) s q i from n
     (λ _ e. let z : _≡_ {A = ℕ} 0 1 = cc in absurd (omega arith))
     (λ few fits e.
-    let a : at + 8 ≡ start = cc in
-    let b : word s (at + 4) ≡ size = cc in
-    omega (arith, a, b))
+    let a : from ≡ start = cc in
+    let b : n ≡ size = cc in
+    let g : n ≡ gone → ⊥ = λ x. omega arith in
+    rw (ne-eqb n gone g, lt-leb (2 ^ 31) n few, le-ltb (length s - from) n fits, a, b))
 
 -- the node of a sparse object's element
 pub pair-is : (p : List ℕ) (k : ℕ) → getD p k 0 ≡ 6 → (i child : ℕ) → i < getD p (k + 1) 0 → refAt (look p k) i ≡ some child → pairRef p k i ≡ child

@@ -1,67 +1,68 @@
 use native.Mathlib.Omega.{arith}
 use mathlib.Core.Path.{_≡_, refl, sym, _∙_}
-use mathlib.Core.Logic.{⊎-elim}
-use Prim.Native.Nat.{_+_, _-_, _^_, _≤_}
-use mathlib.Core.List.{_∷_}
+use Prim.Native.Nat.{_-_, _≤_}
 use lib.ListN.{length}
-use Rattle.heads.specs.Heads.{word}
-use Rattle.heads.specs.Marks.{indexesIn}
-use Rattle.heads.proofs.Marks.{Marking, marking-start, marking-next, marking-past, marking-done, in-none, in-past, in-more}
+use Rattle.heads.specs.Marks.{afterHead, indexesIn}
+use Rattle.heads.proofs.Marks.{Marking, marking-start, marking-next, marking-done, in-none, in-bad, in-known, in-whole, there-inside, after-there, after-none}
 use borrow.Author.Needs.{needs}
 use Rattle.heads.proofs.sparse.Seen.mark_elements.Statement.{statement}
 use Rattle.heads.proofs.sparse.Seen.mark_elements.Tie as tie
 use Rattle.heads.proofs.sparse.Seen.mark_elements.Reads as reads
 use Rattle.heads.proofs.sparse.Seen.mark_elements.Lts as lts
+use Rattle.heads.proofs.element.sparse_length.Reads as sparse-length-reads
 use Rattle.heads.proofs.sparse.either.Reads as either-reads
-use Rattle.wire.proofs.be.u32_at.Reads as u32-at-reads
+use Rattle.heads.proofs.sparse.sparse_index.Reads as sparse-index-reads
 
 abbrev Inv-loop : tie.InvT-loop
-Inv-loop s n at marks₀ twice₀ left₀ pos₀ marks twice left pos =
-    (pos ≤ length s + 2 ^ 32) × Marking marks₀ (indexesIn s n at) marks twice (indexesIn s left pos)
+Inv-loop s n at marks₀ twice₀ left₀ pos₀ marks twice left pos = (pos ≤ length s) × Marking marks₀ (indexesIn s n at) marks twice (indexesIn s left pos)
 
 abbrev μ-loop : tie.MeasureT-loop
 μ-loop s n at marks₀ twice₀ left₀ pos₀ marks twice left pos = left
 
 loop-holds : tie.Need-loop-holds Inv-loop μ-loop
 loop-holds c =
-    let e : length (c .before .before .args .self .marks) ≡ 512 = search needs in (omega (arith, c .before .before .pre), marking-start _ _ e)
+    let e : length (c .before .before .args .self .marks) ≡ 512 = search needs in (c .before .before .pre, marking-start _ _ e)
 
-add-if1 : tie.Need-add-if1 Inv-loop μ-loop
-add-if1 c = search needs
+sparse-index-requires : tie.Need-sparse-index-requires Inv-loop μ-loop
+sparse-index-requires c κs = (c .before .loop .inv .0, omega arith)
+
+enum-known-index : tie.Need-enum-known-index Inv-loop μ-loop
+enum-known-index c = search needs
+
+enum-told : tie.Need-enum-told Inv-loop μ-loop
+enum-told c = search needs
 
 returns : tie.Need-returns Inv-loop μ-loop
 returns c =
-    marking-done _ _ _ _ _ (c .before .before .loop .inv .1) (in-past (c .before .before .before .before .before .args .s .now) _ _ (c .if1 .taken))
-
-u32-at-requires : tie.Need-u32-at-requires Inv-loop μ-loop
-u32-at-requires c κs = search needs
-
-cast-i : tie.Need-cast-i Inv-loop μ-loop
-cast-i c = search needs
+    marking-done _ _ _ _ _ (c .before .before .before .before .loop .inv .1) (in-bad (c .before .before .before .before .before .before .before .args .s .now) _ _ (c .before .before .before .loop-test .taken) _ (c .before .before .sparse-index .ensures) _ (c .enum-told .given .1))
 
 array-read-either : tie.Need-array-read-either Inv-loop μ-loop
-array-read-either c = search needs
+array-read-either c =
+    in-whole (c .before .before .before .before .before .before .before .before .args .s .now) _ _ (c .before .before .before .before .loop-test .taken) _ (c .before .before .before .sparse-index .ensures) _ (c .before .index .given .1) (c .before .before .before .before .before .loop .inv .0) .0
 
 either-requires : tie.Need-either-requires Inv-loop μ-loop
 either-requires c κs = search needs
 
 array-write-marks : tie.Need-array-write-marks Inv-loop μ-loop
-array-write-marks c = search needs
+array-write-marks c =
+    in-whole (c .before .before .before .before .before .before .before .before .before .args .s .now) _ _ (c .before .before .before .before .before .loop-test .taken) _ (c .before .before .before .before .sparse-index .ensures) _ (c .before .before .index .given .1) (c .before .before .before .before .before .before .loop .inv .0) .0
 
-add-u32-at : tie.Need-add-u32-at Inv-loop μ-loop
-add-u32-at c = search needs
+sparse-length-requires : tie.Need-sparse-length-requires Inv-loop μ-loop
+sparse-length-requires c κs =
+    in-whole (c .before .before .before .before .before .before .before .before .before .args .s .now) _ _ (c .before .before .before .before .before .loop-test .taken) _ (c .before .before .before .before .sparse-index .ensures) _ (c .before .before .index .given .1) (c .before .before .before .before .before .before .loop .inv .0) .1
 
-u32-at-requires-2 : tie.Need-u32-at-requires-2 Inv-loop μ-loop
-u32-at-requires-2 c κs = search needs
+enum-known-head : tie.Need-enum-known-head Inv-loop μ-loop
+enum-known-head c = search needs
 
-cast-pos : tie.Need-cast-pos Inv-loop μ-loop
-cast-pos c = search needs
+returns-2 : tie.Need-returns-2 Inv-loop μ-loop
+returns-2 c =
+    let e = in-known (c .before .before .before .before .before .before .before .before .before .before .before .args .s .now) _ _ (c .before .before .before .before .before .before .before .loop-test .taken) _ (c .before .before .before .before .before .before .sparse-index .ensures) _ (c .before .before .before .before .index .given .1) _ (c .before .sparse-length .ensures) in
+    marking-done _ _ _ _ _ (marking-next _ _ _ _ _ (c .before .before .before .before .before .before .before .before .loop .inv .1) _ _ e _ (c .before .before .either .ensures)) (after-none _ _ (c .match2 .keys2))
 
 add-pos : tie.Need-add-pos Inv-loop μ-loop
-add-pos c = search needs
-
-add-pos-2 : tie.Need-add-pos-2 Inv-loop μ-loop
-add-pos-2 c = search needs
+add-pos c =
+    let w = in-whole (c .before .before .before .before .before .before .before .before .before .before .before .before .before .args .s .now) _ _ (c .before .before .before .before .before .before .before .before .before .loop-test .taken) _ (c .before .before .before .before .before .before .before .before .sparse-index .ensures) _ (c .before .before .before .before .before .before .index .given .1) (c .before .before .before .before .before .before .before .before .before .before .loop .inv .0) in
+    omega (arith, there-inside _ _ _ _ _ _ _ _ (w .1) _ (c .before .before .before .sparse-length .ensures) (c .before .head .given .1), c .before .before .before .before .before .before .before .before .before .before .before .before .before .good)
 
 sub-left : tie.Need-sub-left Inv-loop μ-loop
 sub-left c = search needs
@@ -70,23 +71,13 @@ loop-less : tie.Need-loop-less Inv-loop μ-loop
 loop-less c = omega arith
 
 loop-again : tie.Need-loop-again Inv-loop μ-loop
-unfolding word
 loop-again c =
-    let s = c .before .before .before .before .before .before .before .before .args .s .now in
-    let at = c .before .before .before .before .before .loop in
-    let i = c .before .before .u32-at .result in
-    let j = c .u32-at2 .result in
-    let e : indexesIn s (at .left) (at .pos) ≡ i ∷ indexesIn s (at .left - 1) (at .pos + (8 + j)) =
-    rw (c .before .before .u32-at .ensures, c .u32-at2 .ensures) (in-more s (at .left) (at .pos) (c .before .before .before .before .loop-test .taken) (c .before .before .before .if1 .left)) in (
-      omega (arith, c .before .before .before .if1 .left, c .u32-at2 .ok),
-      ⊎-elim
-          (λ w. rw (w .2, w .3) (marking-next (c .before .before .before .before .before .before .before .before .args .self .marks) (indexesIn s (c .before .before .before .before .before .before .before .before .args .n) (c .before .before .before .before .before .before .before .before .args .at)) (at .marks) (at .twice) (indexesIn s (at .left) (at .pos)) (at .inv .1) i _ e _ (w .1 .ensures)))
-          (λ w. rw (w .1, w .2) (marking-past (c .before .before .before .before .before .before .before .before .args .self .marks) (indexesIn s (c .before .before .before .before .before .before .before .before .args .n) (c .before .before .before .before .before .before .before .before .args .at)) (at .marks) (at .twice) (indexesIn s (at .left) (at .pos)) (at .inv .1) i _ e (w .0 .left)))
-          (c .before .if2 .came),
-    )
+    let w = in-whole (c .before .before .before .before .before .before .before .before .before .before .before .before .before .args .s .now) _ _ (c .before .before .before .before .before .before .before .before .before .loop-test .taken) _ (c .before .before .before .before .before .before .before .before .sparse-index .ensures) _ (c .before .before .before .before .before .before .index .given .1) (c .before .before .before .before .before .before .before .before .before .before .loop .inv .0) in
+    let e = in-known (c .before .before .before .before .before .before .before .before .before .before .before .before .before .args .s .now) _ _ (c .before .before .before .before .before .before .before .before .before .loop-test .taken) _ (c .before .before .before .before .before .before .before .before .sparse-index .ensures) _ (c .before .before .before .before .before .before .index .given .1) _ (c .before .before .before .sparse-length .ensures) in
+    (there-inside _ _ _ _ _ _ _ _ (w .1) _ (c .before .before .before .sparse-length .ensures) (c .before .head .given .1), rw (sym (after-there (indexesIn (c .before .before .before .before .before .before .before .before .before .before .before .before .before .args .s .now) (c .before .before .before .before .before .before .before .before .before .before .loop .left - 1)) _ _ _ _ (c .before .head .given .1))) (marking-next _ _ _ _ _ (c .before .before .before .before .before .before .before .before .before .before .loop .inv .1) _ _ e _ (c .before .before .before .before .either .ensures)))
 
-returns-2 : tie.Need-returns-2 Inv-loop μ-loop
-returns-2 c =
+returns-3 : tie.Need-returns-3 Inv-loop μ-loop
+returns-3 c =
     marking-done _ _ _ _ _ (c .before .loop .inv .1) (in-none (c .before .before .before .before .args .s .now) _ _ (c .loop-test .left))
 
 pub mark-elements-spec : {M : Type 1} → statement M
@@ -96,19 +87,18 @@ mark-elements-spec =
     Inv-loop
     μ-loop
     loop-holds
-    add-if1
+    sparse-index-requires
+    enum-known-index
+    enum-told
     returns
-    u32-at-requires
-    cast-i
     array-read-either
     either-requires
     array-write-marks
-    add-u32-at
-    u32-at-requires-2
-    cast-pos
+    sparse-length-requires
+    enum-known-head
+    returns-2
     add-pos
-    add-pos-2
     sub-left
     loop-less
     loop-again
-    returns-2)
+    returns-3)
