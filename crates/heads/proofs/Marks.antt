@@ -15,7 +15,7 @@ use Rattle.wire.specs.Choice.{pick}
 use Rattle.heads.specs.Heads.{word, optional, sparseIndex}
 use Rattle.heads.specs.Marks.{marked, repeats, afterHead, fromIndex, indexesIn, indexesApart}
 use Rattle.heads.specs.declared.Head.{Head}
-use Rattle.heads.specs.declared.Head.the-variants.{Present, Absent, Fault}
+use Rattle.heads.specs.declared.Head.the-variants.{Present}
 use Rattle.heads.specs.declared.Index.{Index}
 use Rattle.heads.specs.declared.Index.the-variants.{Known, Bad}
 use Rattle.heads.proofs.Head.{the-type}

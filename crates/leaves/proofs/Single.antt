@@ -14,9 +14,9 @@ use lib.Dec.{eqb, ltb, leb}
 use lib.ListN.{length, take, drop, getD, length-take, length-drop}
 use borrow.Author.Tests.{eqb-true, eqb-false, ltb-false, lt-ltb, le-ltb, lt-leb, eq-eqb, ne-eqb}
 use Rattle.wire.specs.Choice.{pick}
-use Rattle.wire.proofs.Picks.{clash, pick-case, pick-split}
+use Rattle.wire.proofs.Picks.{pick-case}
 use Rattle.scalars.specs.Scalars.{sized as of-size}
-use Rattle.scalars.specs.Sizes.{fixedSize, Fixed}
+use Rattle.scalars.specs.Sizes.{Fixed}
 use Rattle.heads.specs.Heads.{word, negative, gone, sized, optional, plainHead, objectHead, requires, sparseIndex}
 use Rattle.heads.specs.declared.Index.{Index}
 use Rattle.heads.specs.declared.Index.the-variants.{Known, Bad}

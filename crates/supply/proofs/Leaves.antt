@@ -1,7 +1,7 @@
 -- The laws of a leaf that is put out with its head at once. Assumes nothing.
 use mathlib.Core.Path.{_≡_, refl, ap, sym, _∙_}
 use mathlib.Core.Bool.{Bool, true, false}
-use mathlib.Core.List.{List, [], append-nil}
+use mathlib.Core.List.{List}
 use mathlib.Core.Option.{some}
 use Prim.Native.Nat.{ℕ, _+_, _-_, _<_, _≤_}
 use native.Mathlib.Omega.{arith}
@@ -14,15 +14,13 @@ use Rattle.scalars.specs.Scalars.{sized}
 use Rattle.scalars.specs.Sizes.{Fixed}
 use Rattle.heads.specs.Heads.{gone}
 use borrow.Author.Tests.{eq-eqb, ne-eqb, lt-ltb, le-ltb}
-use Rattle.rules.specs.Node.{Node, refAt}
+use Rattle.rules.specs.Node.{refAt}
 use Rattle.plan.specs.Plan.{look, At}
-use Rattle.plan.specs.Readers.{KindAt}
 use Rattle.plan.proofs.Refs.{kind-gives}
-use Rattle.value.specs.Walk.{leafKind, leafGood, Container}
+use Rattle.value.specs.Walk.{leafGood, Container}
 use Rattle.value.proofs.Nodes.{good-scalar}
-use Rattle.value.proofs.Members.{inner-kind}
 use Rattle.supply.specs.Supply.{Claim, next, nextOf}
-use Rattle.supply.specs.Build.{Made, wrong, made, before, andThen, Builder, rowOrder, partMade, memberMade, stateAfter, elementsMade, buildOf}
+use Rattle.supply.specs.Build.{Made, partMade, buildOf}
 use Rattle.supply.specs.Emitting.{claim, Stand, stands, put-at, headOf, headSize, leafSize, LeafPut}
 use Rattle.supply.specs.declared.Entry.{Entry}
 use Rattle.supply.specs.declared.Emitted.{Emitted}
@@ -30,7 +28,6 @@ use Rattle.supply.specs.declared.Emitted.the-variants.{Leaf, Other}
 use Rattle.value.proofs.Containers.{leaf-only}
 use Rattle.supply.proofs.Parts.{leaf-done, member-go}
 use Rattle.supply.proofs.Values.{value-leaf}
-use Rattle.supply.proofs.Elements.{done}
 
 -- ---- whether its bytes are permitted
 

@@ -1,15 +1,11 @@
-use mathlib.Core.Path.{_≡_, refl, sym, ap, _∙_}
+-- `leaves::fixed_leaf` meets its contract: its tests are those of `fixedLeaf`, in its order. Assumes nothing.
 use borrow.Author.Tests.{eq-eqb, ne-eqb, lt-ltb, le-ltb}
 use Rattle.wire.specs.Choice.{pick}
 use Rattle.heads.specs.Heads.{word}
 use Rattle.leaves.specs.Leaves.{fixedLeaf}
 use borrow.Author.Needs.{needs}
-use borrow.Author.Needs.{needs}
 use Rattle.leaves.proofs.fixed_leaf.Statement.{statement}
 use Rattle.leaves.proofs.fixed_leaf.Tie as tie
-use Rattle.leaves.proofs.fixed_leaf.Reads as reads
-use Rattle.leaves.proofs.fixed_leaf.Lts as lts
-use Rattle.wire.proofs.be.u32_at.Reads as u32-at-reads
 
 returns : tie.Need-returns
 unfolding fixedLeaf pick

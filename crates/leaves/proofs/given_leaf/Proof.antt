@@ -1,28 +1,17 @@
+-- `leaves::given_leaf` meets its contract: the index, then the head, then the bytes. Assumes nothing.
 use native.Mathlib.Omega.{arith}
-use mathlib.Core.Path.{_≡_, refl, sym, ap, _∙_}
-use mathlib.Core.Logic.{inr}
+use mathlib.Core.Path.{refl, sym, _∙_}
 use borrow.Author.Tests.{not-false, not-true}
 use Rattle.wire.specs.Choice.{pick}
-use Rattle.heads.proofs.Told.{not-present}
-use Rattle.plan.proofs.Looks.{cards-length, ref-pairs}
+use Rattle.plan.proofs.Looks.{cards-length}
 use Rattle.plan.proofs.Nodes.{at-ref}
 use Rattle.value.proofs.Members.{known-in, sparse-holds, inner-kind}
 use Rattle.value.proofs.Containers.{container-none}
-use Rattle.leaves.specs.Leaves.{leafIn, wholeOf}
-use Rattle.leaves.specs.declared.Leaf.the-variants.{Other}
+use Rattle.leaves.specs.Leaves.{wholeOf}
 use Rattle.leaves.proofs.Single.{pair-is, head-there, given-bad, given-absent, given-none, given-there}
-use borrow.Author.Needs.{needs}
 use borrow.Author.Needs.{needs}
 use Rattle.leaves.proofs.given_leaf.Statement.{statement}
 use Rattle.leaves.proofs.given_leaf.Tie as tie
-use Rattle.leaves.proofs.given_leaf.Reads as reads
-use Rattle.leaves.proofs.given_leaf.Lts as lts
-use Rattle.leaves.proofs.is_good.Reads as is-good-reads
-use Rattle.plan.proofs.node.kind_at.Reads as kind-at-reads
-use Rattle.plan.proofs.node.ref_of.Reads as ref-of-reads
-use Rattle.value.proofs.node.index_at.Reads as index-at-reads
-use Rattle.value.proofs.node.is_leaf.Reads as is-leaf-reads
-use Rattle.value.proofs.node.sparse_head.Reads as sparse-head-reads
 
 index-at-requires : tie.Need-index-at-requires
 index-at-requires c κs = (c .before .before .pre .0, c .before .before .pre .1, c .before .before .pre .2)

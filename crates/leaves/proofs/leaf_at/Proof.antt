@@ -1,5 +1,6 @@
+-- `leaves::leaf_at` meets its contract: what was read is the leaf that the head leads to, or the head leads to none. Assumes nothing.
 use native.Mathlib.Omega.{arith}
-use mathlib.Core.Path.{_≡_, sym, _∙_}
+use mathlib.Core.Path.{sym, _∙_}
 use borrow.Author.Tests.{not-false, not-true}
 use Rattle.wire.specs.Choice.{pick}
 use Rattle.heads.specs.Heads.{word}
@@ -7,15 +8,8 @@ use Rattle.value.proofs.Members.{inner-kind}
 use Rattle.value.proofs.Containers.{container-none}
 use Rattle.leaves.proofs.Single.{leaf-none-at, leaf-short, leaf-over, leaf-there}
 use borrow.Author.Needs.{needs}
-use borrow.Author.Needs.{needs}
 use Rattle.leaves.proofs.leaf_at.Statement.{statement}
 use Rattle.leaves.proofs.leaf_at.Tie as tie
-use Rattle.leaves.proofs.leaf_at.Reads as reads
-use Rattle.leaves.proofs.leaf_at.Lts as lts
-use Rattle.leaves.proofs.is_good.Reads as is-good-reads
-use Rattle.plan.proofs.node.kind_at.Reads as kind-at-reads
-use Rattle.value.proofs.node.is_leaf.Reads as is-leaf-reads
-use Rattle.wire.proofs.be.u32_at.Reads as u32-at-reads
 
 kind-at-requires : tie.Need-kind-at-requires
 kind-at-requires c κs = search needs

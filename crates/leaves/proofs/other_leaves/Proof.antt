@@ -1,6 +1,6 @@
 -- `leaves::other_leaves` meets its contract: what is left leads to the same place. Assumes nothing.
 use native.Mathlib.Omega.{arith}
-use mathlib.Core.Path.{_≡_, refl, sym, ap, _∙_}
+use mathlib.Core.Path.{ap, _∙_}
 use Rattle.plan.proofs.Nodes.{at-ref}
 use Rattle.leaves.specs.Leaves.{gapOf}
 use Rattle.leaves.proofs.Stretches.{Going, going-start, going-end, going-other, gap-few}

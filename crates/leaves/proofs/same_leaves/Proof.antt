@@ -1,18 +1,11 @@
+-- `leaves::same_leaves` meets its contract: what is left leads to the same place. Assumes nothing.
 use native.Mathlib.Omega.{arith}
-use mathlib.Core.Path.{_≡_, refl, sym, _∙_}
-use Prim.Native.Nat.{_+_}
 use Rattle.plan.proofs.Nodes.{at-ref}
 use Rattle.leaves.proofs.Single.{standing}
 use Rattle.leaves.proofs.Stretches.{Going, going-start, going-end, going-same, row-refers}
 use borrow.Author.Needs.{needs}
 use Rattle.leaves.proofs.same_leaves.Statement.{statement}
 use Rattle.leaves.proofs.same_leaves.Tie as tie
-use Rattle.leaves.proofs.same_leaves.Reads as reads
-use Rattle.leaves.proofs.same_leaves.Lts as lts
-use Rattle.leaves.proofs.fixed_at.Reads as fixed-at-reads
-use Rattle.leaves.proofs.fixed_leaf.Reads as fixed-leaf-reads
-use Rattle.plan.proofs.node.ref_of.Reads as ref-of-reads
-use Rattle.value.proofs.entry.put_entry.Reads as put-entry-reads
 
 abbrev Inv-loop : tie.InvT-loop
 Inv-loop plan node count first base from part list₀ at child size left₀ i₀ pos₀ to₀ list left i pos to = Going plan node base part count first from at list₀ left i pos to list

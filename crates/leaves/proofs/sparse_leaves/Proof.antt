@@ -1,21 +1,12 @@
+-- `leaves::sparse_leaves` meets its contract: what is left leads to the same place, with the indexes so far marked and counted, or one was
+-- given twice. Assumes nothing.
 use native.Mathlib.Omega.{arith}
-use mathlib.Core.Path.{_≡_, refl, sym, _∙_}
 use Prim.Native.Nat.{_-_, _≤_}
-use lib.ListN.{length}
 use Rattle.leaves.proofs.Single.{given-few}
 use Rattle.leaves.proofs.Gathering.{Gathering, gathering-start, gathering-next, gathering-none, gathering-end}
 use borrow.Author.Needs.{needs}
 use Rattle.leaves.proofs.sparse_leaves.Statement.{statement}
 use Rattle.leaves.proofs.sparse_leaves.Tie as tie
-use Rattle.leaves.proofs.sparse_leaves.Reads as reads
-use Rattle.leaves.proofs.sparse_leaves.Lts as lts
-use Rattle.heads.proofs.sparse.Seen.mark_elements.Reads as mark-elements-reads
-use Rattle.heads.proofs.sparse.Seen.new.Reads as new-reads
-use Rattle.leaves.proofs.given_leaf.Reads as given-leaf-reads
-use Rattle.value.proofs.entry.put_entry.Reads as put-entry-reads
-use Rattle.value.proofs.gather.Reads as gather-reads
-use Rattle.value.proofs.node.count_given.Reads as count-given-reads
-use Rattle.wire.proofs.copy.least.Reads as least-reads
 
 abbrev Inv-loop : tie.InvT-loop
 Inv-loop plan node count base from part list₀ at most n₀ given₀ pos₀ to₀ list n given pos to = (n ≤ most) × Gathering plan node base part count from at list₀ list n given pos to

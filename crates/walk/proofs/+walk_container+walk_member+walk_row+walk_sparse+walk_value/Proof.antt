@@ -5,10 +5,10 @@ use lib.ListN.{length, length-take, length-drop}
 use mathlib.Core.Path.{_≡_, refl, sym, _∙_}
 use native.Mathlib.Omega.{arith}
 use Rattle.rules.specs.Node.{refAt}
-use Rattle.rules.specs.Values.{elements, rowForm, sparseForm, noMarks, valueOf}
+use Rattle.rules.specs.Values.{elements, rowForm, sparseForm, valueOf}
 use Rattle.plan.specs.Plan.{look, cardsAt}
 use Rattle.plan.proofs.Looks.{cards-length}
-use Rattle.plan.proofs.Nodes.{at-ref, at-few}
+use Rattle.plan.proofs.Nodes.{at-ref}
 use Rattle.value.specs.Walk.{led, walkOf}
 use Rattle.value.proofs.Nodes.{head-bad}
 use Rattle.value.proofs.Walks.{single, turn-stop, turn-go, turn-fault, done}

@@ -1,9 +1,7 @@
+-- `heads::sparse::either` meets its contract. Assumes nothing.
 use Rattle.wire.specs.Choice.{pick}
-use borrow.Author.Needs.{needs}
 use Rattle.heads.proofs.sparse.either.Statement.{statement}
 use Rattle.heads.proofs.sparse.either.Tie as tie
-use Rattle.heads.proofs.sparse.either.Reads as reads
-use Rattle.heads.proofs.sparse.either.Lts as lts
 
 returns : tie.Need-returns
 unfolding pick

@@ -1,5 +1,5 @@
 -- `supply::leaf::leaf_fits` meets its contract: by a size, by the format's own rule, or not at all. Assumes nothing.
-use mathlib.Core.Path.{refl, sym, _∙_}
+use mathlib.Core.Path.{sym, _∙_}
 use native.Mathlib.Omega.{arith}
 use Rattle.plan.proofs.Nodes.{at-format}
 use Rattle.value.proofs.Members.{inner-kind}

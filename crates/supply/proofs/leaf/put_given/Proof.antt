@@ -1,8 +1,10 @@
-use mathlib.Core.Path.{_≡_, refl, ap, sym, _∙_}
+-- `supply::leaf::put_given` meets its contract: what is left leads to the same place, with the indexes so far marked and counted, or one was
+-- given twice. Assumes nothing.
+use mathlib.Core.Path.{_≡_, ap, sym, _∙_}
 use mathlib.Core.Logic.{⊎-elim}
 use native.Mathlib.Omega.{arith}
 use Prim.Native.Nat.{_-_, _≤_}
-use lib.ListN.{length, drop}
+use lib.ListN.{length}
 use Rattle.plan.proofs.Looks.{cards-length}
 use Rattle.value.proofs.Members.{sparse-holds}
 use Rattle.supply.proofs.Entries.{known-is, entry-at, entry-inside, entry-index}
@@ -11,15 +13,6 @@ use Rattle.supply.proofs.Elements.{Gathering, gathering-start, gatherin
 use borrow.Author.Needs.{needs}
 use Rattle.supply.proofs.leaf.put_given.Statement.{statement}
 use Rattle.supply.proofs.leaf.put_given.Tie as tie
-use Rattle.supply.proofs.leaf.put_given.Reads as reads
-use Rattle.supply.proofs.leaf.put_given.Lts as lts
-use Rattle.heads.proofs.sparse.Seen.mark_entries.Reads as mark-entries-reads
-use Rattle.heads.proofs.sparse.Seen.new.Reads as new-reads
-use Rattle.plan.proofs.node.second_at.Reads as second-at-reads
-use Rattle.supply.proofs.leaf.put_leaf.Reads as put-leaf-reads
-use Rattle.supply.proofs.list.known_entry.Reads as known-entry-reads
-use Rattle.value.proofs.node.count_given.Reads as count-given-reads
-use Rattle.wire.proofs.copy.least.Reads as least-reads
 
 abbrev Inv-loop : tie.InvT-loop
 Inv-loop plan node src list count word₀ out₀ at₀ known most first n₀ given₀ word out at n given = (n ≤ most) × Gathering src plan node count list first at₀ out₀ n given word at out

@@ -1,18 +1,11 @@
+-- `supply::leaf::put_leaf` meets its contract, test by test. Assumes nothing.
 use native.Mathlib.Omega.{arith}
 use Rattle.plan.proofs.Nodes.{at-ref}
 use Rattle.supply.proofs.Heads.{size-few}
 use Rattle.supply.proofs.Leaves.{put-stranger, put-above, put-large, put-outside, put-bad, put-good}
 use borrow.Author.Needs.{needs}
-use borrow.Author.Needs.{needs}
 use Rattle.supply.proofs.leaf.put_leaf.Statement.{statement}
 use Rattle.supply.proofs.leaf.put_leaf.Tie as tie
-use Rattle.supply.proofs.leaf.put_leaf.Reads as reads
-use Rattle.supply.proofs.leaf.put_leaf.Lts as lts
-use Rattle.plan.proofs.node.ref_of.Reads as ref-of-reads
-use Rattle.supply.proofs.head.head_size.Reads as head-size-reads
-use Rattle.supply.proofs.head.put_head.Reads as put-head-reads
-use Rattle.supply.proofs.leaf.leaf_fits.Reads as leaf-fits-reads
-use Rattle.wire.proofs.copy.put_bytes.Reads as put-bytes-reads
 
 cast-ref-of : tie.Need-cast-ref-of
 cast-ref-of c = search needs

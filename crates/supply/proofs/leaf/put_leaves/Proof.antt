@@ -1,6 +1,6 @@
+-- `supply::leaf::put_leaves` meets its contract: what is left leads to the same place. Assumes nothing.
 use Rattle.supply.proofs.Leaves.{same-out}
-use mathlib.Core.Path.{_≡_, refl, ap, sym, _∙_}
-use mathlib.Core.Logic.{⊎-elim}
+use mathlib.Core.Path.{_≡_, refl, sym, _∙_}
 use native.Mathlib.Omega.{arith}
 use Prim.Native.Nat.{_-_, _≤_}
 use lib.ListN.{length, drop}
@@ -15,10 +15,6 @@ use Rattle.supply.proofs.Elements.{turn-go, some-left, one-fewer}
 use borrow.Author.Needs.{needs}
 use Rattle.supply.proofs.leaf.put_leaves.Statement.{statement}
 use Rattle.supply.proofs.leaf.put_leaves.Tie as tie
-use Rattle.supply.proofs.leaf.put_leaves.Reads as reads
-use Rattle.supply.proofs.leaf.put_leaves.Lts as lts
-use Rattle.supply.proofs.leaf.put_leaf.Reads as put-leaf-reads
-use Rattle.supply.proofs.list.next_entry.Reads as next-entry-reads
 
 abbrev Inv-loop : tie.InvT-loop
 Inv-loop plan node kind src list first end word₀ out₀ at₀ index₀ word out at index =

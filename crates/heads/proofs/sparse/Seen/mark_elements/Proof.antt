@@ -1,17 +1,13 @@
+-- `heads::sparse::Seen::mark_elements` meets its contract: what is left of the elements leads to the same marks. Assumes nothing.
 use native.Mathlib.Omega.{arith}
-use mathlib.Core.Path.{_≡_, refl, sym, _∙_}
+use mathlib.Core.Path.{_≡_, sym}
 use Prim.Native.Nat.{_-_, _≤_}
 use lib.ListN.{length}
-use Rattle.heads.specs.Marks.{afterHead, indexesIn}
+use Rattle.heads.specs.Marks.{indexesIn}
 use Rattle.heads.proofs.Marks.{Marking, marking-start, marking-next, marking-done, in-none, in-bad, in-known, in-whole, there-inside, after-there, after-none}
 use borrow.Author.Needs.{needs}
 use Rattle.heads.proofs.sparse.Seen.mark_elements.Statement.{statement}
 use Rattle.heads.proofs.sparse.Seen.mark_elements.Tie as tie
-use Rattle.heads.proofs.sparse.Seen.mark_elements.Reads as reads
-use Rattle.heads.proofs.sparse.Seen.mark_elements.Lts as lts
-use Rattle.heads.proofs.element.sparse_length.Reads as sparse-length-reads
-use Rattle.heads.proofs.sparse.either.Reads as either-reads
-use Rattle.heads.proofs.sparse.sparse_index.Reads as sparse-index-reads
 
 abbrev Inv-loop : tie.InvT-loop
 Inv-loop s n at marks₀ twice₀ left₀ pos₀ marks twice left pos = (pos ≤ length s) × Marking marks₀ (indexesIn s n at) marks twice (indexesIn s left pos)

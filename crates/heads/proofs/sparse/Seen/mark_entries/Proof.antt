@@ -1,5 +1,6 @@
+-- `heads::sparse::Seen::mark_entries` meets its contract: what is left of the entries leads to the same marks. Assumes nothing.
 use native.Mathlib.Omega.{arith}
-use mathlib.Core.Path.{_≡_, refl, sym, _∙_}
+use mathlib.Core.Path.{_≡_}
 use mathlib.Core.Logic.{⊎-elim}
 use Prim.Native.Nat.{_+_, _-_}
 use mathlib.Core.List.{_∷_}
@@ -9,9 +10,6 @@ use Rattle.heads.proofs.Marks.{Marking, marking-start, marking-next, ma
 use borrow.Author.Needs.{needs}
 use Rattle.heads.proofs.sparse.Seen.mark_entries.Statement.{statement}
 use Rattle.heads.proofs.sparse.Seen.mark_entries.Tie as tie
-use Rattle.heads.proofs.sparse.Seen.mark_entries.Reads as reads
-use Rattle.heads.proofs.sparse.Seen.mark_entries.Lts as lts
-use Rattle.heads.proofs.sparse.either.Reads as either-reads
 
 abbrev Inv-loop : tie.InvT-loop
 Inv-loop list n first step marks₀ twice₀ left₀ word₀ marks twice left word =
