@@ -14,11 +14,12 @@ use heads::sparse::Seen;
 ghost use mathlib.Core.Path.{_≡_};
 ghost use Prim.Native.Nat.{ℕ, _+_, _-_, _^_, _<_, _≤_};
 ghost use lib.ListN.{length, take, drop, getD};
+ghost use lib.Seq.{sets};
 ghost use Rattle.plan.specs.Plan.{look, At};
 ghost use Rattle.plan.specs.Readers.{Refers, KindAt};
 ghost use Rattle.value.specs.Walk.{leafGood, Container, Holds};
 ghost use Rattle.supply.specs.Build.{rowOrder, elementsMade, buildOf};
-ghost use Rattle.supply.specs.Emitting.{put-at, LeafPut, GathersNew};
+ghost use Rattle.supply.specs.Emitting.{headOf, put-at, LeafPut, GathersNew};
 
 // Whether a node is a leaf and the bytes of the source from s up to e are permitted in it. Of most formats the size alone counts.
 fn leaf_fits(plan: &[u32], node: usize, src: &[u8], s: usize, e: usize) -> bool
@@ -36,6 +37,18 @@ fn leaf_fits(plan: &[u32], node: usize, src: &[u8], s: usize, e: usize) -> bool
         return value::node::leaf_ok(plan, node, kind, &src[s..e]);
     }
     false
+}
+
+// The head of a leaf. That of a set's or an array's (2) is its length alone, which is put out without a call.
+fn put_head(kind: u32, index: u32, n: u32, out: &mut [u8], at: usize)
+    requires { ⌜ (at ≤ 65535) × (kind ≡ 3 → n ≤ 65535) ⌝ }
+    ensures { λ _. ⌜ now (out .exit) ≡ sets (now (out .entry)) at (headOf kind index n) ⌝ }
+{
+    if kind == 2 {
+        head::put_word(n, out, at);
+        return;
+    }
+    head::put_head(kind, index, n, out, at);
 }
 
 // Puts out the element of an entry with its head, where it is a leaf, fits and is permitted.
@@ -70,7 +83,7 @@ fn put_leaf(
     }
     if leaf_fits(plan, child, src, s, e) {
         wire::copy::put_bytes(&src[s..e], out, at + head);
-        head::put_head(kind, entry.index, entry.size, out, at);
+        put_head(kind, entry.index, entry.size, out, at);
         return Emitted::Leaf { size };
     }
     Emitted::Other
