@@ -3,9 +3,9 @@ use mathlib.Core.Path.{_≡_}
 use Prim.Native.Nat.{ℕ}
 use mathlib.Core.List.{List}
 use lib.ListN.{length}
-use Rattle.message_write.specs.Writing.{Put, refusedPut, putOut, outputAfter}
 use Rattle.message_write.specs.declared.Wrote.{Wrote}
 use Rattle.message_write.specs.declared.Wrote.the-variants.{Refused, Whole}
+use Rattle.protocol.specs.Answers.{Put, refusedPut, putOut, outputAfter}
 
 -- a refusal's number, or the length of the message
 unfoldable pub wroteOf : Put → Wrote

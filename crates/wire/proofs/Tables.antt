@@ -5,8 +5,8 @@ use mathlib.Core.Logic.{⊎-elim}
 use Prim.Native.Nat.{ℕ, zero, suc, _+_, _<_, _≤_}
 use native.Mathlib.Omega.{arith}
 use native.Mathlib.Nat.{eq-or-lt-of-le}
-use Rattle.wire.specs.Choice.{pick}
 use Rattle.wire.proofs.Picks.{clash, both}
+use Rattle.protocol.specs.Numbers.{pick}
 
 -- the n numbers from l
 abbrev pub each : (ℕ → Bool) → ℕ → ℕ → Bool

@@ -1,12 +1,11 @@
 -- `find_number::find_number` meets its contract. Assumes nothing.
-use mathlib.Core.Path.{_≡_, refl, sym, _∙_, ap}
-use Rattle.find_number.specs.Number.{numberOf}
 use native.Mathlib.Omega.{arith}
-use Rattle.find.proofs.Calls.{find-accepts}
+use Rattle.find_path.proofs.Calls.{find-accepts}
 use Rattle.find_number.proofs.Numbers.{number-refused, number-node, number-found}
 use borrow.Author.Needs.{needs}
 use Rattle.find_number.proofs.find_number.Statement.{statement}
 use Rattle.find_number.proofs.find_number.Tie as tie
+use Rattle.protocol.specs.Finding.{numberOf}
 
 find-requires : tie.Need-find-requires
 find-requires c κs = search needs

@@ -1,15 +1,13 @@
 -- `find_number::of_format` meets its contract. Assumes nothing.
-use mathlib.Core.Path.{_≡_, refl, sym, _∙_, ap}
+use mathlib.Core.Path.{refl, sym, _∙_}
 use native.Mathlib.Omega.{arith}
-use Prim.Native.Nat.{_^_, _<_, _≤_, _+_, ℕ}
-use Rattle.wire.specs.Choice.{pick}
-use Rattle.find_number.specs.Number.{integral, plainBits}
-use lib.ListN.{length, getD}
 use Rattle.wire.proofs.Numbers.{be-below}
 use Rattle.find_number.proofs.Bits.{integer-width, width-few, single-size, double-size, truth-size, truth-low, gives-integer, gives-bits, gives-truth, gives-none}
 use borrow.Author.Needs.{needs}
 use Rattle.find_number.proofs.of_format.Statement.{statement}
 use Rattle.find_number.proofs.of_format.Tie as tie
+use Rattle.protocol.specs.Numbers.{pick}
+use Rattle.protocol.specs.Finding.{integral, plainBits}
 
 is-integer-requires : tie.Need-is-integer-requires
 is-integer-requires c κs = search needs

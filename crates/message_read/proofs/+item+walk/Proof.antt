@@ -2,10 +2,9 @@ use mathlib.Core.Path.{_≡_, refl, sym, subst, _∙_}
 use native.Mathlib.Omega.{arith}
 use Prim.Native.Nat.{ℕ, _-_, _*_, _≤_, _<_}
 use lib.ListN.{length}
-use Rattle.layout.specs.Tables.{layoutAt}
-use Rattle.layout.specs.Judged.{judgedAll}
-use Rattle.layout.proofs.Codes.{μ-code, code-below, walk-falls}
-use Rattle.message_read.specs.Reading.{fields, times}
+use Rattle.message_layout.specs.Tables.{layoutAt}
+use Rattle.message_layout.specs.Judged.{judgedAll}
+use Rattle.message_layout.proofs.Codes.{μ-code, code-below, walk-falls}
 use Rattle.message_read.specs.Scan.{led, outcomeOf, Within}
 use Rattle.message_read.proofs.Walks.{scan-end, scan-item, item-field, item-run, count-whole, stop, go, repeat-one, repeat-none, repeat-count}
 use borrow.Author.Needs.{needs}
@@ -17,11 +16,12 @@ use Rattle.message_read.proofs.+item+walk.Lts-item as item-lts
 use Rattle.message_read.proofs.walk.Reads as walk
 use Rattle.message_read.proofs.walk.Kinds as walk-kinds
 use Rattle.message_read.proofs.+item+walk.Lts-walk as walk-lts
-use Rattle.layout.proofs.code_at.Reads as code-at-reads
+use Rattle.message_layout.proofs.code_at.Reads as code-at-reads
 use Rattle.message_read.proofs.one_field.Reads as one-field-reads
 use Rattle.wire.proofs.be.u16_at.Reads as u16-at-reads
 use Rattle.message_read.proofs.+item+walk.{statement}
 use Rattle.message_read.proofs.+item+walk.Tie.{close}
+use Rattle.protocol.specs.Messages.{fieldsRead, timesRead}
 
 abbrev μ-item : Measures 3 item-kinds.ps ℕ
 μ-item κs a = μ-code (a .1 .1 .0)
@@ -52,7 +52,7 @@ walk-claims t =
 abbrev item-Inv-loop : item-lts.InvT-loop
 item-Inv-loop m table code judge from words list₀ first w left₀ at₀ k₀ list left at k =
     (at ≤ length m) × (k ≤ 2 * at) × (length list ≡ length list₀)
-    × (led (times left₀ (fields (judgedAll judge (layoutAt (code - 16))) m) at₀) k₀ list₀ ≡ led (times left (fields (judgedAll judge (layoutAt (code - 16))) m) at) k list)
+    × (led (timesRead left₀ (fieldsRead (judgedAll judge (layoutAt (code - 16))) m) at₀) k₀ list₀ ≡ led (timesRead left (fieldsRead (judgedAll judge (layoutAt (code - 16))) m) at) k list)
 
 abbrev item-μ-loop : item-lts.MeasureT-loop
 item-μ-loop m table code judge from words list₀ first w left₀ at₀ k₀ list left at k = left
@@ -151,7 +151,7 @@ item-returns-4 t c = (
 abbrev walk-Inv-loop : walk-lts.InvT-loop
 walk-Inv-loop m table start judge from words list₀ p₀ at₀ k₀ list p at k =
     (at ≤ length m) × (k ≤ 2 * at) × (length list ≡ length list₀) × (start ≤ p) × (p < 51)
-    × (led (fields (judgedAll judge (layoutAt p₀)) m at₀) k₀ list₀ ≡ led (fields (judgedAll judge (layoutAt p)) m at) k list)
+    × (led (fieldsRead (judgedAll judge (layoutAt p₀)) m at₀) k₀ list₀ ≡ led (fieldsRead (judgedAll judge (layoutAt p)) m at) k list)
 
 abbrev walk-μ-loop : walk-lts.MeasureT-loop
 walk-μ-loop m table start judge from words list₀ p₀ at₀ k₀ list p at k = 51 - p

@@ -1,5 +1,5 @@
 use native.Mathlib.Omega.{arith}
-use Rattle.layout.specs.Judged.{judgedAll}
+use Rattle.message_layout.specs.Judged.{judgedAll}
 use Rattle.message_read.specs.Scan.{Within}
 use Rattle.message_read.proofs.Ends.{body-refused, body-left, body-read}
 use borrow.Author.Needs.{needs}

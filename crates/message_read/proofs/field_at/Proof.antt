@@ -1,9 +1,9 @@
 use mathlib.Core.Path.{ap, _∙_}
-use Rattle.message_read.specs.Reading.{textual}
 use Rattle.message_read.proofs.Fields.{bytes-are, text-judged, text-taken, textual-inside, inside-zero}
 use borrow.Author.Needs.{needs}
 use Rattle.message_read.proofs.field_at.Statement.{statement}
 use Rattle.message_read.proofs.field_at.Tie as tie
+use Rattle.protocol.specs.Messages.{textual}
 
 number-at-requires : tie.Need-number-at-requires
 number-at-requires c κs = search needs

@@ -1,11 +1,11 @@
 use mathlib.Core.Path.{ap}
 use native.Mathlib.Omega.{arith}
-use Rattle.message_read.specs.Reading.{outcome}
 use Rattle.message_read.specs.Scan.{outcomeOf, Inside, Within}
 use Rattle.message_read.proofs.Walks.{placed-put, placed-not}
 use borrow.Author.Needs.{needs}
 use Rattle.message_read.proofs.one_field.Statement.{statement}
 use Rattle.message_read.proofs.one_field.Tie as tie
+use Rattle.protocol.specs.Messages.{fieldOutcome}
 
 field-at-requires : tie.Need-field-at-requires
 field-at-requires c κs = search needs
@@ -39,14 +39,14 @@ add-t17 : tie.Need-add-t17
 add-t17 c = search needs
 
 returns : tie.Need-returns
-unfolding outcomeOf Within outcome
+unfolding outcomeOf Within fieldOutcome
 returns c =
-    (placed-not _ _ _ _ _ _ (c .before .before .field-at .ensures .0) (ap (outcome _) (c .enum-told .given .1)), tt)
+    (placed-not _ _ _ _ _ _ (c .before .before .field-at .ensures .0) (ap (fieldOutcome _) (c .enum-told .given .1)), tt)
 
 returns-2 : tie.Need-returns-2
-unfolding outcomeOf Within outcome
+unfolding outcomeOf Within fieldOutcome
 returns-2 c =
-    (placed-not _ _ _ _ _ _ (c .before .before .field-at .ensures .0) (ap (outcome _) (c .enum-told2 .given .1)), tt)
+    (placed-not _ _ _ _ _ _ (c .before .before .field-at .ensures .0) (ap (fieldOutcome _) (c .enum-told2 .given .1)), tt)
 
 same-length : tie.Need-same-length
 same-length c = search needs

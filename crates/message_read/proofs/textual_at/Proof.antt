@@ -1,11 +1,11 @@
 use mathlib.Core.Path.{sym, ap}
 use native.Mathlib.Omega.{arith}
-use Rattle.message_read.specs.Reading.{textual}
 use Rattle.message_read.specs.Scan.{Inside}
 use Rattle.message_read.proofs.Fields.{text-good, text-bad}
 use borrow.Author.Needs.{needs}
 use Rattle.message_read.proofs.textual_at.Statement.{statement}
 use Rattle.message_read.proofs.textual_at.Tie as tie
+use Rattle.protocol.specs.Messages.{textual}
 
 enum-told : tie.Need-enum-told
 enum-told c = search needs

@@ -2,11 +2,9 @@ use mathlib.Core.Path.{_≡_, refl, sym, ap, subst, _∙_}
 use native.Mathlib.Omega.{arith}
 use Prim.Native.Nat.{ℕ, _-_, _*_, _≤_, _<_}
 use lib.ListN.{length, take, drop}
-use Rattle.wire.specs.Be.{be}
-use Rattle.layout.specs.Tables.{layoutAt}
-use Rattle.layout.specs.Judged.{judgedAll}
-use Rattle.layout.proofs.Codes.{μ-code, code-below, walk-falls}
-use Rattle.message_write.specs.Writing.{timesFrom, fieldsFrom}
+use Rattle.message_layout.specs.Tables.{layoutAt}
+use Rattle.message_layout.specs.Judged.{judgedAll}
+use Rattle.message_layout.proofs.Codes.{μ-code, code-below, walk-falls}
 use Rattle.message_write.specs.Emitting.{standOf, put-at, Bounded}
 use Rattle.message_write.proofs.Emits.{stop-from, go-from, from-field, from-stop, from-go, count-some, count-inside, from-end, from-item, times-one, times-none, times-count, faulty-is, done-is, first-word, some-left}
 use borrow.Author.Needs.{needs}
@@ -19,11 +17,13 @@ use Rattle.message_write.proofs.+emit_item+emit_walk.Lts-emit_item as e
 use Rattle.message_write.proofs.emit_walk.Reads as emit-walk
 use Rattle.message_write.proofs.emit_walk.Kinds as emit-walk-kinds
 use Rattle.message_write.proofs.+emit_item+emit_walk.Lts-emit_walk as emit-walk-lts
-use Rattle.layout.proofs.code_at.Reads as code-at-reads
+use Rattle.message_layout.proofs.code_at.Reads as code-at-reads
 use Rattle.message_write.proofs.emit_field.Reads as emit-field-reads
 use Rattle.wire.proofs.be.u16_at.Reads as u16-at-reads
 use Rattle.message_write.proofs.+emit_item+emit_walk.{statement}
 use Rattle.message_write.proofs.+emit_item+emit_walk.Tie.{close}
+use Rattle.protocol.specs.Numbers.{be}
+use Rattle.protocol.specs.Messages.{timesWritten, fieldsWritten}
 
 abbrev μ-emit-item : Measures 4 emit-item-kinds.ps ℕ
 μ-emit-item κs a = μ-code (a .1 .1 .1 .0)
@@ -56,7 +56,7 @@ emit-walk-claims t =
 abbrev emit-item-Inv-loop : emit-item-lts.InvT-loop
 emit-item-Inv-loop src list table code judge first from out₀ w a s items left₀ i₀ at₀ out left i at =
     (i ≤ length list) × (at ≤ 65537) × (length out ≡ length out₀)
-    × (put-at (timesFrom left₀ (fieldsFrom (judgedAll judge (layoutAt (code - 16))) src) (drop i₀ list)) at₀ out₀ ≡ put-at (timesFrom left (fieldsFrom (judgedAll judge (layoutAt (code - 16))) src) (drop i list)) at out)
+    × (put-at (timesWritten left₀ (fieldsWritten (judgedAll judge (layoutAt (code - 16))) src) (drop i₀ list)) at₀ out₀ ≡ put-at (timesWritten left (fieldsWritten (judgedAll judge (layoutAt (code - 16))) src) (drop i list)) at out)
     × (length out ≤ 65536)
 
 abbrev emit-item-μ-loop : emit-item-lts.MeasureT-loop
@@ -157,7 +157,7 @@ emit-item-returns-4 t c =
 abbrev emit-walk-Inv-loop : emit-walk-lts.InvT-loop
 emit-walk-Inv-loop src list table start judge first from out₀ p₀ i₀ at₀ out p i at =
     (i ≤ length list) × (at ≤ 65537) × (length out ≡ length out₀) × (start ≤ p) × (p < 51)
-    × (put-at (fieldsFrom (judgedAll judge (layoutAt p₀)) src (drop i₀ list)) at₀ out₀ ≡ put-at (fieldsFrom (judgedAll judge (layoutAt p)) src (drop i list)) at out)
+    × (put-at (fieldsWritten (judgedAll judge (layoutAt p₀)) src (drop i₀ list)) at₀ out₀ ≡ put-at (fieldsWritten (judgedAll judge (layoutAt p)) src (drop i list)) at out)
     × (length out ≤ 65536)
 
 abbrev emit-walk-μ-loop : emit-walk-lts.MeasureT-loop

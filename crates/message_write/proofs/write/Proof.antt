@@ -2,7 +2,7 @@ use mathlib.Core.Path.{_∙_}
 use native.Mathlib.Omega.{arith}
 use lib.ListN.{length-drop, length-set, length-take}
 use lib.Seq.{length-front}
-use Rattle.layout.specs.Judged.{judgedAll}
+use Rattle.message_layout.specs.Judged.{judgedAll}
 use Rattle.message_write.proofs.Puts.{led, exact, puts-unknown, puts-faulty, puts-left, puts-long, puts-full, puts-whole}
 use Rattle.message_write.proofs.Emits.{faulty-is, done-is}
 use borrow.Author.Needs.{needs}

@@ -4,9 +4,9 @@ use native.Mathlib.Nat.{div-div-eq-div-mul}
 use native.Mathlib.Numerals.{towards-suc}
 use lib.ListN.{length-set}
 use borrow.Author.Needs.{needs}
-use Rattle.wire.specs.Be.{bytesBe}
 use Rattle.wire.proofs.be.put_u32.Statement.{statement}
 use Rattle.wire.proofs.be.put_u32.Tie as tie
+use Rattle.protocol.specs.Numbers.{bytesBe}
 
 cast-out : tie.Need-cast-out
 cast-out c = search needs

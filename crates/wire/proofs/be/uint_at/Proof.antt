@@ -5,10 +5,10 @@ use native.Mathlib.Omega.{arith}
 use lib.Dec.{lit<}
 use lib.ListN.{length, getD, take, drop}
 use borrow.Author.Needs.{needs}
-use Rattle.wire.specs.Be.{be}
 use Rattle.wire.proofs.Numbers.{be-none, be-next, more-fits}
 use Rattle.wire.proofs.be.uint_at.Statement.{statement}
 use Rattle.wire.proofs.be.uint_at.Tie as tie
+use Rattle.protocol.specs.Numbers.{be}
 
 abbrev Inv-loop : tie.InvT-loop
 Inv-loop s at n v₀ i₀ v i = (i ≤ n) × (v ≡ be (take i (drop at s))) × (v < 256 ^ i)

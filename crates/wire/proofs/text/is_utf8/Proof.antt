@@ -5,10 +5,10 @@ use Prim.Native.Nat.{ℕ, _-_, _≤_}
 use native.Mathlib.Omega.{arith}
 use lib.ListN.{length, drop}
 use borrow.Author.Needs.{needs}
-use Rattle.wire.specs.Utf8.{goesOn, wellFormed}
 use Rattle.wire.proofs.Sequences.{sequence-inside, sequence-none, sequence-on, ended, plain-next, plain-inside, plain-goes}
 use Rattle.wire.proofs.text.is_utf8.Statement.{statement}
 use Rattle.wire.proofs.text.is_utf8.Tie as tie
+use Rattle.protocol.specs.Text.{goesOn, wellFormed}
 
 abbrev Inv-loop : tie.InvT-loop
 Inv-loop s i₀ i = (i ≤ length s) × (wellFormed s ≡ goesOn [] (drop i s))

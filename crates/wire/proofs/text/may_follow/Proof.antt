@@ -1,10 +1,10 @@
 -- `wire::text::may_follow` meets its contract: the tests are those of `second`, in its order. Assumes nothing.
 use borrow.Author.Tests.{eq-eqb, ne-eqb}
 use borrow.Author.Needs.{needs}
-use Rattle.wire.specs.Choice.{pick}
 use Rattle.wire.specs.Scan.{second}
 use Rattle.wire.proofs.text.may_follow.Statement.{statement}
 use Rattle.wire.proofs.text.may_follow.Tie as tie
+use Rattle.protocol.specs.Numbers.{pick}
 
 is-within-requires : tie.Need-is-within-requires
 is-within-requires c κs = search needs

@@ -7,10 +7,10 @@ use lib.Dec.{leb, ltb}
 use lib.ListN.{drop, getD}
 use borrow.Author.Tests.{le-leb}
 use borrow.Author.Needs.{needs}
-use Rattle.wire.specs.Utf8.{plainRun}
 use Rattle.wire.proofs.Sequences.{plain-more}
 use Rattle.wire.proofs.text.plain_block.Statement.{statement}
 use Rattle.wire.proofs.text.plain_block.Tie as tie
+use Rattle.wire.specs.Scan.{plainRun}
 
 abbrev Inv-loop : tie.InvT-loop
 Inv-loop s i n high₀ k₀ high k = (k ≤ n) × (ltb high 0x80 ≡ leb k (plainRun (drop i s)))

@@ -5,11 +5,11 @@ use native.Mathlib.Omega.{arith}
 use lib.ListN.{getD}
 use borrow.Author.Needs.{needs}
 use borrow.Author.Tests.{not-true, not-false}
-use Rattle.wire.specs.Utf8.{Range}
 use Rattle.wire.specs.Scan.{follower, second}
 use Rattle.wire.proofs.Sequences.{Going, begun, passed, broken, cut, whole}
 use Rattle.wire.proofs.text.rest_at.Statement.{statement}
 use Rattle.wire.proofs.text.rest_at.Tie as tie
+use Rattle.protocol.specs.Text.{Range}
 
 -- k bytes have passed, and n are to come, the first of them in r
 abbrev Passed : tie.Start → ℕ → ℕ → Range → Type 0

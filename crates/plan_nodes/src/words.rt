@@ -1,0 +1,66 @@
+// Words of a plan.
+ghost use mathlib.Core.Path.{_≡_};
+ghost use Prim.Native.Nat.{_+_, _<_};
+ghost use lib.ListN.{length, getD, set};
+ghost use Rattle.protocol.specs.Plans.{isCardinality, nodeSize};
+
+pub fn wide(x: u32) -> usize
+    ensures { λ r. ⌜ r ≡ x ⌝ }
+{
+    x as usize
+}
+
+// A word of a plan, 0 past its end.
+pub fn word_at(plan: &[u32], at: usize) -> u32
+    ensures { λ r. ⌜ r ≡ getD (now (plan .entry)) at 0 ⌝ }
+{
+    if at < plan.len() {
+        return plan[at];
+    }
+    0
+}
+
+// A word at a position, if the list has it.
+pub fn put_word(list: &mut [u32], at: usize, word: u32)
+    ensures { λ _. ⌜ now (list .exit) ≡ set (now (list .entry)) at word ⌝ }
+{
+    if at < list.len() {
+        list[at] = word;
+    }
+}
+
+// "cardinalities": one of five codes
+pub fn is_cardinality(c: u32) -> bool
+    ensures { λ b. ⌜ b ≡ isCardinality c ⌝ }
+{
+    match c {
+        0x6e => true,
+        0x6f => true,
+        0x41 => true,
+        0x6d => true,
+        0x4d => true,
+        _ => false,
+    }
+}
+
+// How many words the node at a position has.
+pub fn size_at(plan: &[u32], at: usize) -> usize
+    requires { ⌜ at < length (now plan) ⌝ }
+    ensures { λ r. ⌜ r ≡ nodeSize (getD (now (plan .entry)) at 0) (getD (now (plan .entry)) (at + 1) 0) ⌝ }
+{
+    let kind = plan[at];
+    let n = wide(word_at(plan, at + 1));
+    if kind == 4 {
+        return 2 + n;
+    }
+    if kind == 5 {
+        return 2 + 2 * n;
+    }
+    if kind == 6 {
+        return 2 + 2 * n;
+    }
+    if kind == 8 {
+        return 1;
+    }
+    2
+}

@@ -1,0 +1,56 @@
+-- The eleven cases of document 01, 'Values at the edges', as one table about the definitions. Assumes nothing: these are definitions.
+use Prim.Native.Nat.{ℕ}
+use mathlib.Core.List.{List, [], _∷_, _++_}
+use lib.ListN.{replicate, take}
+use Rattle.run_plan.specs.Cases.{Result, refusal, list, resultOf, planA, planSparse, four, twoIntegers}
+use Rattle.descriptor_blocks.specs.Descriptor.{Compiled, refusedPlan, plan, compileOf}
+use Rattle.protocol.specs.Running.{runOf}
+
+-- "Descriptor A, 53 bytes: 03, id ..0105, 0000000a, 'std::int64', 01 0000 (34 bytes); 00, id 11 sixteen times, 0000. Root: the second id."
+unfoldable pub int64Id : List ℕ
+int64Id = replicate 14 0 ++ (0x01 ∷ 0x05 ∷ [])
+
+unfoldable pub setId : List ℕ
+setId = replicate 16 0x11
+
+unfoldable pub int64Block : List ℕ
+int64Block =
+    0x03 ∷ (int64Id
+    ++ (four 10 ++ (0x73 ∷ 0x74 ∷ 0x64 ∷ 0x3a ∷ 0x3a ∷ 0x69 ∷ 0x6e ∷ 0x74 ∷ 0x36 ∷ 0x34 ∷ 0x01 ∷ 0x00 ∷ 0x00 ∷ [])))
+
+-- the second block, with an id and a reference
+unfoldable pub setBlock : List ℕ → ℕ → List ℕ
+setBlock id r = 0x00 ∷ (id ++ (0x00 ∷ r ∷ []))
+
+unfoldable pub descriptorA : List ℕ
+descriptorA = int64Block ++ setBlock setId 0
+
+unfoldable pub compiledResult : Compiled → Result
+compiledResult (refusedPlan n p) = refusal n p
+compiledResult (plan ws) = list ws
+
+-- what is done, and what it gives
+pub record Case : Type 0 where
+  pub gives : Result
+  pub expected : Result
+
+abbrev pub compiling : List ℕ → List ℕ → Result → Case
+compiling d root r = record { gives = compiledResult (compileOf d root 8192); expected = r }
+
+abbrev pub running : List ℕ → List ℕ → Result → Case
+running p s r = record { gives = resultOf (runOf p s 8192); expected = r }
+
+unfoldable pub cases : List Case
+cases =
+    compiling descriptorA setId (list planA)
+    ∷ running planA twoIntegers (list (4 ∷ 0 ∷ 0 ∷ 44 ∷ 2 ∷ 2 ∷ 0 ∷ 24 ∷ 8 ∷ 0 ∷ 2 ∷ 1 ∷ 36 ∷ 8 ∷ 0 ∷ []))
+    ∷ running planA (replicate 12 0) (list (4 ∷ 0 ∷ 0 ∷ 12 ∷ 0 ∷ []))
+    ∷ running planA (four 1 ++ (replicate 8 0 ++ (four 0 ++ four 1))) (refusal 22 0)
+    ∷ running planA (take 43 twoIntegers) (refusal 20 0)
+    ∷ running planA (twoIntegers ++ (0 ∷ [])) (refusal 21 0)
+    ∷ running planA (four 1 ++ (replicate 8 0 ++ (four 1 ++ (four 1 ++ (four 7 ++ replicate 7 0))))) (refusal 24 24)
+    ∷ compiling (int64Block ++ setBlock setId 1) setId (refusal 13 34)
+    ∷ compiling (int64Block ++ setBlock int64Id 0) setId (refusal 15 34)
+    ∷ running planSparse (four 0) (refusal 27 0)
+    ∷ running planSparse (four 2 ++ (four 0 ++ (four 8 ++ (replicate 8 0 ++ (four 0 ++ (four 8 ++ replicate 8 0)))))) (refusal 26 0)
+    ∷ []

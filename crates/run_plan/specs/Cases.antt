@@ -1,0 +1,34 @@
+-- The plans and bytes of document 01, 'Values at the edges', and what a run gives as number and place or words. The table of its cases is
+-- compile's.
+-- Assumes nothing: these are definitions.
+use Prim.Native.Nat.{ℕ}
+use mathlib.Core.List.{List, [], _∷_, _++_}
+use lib.ListN.{replicate}
+use Rattle.protocol.specs.Lists.{words}
+use Rattle.protocol.specs.Values.{ValueOutcome}
+use Rattle.protocol.specs.Answers.{refused, accepted}
+
+-- number and place of a refusal, or the words of the list
+pub data Result : Type 0 where
+  refusal : ℕ → ℕ → Result
+  list : List ℕ → Result
+
+unfoldable pub resultOf : ValueOutcome → Result
+resultOf (refused n p) = refusal n p
+resultOf (accepted f) = list (words f)
+
+-- "A's plan: 6 4 1 5 2 2"
+unfoldable pub planA : List ℕ
+planA = 6 ∷ 4 ∷ 1 ∷ 5 ∷ 2 ∷ 2 ∷ []
+
+-- "Plan 8 4 1 5 6 1 2 65"
+unfoldable pub planSparse : List ℕ
+planSparse = 8 ∷ 4 ∷ 1 ∷ 5 ∷ 6 ∷ 1 ∷ 2 ∷ 65 ∷ []
+
+-- the four bytes of a small number
+unfoldable pub four : ℕ → List ℕ
+four n = 0 ∷ 0 ∷ 0 ∷ n ∷ []
+
+-- "Set {7, -1}: 00000001, eight zeros, 00000002 00000001, then twice 00000008 and the integer: 44 bytes."
+unfoldable pub twoIntegers : List ℕ
+twoIntegers = four 1 ++ (replicate 8 0 ++ (four 2 ++ (four 1 ++ (four 8 ++ (replicate 7 0 ++ (7 ∷ (four 8 ++ replicate 8 255)))))))

@@ -1,0 +1,18 @@
+-- What the writer answers and leaves in the output, from what the definition puts out. Assumes nothing: these are definitions.
+use mathlib.Core.Path.{_≡_}
+use Prim.Native.Nat.{ℕ}
+use mathlib.Core.List.{List}
+use lib.ListN.{length}
+use Rattle.supply_write.specs.declared.Answer.{Answer}
+use Rattle.supply_write.specs.declared.Answer.the-variants.{Refused, Written}
+use Rattle.protocol.specs.Answers.{Put, refusedPut, putOut, outputAfter}
+
+-- a refusal's number, or the length of the value
+unfoldable pub answerOf : Put → Answer
+answerOf (refusedPut n) = Refused n
+answerOf (putOut b) = Written (length b)
+
+-- what is put out settles the answer and the output
+pub record Puts (p : Put) (r : Answer) (out out′ : List ℕ) : Type 0 where
+  pub answer : r ≡ answerOf p
+  pub output : out′ ≡ outputAfter p out

@@ -1,0 +1,38 @@
+use mathlib.Core.Path.{sym}
+use Rattle.value_scalars.specs.Scalars.{rules}
+use Rattle.value_scalars.proofs.Formats.{scalar-at, no-size}
+use borrow.Author.Needs.{needs}
+use Rattle.value_scalars.proofs.scalar_ok.Statement.{statement}
+use Rattle.value_scalars.proofs.scalar_ok.Tie as tie
+use Rattle.protocol.specs.Scalars.{ofSize, scalar}
+
+fixed-size-requires : tie.Need-fixed-size-requires
+fixed-size-requires c κs = search needs
+
+returns : tie.Need-returns
+unfolding ofSize
+returns c = sym (c .before .fixed-size .ensures .rule (c .if1 .taken) _)
+
+bool-ok-requires : tie.Need-bool-ok-requires
+bool-ok-requires c κs = search needs
+
+returns-2 : tie.Need-returns-2
+unfolding scalar rules
+returns-2 c = scalar-at 9 _ _ _ (c .before .if2 .taken) (c .bool-ok .ensures)
+
+ruled-ok-requires : tie.Need-ruled-ok-requires
+ruled-ok-requires c κs = (no-size _ _ (c .before .before .fixed-size .ensures) (c .before .if1 .left), c .if2 .left)
+
+returns-3 : tie.Need-returns-3
+returns-3 c = search needs
+
+pub scalar-ok-spec : {M : Type 1} → statement M
+scalar-ok-spec =
+    tie.close
+    (tie.spec
+    fixed-size-requires
+    returns
+    bool-ok-requires
+    returns-2
+    ruled-ok-requires
+    returns-3)
