@@ -76,22 +76,22 @@ module _ (p s : List ℕ) (a : Answer) (k k′ : List ℕ) (c : Checks (length s
     abbrev pub forest : Forest
     forest = found _ _ a k k′ c w e .forest
 
-    accepted : checked p s ≡ accepted forest
-    accepted = found _ _ a k k′ c w e .is
+    is-accepted : checked p s ≡ accepted forest
+    is-accepted = found _ _ a k k′ c w e .is
 
     pub sound : Passed p s forest
-    sound = passed p s forest accepted
+    sound = passed p s forest is-accepted
 
     pub finds-nothing : (path : List ℕ) → noType p ≡ true → Finds (findOf p s path) [] 35 0 0 0
     unfolding findOf foundIn foundAt topOf partIn numberIn placeIn nodeIn startIn
     finds-nothing path n =
-        rw (accepted, nothing-listed p s forest accepted n, follow-nowhere path)
+        rw (is-accepted, nothing-listed p s forest is-accepted n, follow-nowhere path)
         (record { part-is = refl; no-is = refl; place-is = refl; node-is = refl; start-is = refl })
 
     module _ (n : noType p ≡ false) (r : ℕ) (er : r ≡ getD p 1 0) (at-r : At p r) where
       pub finds-down : (path b : List ℕ) (m place node start : ℕ) → Finds (descend (look p) path r 0 s) b m place node start → Finds (findOf p s path) b m place node start
       unfolding findOf foundIn
-      finds-down path b m place node start x = rw (accepted, led p s forest accepted n r er at-r path .found-is) x
+      finds-down path b m place node start x = rw (is-accepted, led p s forest is-accepted n r er at-r path .found-is) x
 
 -- ---- what is found is an accepted value of a node
 

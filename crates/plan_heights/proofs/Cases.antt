@@ -35,27 +35,27 @@ module _ (p : List ℕ) (at : ℕ) (seen : List PlanNode) (K n : ℕ) where
   -- ---- all kinds
 
   pub height-enum : K ≡ 8 → 1 ≡ nodeHeight p at seen K n
-  unfolding nodeHeight pick
+  unfolding nodeHeight pick manyHeight
   height-enum e = rw e
 
   pub height-leaf : K ≡ 1 → n < 20 → 1 ≡ nodeHeight p at seen K n
-  unfolding nodeHeight pick
+  unfolding nodeHeight pick manyHeight
   height-leaf e l = rw (e, lt-ltb n 20 l)
 
   pub height-unknown : K ≡ 1 → 20 ≤ n → 0 ≡ nodeHeight p at seen K n
-  unfolding nodeHeight pick
+  unfolding nodeHeight pick manyHeight
   height-unknown e l = rw (e, le-ltb n 20 l)
 
   pub height-row : K ≡ 2 → refer seen 2 n 1 ≡ nodeHeight p at seen K n
-  unfolding nodeHeight pick
+  unfolding nodeHeight pick manyHeight
   height-row e = rw e
 
   pub height-arrays : K ≡ 3 → refer seen 3 n 1 ≡ nodeHeight p at seen K n
-  unfolding nodeHeight pick
+  unfolding nodeHeight pick manyHeight
   height-arrays e = rw e
 
   pub height-range : K ≡ 7 → refer seen 7 n 1 ≡ nodeHeight p at seen K n
-  unfolding nodeHeight pick
+  unfolding nodeHeight pick manyHeight
   height-range e = rw e
 
   pub height-many : (K ≡ 8 → ⊥) → (K ≡ 1 → ⊥) → (K ≡ 2 → ⊥) → (K ≡ 3 → ⊥) → (K ≡ 7 → ⊥) → manyHeight p at seen K n ≡ nodeHeight p at seen K n

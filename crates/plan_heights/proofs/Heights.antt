@@ -7,9 +7,9 @@ use Prim.Native.Nat.{ℕ, zero, suc, _+_, _≤_, _<_}
 use native.Mathlib.Nat.{eq-or-lt-of-le, le-of-suc-le-suc}
 use native.Mathlib.Numerals.{add-one}
 use native.Mathlib.Omega.{arith}
-use lib.Dec.{leb}
+use lib.Dec.{ltb}
 use lib.ListN.{getD}
-use borrow.Author.Tests.{le-leb, lt-leb}
+use borrow.Author.Tests.{le-leb, lt-leb, lt-ltb, le-ltb}
 use Rattle.wire.proofs.Picks.{pick-yes, pick-no, pick-case}
 use Rattle.plan_heights.specs.Scan.{knownAt, knownOf, Among, Rising}
 use Rattle.plan_heights.proofs.Starts.{find-miss, find-hit}
@@ -30,7 +30,7 @@ module _ (p s hs : List ℕ) (n kind r h i : ℕ) (u : Rising s n) (pos : 1 ≤ 
       sym (refer-some (knownOf p s hs n) kind r h pos
       ∙ ap (raised kind h) (find-miss p s hs n r (a .miss (omega (arith, a .within)))))
 
-  pub refer-hit : i < n → refer (knownOf p s hs n) kind r h ≡ pick (mayRefer kind (getD p (getD s i 0) 0)) (pick (leb (getD hs i 0) 31) (atLeast h (getD hs i 0 + 1)) 0) 0
+  pub refer-hit : i < n → refer (knownOf p s hs n) kind r h ≡ pick (mayRefer kind (getD p (getD s i 0) 0)) (pick (ltb (getD hs i 0) 32) (atLeast h (getD hs i 0 + 1)) 0) 0
   unfolding raised knownAt
   refer-hit l = refer-some (knownOf p s hs n) kind r h pos ∙ ap (raised kind h) (find-hit p s hs n r i u l (a .hit l))
 
@@ -40,15 +40,15 @@ module _ (p s hs : List ℕ) (n kind r h i : ℕ) (u : Rising s n) (pos : 1 ≤ 
 
     module _ (t : mayRefer kind (getD p w 0) ≡ true) where
       pub refer-high : 31 < getD hs i 0 → 0 ≡ refer (knownOf p s hs n) kind r h
-      refer-high g = sym (refer-hit l ∙ pick-yes _ _ _ (rw e at t) ∙ pick-no _ _ _ (lt-leb _ _ g))
+      refer-high g = sym (refer-hit l ∙ pick-yes _ _ _ (rw e at t) ∙ pick-no _ _ _ (le-ltb (getD hs i 0) 32 (omega (arith, g))))
 
       pub refer-more : getD hs i 0 ≤ 31 → h ≤ getD hs i 0 + 1 → getD hs i 0 + 1 ≡ refer (knownOf p s hs n) kind r h
       unfolding atLeast
-      refer-more g x = sym (refer-hit l ∙ pick-yes _ _ _ (rw e at t) ∙ pick-yes _ _ _ (le-leb _ _ g) ∙ pick-yes _ _ _ (le-leb _ _ x))
+      refer-more g x = sym (refer-hit l ∙ pick-yes _ _ _ (rw e at t) ∙ pick-yes _ _ _ (lt-ltb (getD hs i 0) 32 (omega (arith, g))) ∙ pick-yes _ _ _ (le-leb _ _ x))
 
       pub refer-same : getD hs i 0 ≤ 31 → getD hs i 0 + 1 < h → h ≡ refer (knownOf p s hs n) kind r h
       unfolding atLeast
-      refer-same g x = sym (refer-hit l ∙ pick-yes _ _ _ (rw e at t) ∙ pick-yes _ _ _ (le-leb _ _ g) ∙ pick-no _ _ _ (lt-leb _ _ x))
+      refer-same g x = sym (refer-hit l ∙ pick-yes _ _ _ (rw e at t) ∙ pick-yes _ _ _ (lt-ltb (getD hs i 0) 32 (omega (arith, g))) ∙ pick-no _ _ _ (lt-leb _ _ x))
 
 -- ---- many references
 

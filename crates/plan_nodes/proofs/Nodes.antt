@@ -18,7 +18,7 @@ use Rattle.plan_nodes.proofs.Looks.{elem-in, up-length, up-at}
 use Rattle.plan_nodes.proofs.Reading.{find-append, Inside, size-positive, sound-none, all-read}
 use Rattle.protocol.specs.Numbers.{pick, upTo}
 use Rattle.protocol.specs.Nodes.{Node, refAt}
-use Rattle.protocol.specs.Plans.{PlanNode, placedAt, isSome, pairRef, pairCard, refsAt, look, raised, refer, referAll, isCardinality, allCardinalities, nodeSize, nodeHeight, NodesRead, malformed, nodes, nodesOf, startsIn, noType, planFormed}
+use Rattle.protocol.specs.Plans.{PlanNode, placedAt, isSome, pairRef, pairCard, refsAt, look, raised, refer, referAll, isCardinality, allCardinalities, nodeSize, nodeHeight, NodesRead, malformed, nodes, nodesOf, startsIn, noType, planFormed, manyHeight}
 use Rattle.plan_nodes.specs.Readers.{At}
 
 -- ---- references that were found
@@ -44,7 +44,7 @@ refers-found seen kind g (suc n) i f lt =
 
 -- no other kind is well formed
 height-other : (p : List ℕ) (k : ℕ) (seen : List PlanNode) (K n : ℕ) → (K ≡ 0) ⊎ (8 < K) → nodeHeight p k seen K n ≡ 0
-unfolding nodeHeight pick
+unfolding nodeHeight pick manyHeight
 height-other p k seen K n o =
     let other : (m : ℕ) → 1 ≤ m → m ≤ 8 → eqb K m ≡ false =
     λ m a b. ne-eqb K m (λ (e : K ≡ m). ⊎-elim (λ (z : K ≡ 0). omega arith) (λ (z : 8 < K). omega arith) o)
@@ -126,7 +126,7 @@ module _ (p : List ℕ) (k : ℕ) (a : At p k) where
       ]
 
   pub at-format : getD p k 0 ≡ 1 → getD p (k + 1) 0 < 20
-  unfolding nodeHeight pick
+  unfolding nodeHeight pick manyHeight
   at-format e = elim (decLt (getD p (k + 1) 0) 20) [ yes l ↦ l | no l ↦ absurd (fine-as 1 e (rw (le-ltb (getD p (k + 1) 0) 20 (omega arith)))) ]
 
   -- the second word stands in the plan, but of an enumeration, which has none
@@ -135,7 +135,7 @@ module _ (p : List ℕ) (k : ℕ) (a : At p k) where
 
   -- "n" of a tuple or an object: at most 512 elements
   pub at-few : 4 ≤ getD p k 0 → getD p k 0 ≤ 6 → getD p (k + 1) 0 ≤ 512
-  unfolding nodeHeight pick
+  unfolding nodeHeight pick manyHeight
   at-few a b =
       let n = getD p (k + 1) 0 in
       elim (decLt 512 n) [
@@ -170,7 +170,7 @@ module _ (p : List ℕ) (k : ℕ) (a : At p k) where
   -- ---- references
 
   one-found : (K : ℕ) → (K ≡ 2) ⊎ ((K ≡ 3) ⊎ (K ≡ 7)) → getD p k 0 ≡ K → isSome (placedAt (placed .inside .seen) (getD p (k + 1) 0)) ≡ true
-  unfolding nodeHeight pick
+  unfolding nodeHeight pick manyHeight
   one-found K o e =
       let n = getD p (k + 1) 0 in
       let seen = placed .inside .seen in
@@ -180,14 +180,14 @@ module _ (p : List ℕ) (k : ℕ) (a : At p k) where
       o
 
   tuple-found : getD p k 0 ≡ 4 → (i : ℕ) → i < getD p (k + 1) 0 → isSome (placedAt (placed .inside .seen) (getD p (k + 2 + i) 0)) ≡ true
-  unfolding nodeHeight pick
+  unfolding nodeHeight pick manyHeight
   tuple-found e i lt =
       let n = getD p (k + 1) 0 in
       let few : n ≤ 512 = at-few (omega arith) (omega arith) in
       refers-found (placed .inside .seen) 4 (λ j. getD p (k + 2 + j) 0) n i (λ z. fine-as 4 e (rw (le-ltb 512 n few) z)) lt
 
   pairs-fine : (K : ℕ) → (K ≡ 5) ⊎ (K ≡ 6) → getD p k 0 ≡ K → (allCardinalities (pairCard p k) (getD p (k + 1) 0) ≡ true) × (referAll (placed .inside .seen) K (pairRef p k) (getD p (k + 1) 0) ≡ 0 → ⊥)
-  unfolding nodeHeight pick
+  unfolding nodeHeight pick manyHeight
   pairs-fine K o e =
       let n = getD p (k + 1) 0 in
       let few : n ≤ 512 = at-few (⊎-elim (λ q. omega arith) (λ q. omega arith) o) (⊎-elim (λ q. omega arith) (λ q. omega arith) o) in

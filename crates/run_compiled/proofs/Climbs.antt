@@ -6,7 +6,7 @@ use Prim.Native.Nat.{ℕ, zero, suc, _+_, _≤_, _<_}
 use native.Mathlib.Omega.{arith}
 use lib.ListN.{length, getD, take}
 use lib.Seq.{take-suc, take-length}
-use borrow.Author.Tests.{le-leb}
+use borrow.Author.Tests.{le-leb, lt-ltb}
 use Rattle.descriptor_fields.specs.Fields.{Known, Element}
 use Rattle.descriptor_blocks.proofs.Elements.{noElement, target, raisedBy, raised-snoc}
 use Rattle.descriptor_blocks.proofs.Sound.{raised-least}
@@ -26,7 +26,7 @@ module _ (known : List Known) (seen : List plan·PlanNode) (kind : ℕ) where
   refer-reached : (r h : ℕ) (e : Element) → 1 ≤ h → Reached known seen kind r e → refer seen kind r h ≡ atLeast h (target known e .height + 1)
   unfolding refer raised pick
   refer-reached r zero e l q = absurd (omega arith)
-  refer-reached r (suc h) e l q = rw (q .found, q .may, q .same, le-leb _ _ (q .low))
+  refer-reached r (suc h) e l q = rw (q .found, q .may, q .same, lt-ltb (target known e .height) 32 (omega (arith, q .low)))
 
   module _ (es : List Element) (f : ℕ → ℕ) (all : (k : ℕ) → k < length es → Reached known seen kind (f k) (getD es k noElement)) where
     climb : (n : ℕ) → n ≤ length es → referAll seen kind f n ≡ raisedBy known 1 (take n es)

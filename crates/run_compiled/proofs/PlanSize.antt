@@ -9,7 +9,7 @@ use lib.Dec.{eqb}
 use lib.ListN.{length, getD, take, List·getD-eq-default}
 use lib.Seq.{take-length}
 use borrow.Author.Tests.{eqb-true}
-use Rattle.wire.proofs.Picks.{pick-case}
+use Rattle.wire.proofs.Picks.{pick-case, clash}
 use Rattle.descriptor_fields.specs.Layouts.{valued}
 use Rattle.descriptor_blocks.specs.Descriptor.{pairs, nodeWords, nodeAt, Block, summaries, allWords, planWords}
 use Rattle.descriptor_blocks.proofs.Accepted.{missing, Accepted, Valued}
@@ -20,6 +20,7 @@ use Rattle.run_compiled.proofs.Renames.{rename-proper}
 use Rattle.run_compiled.proofs.Blocks.{facts, renames-same}
 use Rattle.protocol.specs.Nodes.{Node, leaf, enum, row, arrays, tuple, object, sparse, range, rename}
 use Rattle.protocol.specs.Plans.{isCardinality}
+use Rattle.protocol.specs.Numbers.{oneOf}
 
 -- ---- words
 
@@ -49,14 +50,15 @@ small-map ρ h [] = small-none
 small-map ρ h (x ∷ l) = small-more (h x) (small-map ρ h l)
 
 small-card : (c : ℕ) → isCardinality c ≡ true → c < 2 ^ 32
-unfolding isCardinality
+unfolding isCardinality oneOf
 small-card c =
     let P : Bool → Type 0 = λ b. b ≡ true → c < 2 ^ 32 in
     let is : (n : ℕ) → n < 2 ^ 32 → eqb c n ≡ true → c < 2 ^ 32 = λ n l e. rw (eqb-true c n e) l in
     pick-case P (eqb c 0x6e) _ _ (λ e _. is 0x6e (omega arith) e)
     (λ _. pick-case P (eqb c 0x6f) _ _ (λ e _. is 0x6f (omega arith) e)
     (λ _. pick-case P (eqb c 0x41) _ _ (λ e _. is 0x41 (omega arith) e)
-    (λ _. pick-case P (eqb c 0x6d) _ _ (λ e _. is 0x6d (omega arith) e) (λ _ e. is 0x4d (omega arith) e))))
+    (λ _. pick-case P (eqb c 0x6d) _ _ (λ e _. is 0x6d (omega arith) e)
+    (λ _. pick-case P (eqb c 0x4d) _ _ (λ e _. is 0x4d (omega arith) e) (λ _ e. clash e)))))
 
 small-pairs : (rs cs : List ℕ) → Small rs → ((j : ℕ) → j < length cs → isCardinality (getD cs j 0) ≡ true) → Small (pairs rs cs)
 unfolding pairs

@@ -16,7 +16,7 @@ use Rattle.descriptor_blocks.specs.Descriptor.{pairs, nodeWords}
 use Rattle.descriptor_nodes.proofs.NodeWords.{pairs-length}
 use Rattle.protocol.specs.Numbers.{pick, upTo}
 use Rattle.protocol.specs.Nodes.{Node, leaf, enum, row, arrays, tuple, object, sparse, range}
-use Rattle.protocol.specs.Plans.{PlanNode, pairRef, pairCard, refsAt, cardsAt, look, referAll, isCardinality, allCardinalities, nodeSize, nodeHeight}
+use Rattle.protocol.specs.Plans.{PlanNode, pairRef, pairCard, refsAt, cardsAt, look, referAll, isCardinality, allCardinalities, nodeSize, nodeHeight, manyHeight}
 
 -- ---- nodes
 
@@ -194,7 +194,7 @@ module _ (pre rest : List ℕ) where
           ∙ refers-same seen n (pairRef (around pre v rest) (length pre)) (λ k. getD rs k 0) (length rs) (pair-ref v n rs cs w (h .same))
 
     pub height-node : (v : Node) → Proper v → Climbs v
-    unfolding Proper nodeWords kindOf refsOf nodeHeight referAll pick
+    unfolding Proper nodeWords kindOf refsOf nodeHeight referAll pick manyHeight
     height-node (leaf f) h = rw (kind-word (leaf f), word-at (leaf f) 1, lt-ltb f 20 h)
     height-node enum h = rw (kind-word enum)
     height-node (row r) h = rw (kind-word (row r), word-at (row r) 1)

@@ -19,7 +19,7 @@ use Rattle.forms.specs.declared.Head.the-variants.{Present, Absent, Fault}
 use Rattle.value_heads.proofs.Cases.{sized-cases, plain-cases, index-cases}
 use Rattle.value_laws.proofs.Parts.{Stands}
 use Rattle.protocol.specs.Numbers.{pick, bytesBe}
-use Rattle.protocol.specs.Heads.{word, setOpening, countOpening, sparseOpening, rangeFlags, bounds, rangeOpening, optional, plainHead, objectHead, envelopeHead, requires, sparseRest, sparseHead, indexOf}
+use Rattle.protocol.specs.Heads.{word, setOpening, countOpening, sparseOpening, rangeFlags, bounds, rangeOpening, optional, plainHead, objectHead, envelopeHead, requires, sparseRest, sparseHead, indexOf, dimension}
 use Rattle.protocol.specs.Constants.{ABSENT}
 use Rattle.protocol.specs.Nodes.{Node, leaf, enum, row, arrays, tuple, object, sparse, range}
 use Rattle.protocol.specs.Values.{Form, rowHead, rowForm, sparseForm, openingOf}
@@ -269,7 +269,7 @@ module _ (s : List ℕ) (b : Bytes s) where
           }
 
       set-opens : Opened v t src base s (setOpening s)
-      unfolding setOpening
+      unfolding setOpening dimension
       set-opens =
           let P = Opened v t src base s in
           pick-case P _ _ _ (λ _. tt)

@@ -21,7 +21,7 @@ use Rattle.forms.specs.declared.Head.the-variants.{Present, Absent}
 use Rattle.value_heads.proofs.Cases.{sparse-known}
 use Rattle.value_parts.specs.Walk.{IsRow}
 use Rattle.protocol.specs.Numbers.{pick, be, beFrom, bytesBe}
-use Rattle.protocol.specs.Heads.{word, negative, setOpening, countOpening, sparseOpening, rangeFlags, bounds, rangeOpening, elementIn, optional, plainHead, objectHead, envelopeHead, sparseIndex, requires, sparseHead}
+use Rattle.protocol.specs.Heads.{word, negative, setOpening, countOpening, sparseOpening, rangeFlags, bounds, rangeOpening, elementIn, optional, plainHead, objectHead, envelopeHead, sparseIndex, requires, sparseHead, dimension}
 use Rattle.protocol.specs.Constants.{ABSENT}
 use Rattle.protocol.specs.Nodes.{Node, leaf, enum, row, arrays, tuple, object, sparse, range, refAt}
 use Rattle.protocol.specs.Values.{rowHead, openingOf}
@@ -250,7 +250,7 @@ module _ (n : ℕ) (more : List ℕ) where
 -- a set's or an array's with elements
 some-back : (s : List ℕ) (n : ℕ) (more : List ℕ) → 0 < n → n < 2 ^ 31 → Tail s 0 (bytesBe 4 1 ++ (zeros 8 ++ (bytesBe 4 n ++ (bytesBe 4 1 ++ more))))
     → setOpening s ≡ Elements n 0 20
-unfolding setOpening negative
+unfolding setOpening negative dimension
 some-back s n more many small w =
     let w1 : Tail s 12 (bytesBe 4 n ++ (bytesBe 4 1 ++ more)) = tail-next (zeros 8) (bytesBe 4 n ++ (bytesBe 4 1 ++ more)) (word-next 1 _ w) in
     let w2 : Tail s 16 (bytesBe 4 1 ++ more) = word-next n (bytesBe 4 1 ++ more) w1 in
@@ -270,7 +270,7 @@ some-back s n more many small w =
     ∙ pick-yes _ _ _ refl)
 
 none-back : (more : List ℕ) → setOpening (zeros 12 ++ more) ≡ Elements 0 0 12
-unfolding setOpening word be beFrom
+unfolding setOpening word be beFrom dimension
 none-back more =
     pick-no _ _ _ (le-ltb (length (zeros 12 ++ more)) 4 (omega arith))
     ∙ pick-no _ _ _ refl

@@ -16,14 +16,14 @@ use Rattle.forms.specs.declared.Head.the-variants.{Present, Absent, Fault}
 use Rattle.forms.specs.declared.Index.{Index}
 use Rattle.forms.specs.declared.Index.the-variants.{Known, Bad}
 use Rattle.protocol.specs.Numbers.{pick}
-use Rattle.protocol.specs.Heads.{word, negative, bounds, setOpening, countOpening, sparseOpening, rangeOpening, elementIn, optional, plainHead, objectHead, envelopeHead, sparseIndex, requires, sparseRest, sparseHead}
+use Rattle.protocol.specs.Heads.{word, negative, bounds, dimension, setOpening, countOpening, sparseOpening, rangeOpening, elementIn, optional, plainHead, objectHead, envelopeHead, sparseIndex, requires, sparseRest, sparseHead}
 
 -- ---- a container's head
 
 module _ (P : Opening → Type 0) (wrong : (m : ℕ) → 0 < m → P (Wrong m)) where
   pub set-cases : (s : List ℕ) → (12 ≤ length s → P (Elements 0 0 12))
       → (20 ≤ length s → 0 < word s 12 → word s 12 < 2 ^ 31 → P (Elements (word s 12) 0 20)) → P (setOpening s)
-  unfolding setOpening negative
+  unfolding setOpening dimension negative
   set-cases s none some =
       pick-case P _ _ _ (λ _. wrong 20 (lit< tt))
       (λ _. pick-case P _ _ _ (λ _. wrong 22 (lit< tt))

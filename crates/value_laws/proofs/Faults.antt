@@ -16,7 +16,7 @@ use Rattle.forms.specs.declared.Head.{Head}
 use Rattle.forms.specs.declared.Head.the-variants.{Present, Absent, Fault}
 use Rattle.forms.specs.declared.Index.{Index}
 use Rattle.value_laws.proofs.HeadSizes.{Spaced, row-spaced, sparse-spaced}
-use Rattle.protocol.specs.Heads.{word, bounds, setOpening, countOpening, sparseOpening, rangeOpening, elementIn, optional, plainHead, objectHead, envelopeHead, sparseIndex, requires, sparseRest, sparseHead}
+use Rattle.protocol.specs.Heads.{word, bounds, setOpening, countOpening, sparseOpening, rangeOpening, elementIn, optional, plainHead, objectHead, envelopeHead, sparseIndex, requires, sparseRest, sparseHead, dimension}
 use Rattle.protocol.specs.Nodes.{Node, leaf, enum, row, arrays, tuple, object, sparse, range, refAt}
 use Rattle.protocol.specs.Lists.{Entry}
 use Rattle.protocol.specs.Values.{ValueOutcome, then, under, Rule, absent, present, elementOutcome, Form, containerEnd, elements, rowHead, rowForm, sparseForm, noMarks, openingOf, leafRule, rowRule, sparseRule, byNode, value}
@@ -95,7 +95,7 @@ module _ (P : ℕ → ℕ → Type 0) (s : List ℕ) where
   O = Opens P
 
   set-opens : ((n first : ℕ) → P n first) → O (setOpening s)
-  unfolding setOpening
+  unfolding setOpening dimension
   set-opens x =
       pick-case O _ _ _ (λ _. (lit≤ tt, lit≤ tt))
       (λ _. pick-case O _ _ _ (λ _. (lit≤ tt, lit≤ tt))

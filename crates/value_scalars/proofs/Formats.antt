@@ -1,17 +1,16 @@
 -- The laws of a scalar's rule by its format: the fixed sizes by one law over the size, and the formats that are not there. Assumes nothing.
-use mathlib.Core.Path.{_≡_, refl, ap, sym, _∙_}
+use mathlib.Core.Path.{_≡_, refl, sym, _∙_}
 use mathlib.Core.Bool.{Bool, true, false}
-use mathlib.Core.List.{List, map}
+use mathlib.Core.List.{List}
 use Prim.Native.Nat.{ℕ, _≤_, _<_}
 use native.Mathlib.Omega.{arith}
 use native.Mathlib.Decide.{decLt}
 use lib.Dec.{eqb, leb, ltb}
-use lib.ListN.{length, getD, List·getD-map, List·getD-eq-default}
+use lib.ListN.{length, List·getD-eq-default}
 use types.Run.{OneOf}
 use borrow.Author.Tests.{eq-eqb, eqb-true, leb-true, ltb-true}
 use Rattle.wire.proofs.Picks.{clash}
 use Rattle.wire.proofs.Tables.{each, each-below}
-use Rattle.value_scalars.specs.Scalars.{rules}
 use Rattle.value_scalars.specs.Sizes.{sizeOf, fixedSize, Fixed}
 use Rattle.value_scalars.proofs.Matches.{every, in-arm, NoneOf, anyHas, in-rest}
 use Rattle.protocol.specs.Numbers.{pick}
@@ -19,15 +18,9 @@ use Rattle.protocol.specs.Scalars.{ofSize, scalar, FormatRule, fixed, ruled, ru
 
 -- ---- the rule of a format
 
-rules-are : rules ≡ map ruleOf formats
-unfolding rules formats ruleOf
-rules-are = refl
-
 pub scalar-kind : (f : ℕ) (v : List ℕ) → scalar f v ≡ ruleOf (formatRule f) v
-unfolding scalar formatRule ruleOf
-scalar-kind f v =
-    ap (λ (rs : List (List ℕ → Bool)). getD rs f (λ v. false) v) rules-are
-    ∙ ap (λ (r : List ℕ → Bool). r v) (List·getD-map ruleOf formats f (ruled (λ v. false)))
+unfolding scalar
+scalar-kind f v = refl
 
 pub scalar-at : (k f : ℕ) (v : List ℕ) (r : Bool) → f ≡ k → r ≡ scalar k v → r ≡ scalar f v
 scalar-at k f v r e p = rw e p

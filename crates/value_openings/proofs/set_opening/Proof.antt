@@ -7,24 +7,24 @@ use Rattle.protocol.specs.Numbers.{pick}
 use Rattle.protocol.specs.Heads.{setOpening, word, dimension}
 
 returns : tie.Need-returns
-unfolding setOpening word pick
+unfolding setOpening word pick dimension
 returns c = simp (lt-ltb _ _ (c .if1 .taken))
 
 u32-at-requires : tie.Need-u32-at-requires
 u32-at-requires c κs = search needs
 
 returns-2 : tie.Need-returns-2
-unfolding setOpening word pick
+unfolding setOpening word pick dimension
 returns-2 c =
     simp (le-ltb _ _ (c .before .before .if1 .left), ← c .before .u32-at .ensures, lt-ltb _ _ (c .if2 .taken))
 
 returns-3 : tie.Need-returns-3
-unfolding setOpening word pick
+unfolding setOpening word pick dimension
 returns-3 c =
     simp (le-ltb _ _ (c .before .before .before .if1 .left), ← c .before .before .u32-at .ensures, le-ltb _ _ (c .before .if2 .left), lt-ltb _ _ (c .if3 .taken))
 
 returns-4 : tie.Need-returns-4
-unfolding setOpening word pick
+unfolding setOpening word pick dimension
 returns-4 c =
     simp (le-ltb _ _ (c .before .before .before .before .if1 .left), ← c .before .before .before .u32-at .ensures, le-ltb _ _ (c .before .before .if2 .left), le-ltb _ _ (c .before .if3 .left), eq-eqb _ _ (c .if4 .taken))
 

@@ -1,13 +1,12 @@
 use mathlib.Core.Path.{refl}
 use mathlib.Core.List.{[], _∷_}
-use Rattle.value_scalars.specs.Scalars.{rules}
 use Rattle.value_scalars.specs.Sizes.{fixedSize, sizeOf}
 use Rattle.value_scalars.proofs.Formats.{scalar-at, scalar-none}
 use borrow.Author.Needs.{needs}
 use Rattle.value_scalars.proofs.ruled_ok.Statement.{statement}
 use Rattle.value_scalars.proofs.ruled_ok.Tie as tie
 use Rattle.protocol.specs.Numbers.{pick}
-use Rattle.protocol.specs.Scalars.{scalar, formatRule, formats}
+use Rattle.protocol.specs.Scalars.{scalar, formatRule, formats, ruleOf}
 
 is-utf8-requires : tie.Need-is-utf8-requires
 is-utf8-requires c κs = search needs
@@ -25,27 +24,27 @@ bigint-ok-requires : tie.Need-bigint-ok-requires
 bigint-ok-requires c κs = search needs
 
 returns : tie.Need-returns
-unfolding scalar rules
+unfolding scalar formatRule formats ruleOf
 returns c = scalar-at 1 _ _ _ (c .before .match .keys1) (c .is-utf8 .ensures)
 
 returns-2 : tie.Need-returns-2
-unfolding scalar rules
+unfolding scalar formatRule formats ruleOf
 returns-2 c = scalar-at 2 _ _ _ (c .match .keys2) refl
 
 returns-3 : tie.Need-returns-3
-unfolding scalar rules
+unfolding scalar formatRule formats ruleOf
 returns-3 c = scalar-at 8 _ _ _ (c .before .match .keys3) (c .decimal-ok .ensures)
 
 returns-4 : tie.Need-returns-4
-unfolding scalar rules
+unfolding scalar formatRule formats ruleOf
 returns-4 c = scalar-at 14 _ _ _ (c .before .match .keys4) (c .duration-ok .ensures)
 
 returns-5 : tie.Need-returns-5
-unfolding scalar rules
+unfolding scalar formatRule formats ruleOf
 returns-5 c = scalar-at 15 _ _ _ (c .before .match .keys5) (c .json-ok .ensures)
 
 returns-6 : tie.Need-returns-6
-unfolding scalar rules
+unfolding scalar formatRule formats ruleOf
 returns-6 c = scalar-at 16 _ _ _ (c .before .match .keys6) (c .bigint-ok .ensures)
 
 returns-7 : tie.Need-returns-7

@@ -1,10 +1,9 @@
 use mathlib.Core.Path.{sym}
-use Rattle.value_scalars.specs.Scalars.{rules}
 use Rattle.value_scalars.proofs.Formats.{scalar-at, no-size}
 use borrow.Author.Needs.{needs}
 use Rattle.value_scalars.proofs.scalar_ok.Statement.{statement}
 use Rattle.value_scalars.proofs.scalar_ok.Tie as tie
-use Rattle.protocol.specs.Scalars.{ofSize, scalar}
+use Rattle.protocol.specs.Scalars.{ofSize, scalar, formatRule, formats, ruleOf}
 
 fixed-size-requires : tie.Need-fixed-size-requires
 fixed-size-requires c κs = search needs
@@ -17,7 +16,7 @@ bool-ok-requires : tie.Need-bool-ok-requires
 bool-ok-requires c κs = search needs
 
 returns-2 : tie.Need-returns-2
-unfolding scalar rules
+unfolding scalar formatRule formats ruleOf
 returns-2 c = scalar-at 9 _ _ _ (c .before .if2 .taken) (c .bool-ok .ensures)
 
 ruled-ok-requires : tie.Need-ruled-ok-requires

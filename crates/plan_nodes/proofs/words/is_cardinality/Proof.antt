@@ -4,35 +4,35 @@ use borrow.Author.Tests.{ne-eqb}
 use Rattle.wire.proofs.Picks.{pick-no}
 use Rattle.plan_nodes.proofs.words.is_cardinality.Statement.{statement}
 use Rattle.plan_nodes.proofs.words.is_cardinality.Tie as tie
-use Rattle.protocol.specs.Numbers.{pick}
+use Rattle.protocol.specs.Numbers.{pick, oneOf}
 use Rattle.protocol.specs.Plans.{isCardinality}
 
 returns : tie.Need-returns
-unfolding isCardinality pick
+unfolding isCardinality pick oneOf
 returns c = sym (ap isCardinality (c .match .keys1))
 
 returns-2 : tie.Need-returns-2
-unfolding isCardinality pick
+unfolding isCardinality pick oneOf
 returns-2 c = sym (ap isCardinality (c .match .keys2))
 
 returns-3 : tie.Need-returns-3
-unfolding isCardinality pick
+unfolding isCardinality pick oneOf
 returns-3 c = sym (ap isCardinality (c .match .keys3))
 
 returns-4 : tie.Need-returns-4
-unfolding isCardinality pick
+unfolding isCardinality pick oneOf
 returns-4 c = sym (ap isCardinality (c .match .keys4))
 
 returns-5 : tie.Need-returns-5
-unfolding isCardinality pick
+unfolding isCardinality pick oneOf
 returns-5 c = sym (ap isCardinality (c .match .keys5))
 
 returns-6 : tie.Need-returns-6
-unfolding isCardinality
+unfolding isCardinality oneOf
 returns-6 c =
     sym (pick-no _ _ _ (ne-eqb _ _ (c .match .rest .0 .0 .0 .0 .1)) ∙ pick-no _ _ _
     (ne-eqb _ _ (c .match .rest .0 .0 .0 .1)) ∙ pick-no _ _ _ (ne-eqb _ _ (c .match .rest .0 .0 .1)) ∙ pick-no _ _ _
-    (ne-eqb _ _ (c .match .rest .0 .1)) ∙ ne-eqb _ _ (c .match .rest .1))
+    (ne-eqb _ _ (c .match .rest .0 .1)) ∙ pick-no _ _ _ (ne-eqb _ _ (c .match .rest .1)))
 
 pub is-cardinality-spec : {M : Type 1} → statement M
 is-cardinality-spec =
