@@ -13,14 +13,13 @@ use lib.Ieee.Bits.{ofBits-fits, toBits-ofBits, nanBits-is, nanBits-above}
 use borrow.Author.Tests.{le-ltb, lt-ltb, eqb-true, ltb-true, ne-eqb}
 use Rattle.plan_nodes.proofs.Looks.{look-leaf}
 use Rattle.wire.proofs.Picks.{clash, pick-yes, pick-no, pick-case, pick-split, both}
-use Rattle.value_scalars.specs.Scalars.{rules}
 use Rattle.find_number.specs.Number.{Width, shown, Plain, Proper, Gives}
 use Rattle.find_number.specs.declared.Number.{Number}
 use Rattle.find_number.specs.declared.Number.the-variants.{Refused, Integer, Truth, Single, Double}
 use Rattle.protocol.specs.Numbers.{pick, be, beFrom}
 use Rattle.protocol.specs.Nodes.{Node}
 use Rattle.protocol.specs.Plans.{look}
-use Rattle.protocol.specs.Scalars.{ofSize, boolean, scalar}
+use Rattle.protocol.specs.Scalars.{ofSize, boolean, scalar, formatRule, formats, ruleOf}
 use Rattle.protocol.specs.Finding.{Numbered, unnumbered, numbered, integral, plainBits, extended, ofFormat, ofNode}
 
 -- ---- floats, of either format
@@ -79,7 +78,7 @@ size-is n b e = eqb-true (length b) n e
 
 module _ (f : ℕ) (b : List ℕ) (good : scalar f b ≡ true) where
   pub integer-width : integral f ≡ true → Width (length b)
-  unfolding integral Width scalar rules
+  unfolding integral Width scalar formatRule formats ruleOf
   integer-width i =
       ⊎-elim
       (λ (x : (eqb f 3 ≡ true) × (true ≡ true)). inl (size-is 2 b (rw (eqb-true f 3 (x .0)) at good)))
@@ -95,15 +94,15 @@ module _ (f : ℕ) (b : List ℕ) (good : scalar f b ≡ true) where
       (pick-split (eqb f 3) true (pick (eqb f 4) true (pick (eqb f 5) true (eqb f 19))) true i)
 
   pub single-size : f ≡ 6 → length b ≡ 4
-  unfolding scalar rules
+  unfolding scalar formatRule formats ruleOf
   single-size e = size-is 4 b (rw e at good)
 
   pub double-size : f ≡ 7 → length b ≡ 8
-  unfolding scalar rules
+  unfolding scalar formatRule formats ruleOf
   double-size e = size-is 8 b (rw e at good)
 
   truth : f ≡ 9 → (ofSize 1 b ≡ true) × (ltb (be b) 2 ≡ true)
-  unfolding scalar rules boolean
+  unfolding scalar formatRule formats ruleOf boolean
   truth e = both (ofSize 1 b) (ltb (be b) 2) (rw e at good)
 
   pub truth-size : f ≡ 9 → length b ≡ 1
