@@ -55,10 +55,10 @@ use Rattle.value_walk.proofs.walk_leaf.Reads as walk-leaf-reads
 use Rattle.value_walk.proofs.+walk_container+walk_member+walk_row+walk_sparse+walk_value.{
   statement,
 }
-use Rattle.value_walk.proofs.+walk_container+walk_member+walk_row+walk_sparse+walk_value.Tie.{
 use Rattle.protocol.specs.Nodes.{refAt}
 use Rattle.protocol.specs.Values.{elements, rowForm, sparseForm, valueOf}
 use Rattle.protocol.specs.Plans.{look, cardsAt}
+use Rattle.value_walk.proofs.+walk_container+walk_member+walk_row+walk_sparse+walk_value.Tie.{
   close,
 }
 
