@@ -3,7 +3,7 @@ use forms::Answer;
 use c_words::refused;
 ghost use Prim.Native.Nat.{_≤_};
 ghost use lib.ListN.{length};
-ghost use Rattle.c_compile.specs.Compiles.{CompilesPlan};
+ghost use Rattle.protocol.specs.Crossing.{CompilesPlan};
 
 // Compiles with scratch room for the plan; the plan goes out as bytes only when the whole descriptor is accepted.
 fn compile_by(descriptor: &[u8], root: &[u8], scratch: &mut [u32], plan: &mut [u8]) -> Answer

@@ -2,8 +2,7 @@
 use forms::Answer;
 use forms::Number;
 ghost use mathlib.Core.Path.{_≡_};
-ghost use Rattle.c_compile.specs.Compiles.{CompilesPlan};
-ghost use Rattle.protocol.specs.Crossing.{ReadsMessage, WritesMessage, RunsValue, findFrom, findAnswer, numberFrom, numberAnswer, WritesValue};
+ghost use Rattle.protocol.specs.Crossing.{ReadsMessage, WritesMessage, RunsValue, CompilesPlan, findFrom, findAnswer, numberFrom, numberAnswer, WritesValue};
 
 // Reads the message at the start of src; the list's words go out as bytes.
 #[no_mangle]

@@ -16,7 +16,7 @@ use Rattle.c_words.proofs.Words.{room-most, out-settled}
 use Rattle.protocol.specs.Numbers.{pick}
 use Rattle.protocol.specs.Lists.{words}
 use Rattle.protocol.specs.Answers.{refused, accepted}
-use Rattle.protocol.specs.Running.{checked, listRoomed, runOf}
+use Rattle.protocol.specs.Running.{listRoomed, checked, runOf}
 use Rattle.protocol.specs.Crossing.{wordsIn, crosses, wordRoom, refusal, runAnswer, runList, runFrom, SettlesRun}
 
 module _ (p s : List ℕ) (a : Run.Answer) (k k′ : List ℕ) (c : Checks (length s) (checked p s) a k k′) (l : List ℕ) where

@@ -177,6 +177,9 @@ pub const TAG_RECORD: u32 = 13;
 
 pub const TAG_ANNOTATION: u32 = 127;
 
+// the bound of an array that has none, -1 (R3.6)
+pub const UNBOUNDED: u32 = 0xffffffff;
+
 // ---- Formats of scalars (R3.15)
 
 pub const FORMAT_UUID: u32 = 0;

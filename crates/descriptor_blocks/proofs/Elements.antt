@@ -19,7 +19,7 @@ use Rattle.descriptor_fields.specs.declared.Draft.{Draft}
 use Rattle.descriptor_blocks.proofs.Tags.{elementKind, suited, suited-valued, carded, orderly, elementsIn, total, all-orderly}
 use Rattle.descriptor_blocks.proofs.Readings.{no-fault, fault-no, between, Step, fields-keep, items-keep}
 use Rattle.protocol.specs.Numbers.{pick, atLeast}
-use Rattle.protocol.specs.Plans.{isCardinality}
+use Rattle.protocol.specs.Messages.{isCardinality}
 
 abbrev pub noElement : Element
 noElement = record { name = 0; ref = 0; card = 0 }

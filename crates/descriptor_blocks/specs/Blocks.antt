@@ -1,4 +1,5 @@
--- A block of a descriptor, read field by field (document 01, 'Descriptors'). Assumes nothing: these are definitions.
+-- Nobody has to believe these definitions: they are what the code says to itself of reading a block field by field; that they give what
+-- protocol's give is proved (descriptor_agree). Assumes nothing.
 use Prim.Native.Nat.{ℕ, zero, suc, _+_}
 use mathlib.Core.List.{List, [], _∷_, _++_}
 use lib.Dec.{leb, eqb}
@@ -32,7 +33,7 @@ counting n x =
     record { at = x .at; left = n; free = x .free; format = x .format; height = x .height; card = x .card; name = x .name; count = x .count }
 
 module _ (d : List ℕ) (known : List Known) (tag : ℕ) where
-  -- 10 "descriptor ends inside a field"; then the field's rule
+  -- 10 for a field that is not whole (R3.5); then its rule
   unfoldable pub field : ℕ → Draft → List Element → Reading
   field c x es =
       pick (leb (x .at + extent d c (x .at)) (length d))

@@ -1,5 +1,5 @@
--- A whole descriptor: its blocks, its root, its plan (document 01, 'Descriptors' and 'Plan, list, finding'). Assumes nothing: these are
--- definitions.
+-- Nobody has to believe these definitions: they are what the code says to itself of a whole descriptor, its blocks, its root and its plan;
+-- that they give what protocol's give is proved (descriptor_agree). Assumes nothing.
 use Prim.Native.Nat.{ℕ, zero, suc, _+_}
 use mathlib.Core.Bool.{Bool, false}
 use mathlib.Core.List.{List, [], _∷_, _++_, map}
@@ -25,8 +25,7 @@ unfoldable pub onlyRef : List Element → ℕ
 onlyRef [] = 0
 onlyRef (e ∷ es) = e .ref
 
--- "Kind (input shape: sparse; set of an array block: set of arrays), count, format and cardinalities are that block's own." A reference is
--- the index of a block.
+-- the node of a block, with block indexes as references (R4.8)
 unfoldable pub nodeOf : List Known → ℕ → ℕ → List Element → Node
 nodeOf known tag format es =
     pick (eqb tag 0) (pick (eqb (getD known (onlyRef es) noBlock .tag) 6) (arrays (onlyRef es)) (row (onlyRef es)))
@@ -36,14 +35,13 @@ nodeOf known tag format es =
     (pick (eqb tag 7) enum
     (pick (eqb tag 8) (sparse (refs es) (cards es)) (pick (eqb tag 9) (range (onlyRef es)) (tuple (refs es))))))))
 
--- "then pairs ref, cardinality"
+-- references and cardinalities in turn
 unfoldable pub pairs : List ℕ → List ℕ → List ℕ
 pairs [] cs = []
 pairs (r ∷ rs) [] = []
 pairs (r ∷ rs) (c ∷ cs) = r ∷ c ∷ pairs rs cs
 
--- "Leaf 1,f. Set or array 2,r. Set of arrays 3,r. Tuple 4,n,refs. Output object 5,n and input 6,n, then pairs ref, cardinality. Range 7,r.
--- Enumeration 8, a leaf too."
+-- a node as words (R4.2)
 unfoldable pub nodeWords : Node → List ℕ
 nodeWords (leaf f) = 1 ∷ f ∷ []
 nodeWords enum = 8 ∷ []
@@ -58,7 +56,7 @@ nodeWords (range r) = 7 ∷ r ∷ []
 unfoldable pub nodeAt : List Known → ℕ → ℕ
 nodeAt known r = getD known r noBlock .node
 
--- "a node for each block with values": its words
+-- the words of a block's node, if it has values
 unfoldable pub wordsOf : List Known → ℕ → ℕ → List Element → List ℕ
 wordsOf known tag format es = pick (valued tag) (nodeWords (rename (nodeAt known) (nodeOf known tag format es))) []
 
@@ -84,12 +82,12 @@ summary b = record { start = b .start; tag = b .tag; height = b .height; node = 
 abbrev pub summaries : List Block → List Known
 summaries bs = map summary bs
 
--- the words of all nodes, "in block order"
+-- the words of all nodes, in the order of the blocks
 unfoldable pub allWords : List Block → List ℕ
 allWords [] = []
 allWords (b ∷ bs) = b .words ++ allWords bs
 
--- "Its node word in the list is 2 plus the number of words in all earlier blocks' nodes."
+-- a block, after those before it
 unfoldable pub blockOf : List Block → ℕ → ℕ → Draft → List Element → List Item → Block
 blockOf bs start tag x es is =
     record {
@@ -113,7 +111,7 @@ pub data Blocks : Type 0 where
 unfoldable pub extended : List Block → ℕ → ℕ → Draft → List Element → List Item → List Block
 extended bs start tag x es is = pick (indexed tag) (bs ++ (blockOf bs start tag x es is ∷ [])) bs
 
--- "1,024 indexed blocks": one more would be one too many
+-- one block more would be one too many (R3.14)
 unfoldable pub full : List Block → ℕ → Bool
 full bs tag = pick (indexed tag) (leb 1024 (length bs)) false
 
@@ -123,7 +121,7 @@ onward at (stop n) f = faulty n at
 onward at (next x es is) f = f x es is
 
 module _ (d : List ℕ) where
-  -- The blocks from a place on. 11 "unknown tag"; "the block count's [17 comes] with the tag, after 11".
+  -- the blocks from a place on: an unknown tag is 11 (R3.2), and then one block too many 17 (R3.14)
   unfoldable pub blocksFrom : ℕ → ℕ → List Block → Blocks
   blocksFrom zero at bs = faulty 10 at
   blocksFrom (suc f) at bs =
@@ -139,7 +137,7 @@ module _ (d : List ℕ) where
 
 -- ---- the root, and the descriptor
 
--- an accepted descriptor: "no type", or blocks and the index of the root; else number and place
+-- an accepted descriptor: no type, or blocks and the index of the root; else number and place
 pub data Description : Type 0 where
   refusedBy : ℕ → ℕ → Description
   noType : Description
@@ -156,13 +154,12 @@ tagAt [] k = 10
 tagAt (b ∷ bs) zero = b .tag
 tagAt (b ∷ bs) (suc k) = tagAt bs k
 
--- 18 "root missing or without values", at the "descriptor's length"
+-- 18 for a root that is missing or without values (R3.17)
 unfoldable pub rooted : List ℕ → ℕ → Blocks → Description
 rooted d i (faulty n p) = refusedBy n p
 rooted d i (whole bs) = pick (valued (tagAt bs (indexOf d bs i))) (described bs (indexOf d bs i)) (refusedBy 18 (length d))
 
--- "Total size and then the root id's length and zero rules precede a descriptor's blocks". "Id zero with no bytes is accepted as 'no type';
--- with bytes, or no bytes and another id, or an id not of 16 bytes: 18."
+-- first the size, then the root's id, then the blocks (R3.14, R3.17)
 unfoldable pub descriptionOf : List ℕ → List ℕ → Description
 descriptionOf d root =
     pick (ltb 65535 (length d)) (refusedBy 17 0)
@@ -172,7 +169,7 @@ descriptionOf d root =
 
 -- ---- the plan
 
--- "Plan words: total, root position, then a node for each block with values, in block order."
+-- the words of a plan (R4.1, R4.7)
 unfoldable pub planWords : List Block → ℕ → List ℕ
 planWords bs root = (2 + length (allWords bs)) ∷ nodeAt (summaries bs) root ∷ allWords bs
 
@@ -181,13 +178,13 @@ pub data Compiled : Type 0 where
   refusedPlan : ℕ → ℕ → Compiled
   plan : List ℕ → Compiled
 
--- "'No type' is the whole plan 2,0"
+-- the plan of no type (R4.6)
 unfoldable pub planOf : Description → Compiled
 planOf (refusedBy n p) = refusedPlan n p
 planOf noType = plan (2 ∷ 0 ∷ [])
 planOf (described bs root) = plan (planWords bs root)
 
--- 30 "plan room too small", last of all
+-- 30 for a plan that has no room, last of all (R4.9)
 unfoldable pub roomed : ℕ → Compiled → Compiled
 roomed room (refusedPlan n p) = refusedPlan n p
 roomed room (plan ws) = pick (ltb room (length ws)) (refusedPlan 30 0) (plan ws)

@@ -12,18 +12,23 @@ use lib.ListN.{length, drop, set, length-map}
 use lib.Seq.{sets, sets-eq, set-comm}
 use borrow.Author.Tests.{lt-ltb, le-ltb, ltb-false, eq-eqb, ne-eqb}
 use Rattle.wire.proofs.Picks.{pick-yes, pick-no, pick-split}
+use Rattle.protocol.specs.Descriptors.{bareForm, DescribedType, describe}
 use Rattle.descriptor_fields.specs.Layouts.{valued}
 use Rattle.descriptor_fields.specs.Fields.{Known, idAt, indexIn}
 use Rattle.descriptor_blocks.specs.Descriptor.{nodeAt, Block, summary, summaries, allWords, Blocks, faulty, whole, blocksOf, indexOf, tagAt, refusedBy, noType, described, rooted, descriptionOf, planWords, Compiled, refusedPlan, plan, planOf, roomed, compileOf}
 use Rattle.descriptor_fields.specs.Arrays.{knownOf}
 use Rattle.descriptor_scan.specs.Scan.{Kept, Scans}
-use Rattle.descriptor_compile.specs.Compile.{answerOf, planAfter, Gives, Stored, Checks, refusalOf, hasNode}
+use Rattle.descriptor_compile.specs.Compile.{answerOf, Gives}
+use Rattle.descriptor_compile.specs.Checking.{checkedAnswer, Stored, Checks, refusalOf, hasNode}
 use Rattle.descriptor_compile.specs.declared.Answer.{Answer}
 use Rattle.descriptor_compile.specs.declared.Answer.the-variants.{Refused, Words}
 use Rattle.descriptor_scan.specs.declared.Scan.{Scan}
 use Rattle.descriptor_scan.specs.declared.Scan.the-variants.{Refused as Stopped, Done}
+use Rattle.descriptor_agree.proofs.Whole.{refused-by, planned-by}
 use Rattle.descriptor_nodes.proofs.Roots.{index-same, tag-same, tag-out}
 use Rattle.protocol.specs.Numbers.{pick}
+use Rattle.protocol.specs.Answers.{Outcome, refused, accepted}
+use Rattle.protocol.specs.Compiling.{wholePlan, planRoomed, compileBy, planAfter}
 
 -- ---- two words put in front last
 
@@ -38,7 +43,7 @@ front l ws a b = sym (set-first ws (set l 0 a) 1 2 b (omega arith) ∙ ap (λ (m
 -- ---- refusals
 
 refuses : (o : Compiled) (n p : ℕ) (l l′ : List ℕ) → o ≡ refusedPlan n p → Checks o (Refused n p) l l′
-unfolding answerOf Stored
+unfolding checkedAnswer Stored
 refuses o n p l l′ e = rw e (record { answer = refl; words = tt })
 
 -- ---- the blocks
@@ -103,7 +108,7 @@ module _ (d : List ℕ) (i : ℕ) (s : Scan) (known l l′ : List ℕ) (g : Scan
 
       pub blocks-planned : hasNode (knownOf d known n) k ≡ true → (v : ℕ) → v ≡ nodeAt (knownOf d known n) k → (p : List ℕ) → p ≡ sets l′ 0 (to ∷ v ∷ [])
           → Checks (planOf (rooted d i (blocksOf d))) (Words to) l p
-      unfolding planOf planWords answerOf Stored
+      unfolding planOf planWords checkedAnswer Stored
       blocks-planned h v q p f =
           let o : planOf (rooted d i (blocksOf d)) ≡ plan (planWords bs k) = ap planOf (rooted-is ∙ pick-yes _ _ _ h) in
           rw o
@@ -142,7 +147,7 @@ module _ (d root l l′ : List ℕ) where
         check-zero n = refuses _ 18 (length d) l l′ (ap planOf (pick-no _ _ _ small ∙ pick-yes _ _ _ (eq-eqb _ _ e) ∙ pick-yes _ _ _ z ∙ pick-no _ _ _ (ne-eqb _ _ n)))
 
         pub check-none : length d ≡ 0 → l′ ≡ sets l 0 (2 ∷ 0 ∷ []) → Checks (planOf (descriptionOf d root)) (Words 2) l l′
-        unfolding descriptionOf planOf answerOf Stored
+        unfolding descriptionOf planOf checkedAnswer Stored
         check-none n w =
             let o : descriptionOf d root ≡ noType = pick-no _ _ _ small ∙ pick-yes _ _ _ (eq-eqb _ _ e) ∙ pick-yes _ _ _ z ∙ pick-yes _ _ _ (eq-eqb _ _ n) in
             rw o (record { answer = refl; words = w })
@@ -156,13 +161,13 @@ pub record Found (o : Compiled) (w : ℕ) (l l′ : List ℕ) : Type 0 where
   pub count : w ≡ length words
   pub stored : l′ ≡ sets l 0 words
 
-found-in : (o : Compiled) (w : ℕ) (l l′ : List ℕ) → Words w ≡ answerOf o → Stored o l l′ → Found o w l l′
-unfolding answerOf Stored
+found-in : (o : Compiled) (w : ℕ) (l l′ : List ℕ) → Words w ≡ checkedAnswer o → Stored o l l′ → Found o w l l′
+unfolding checkedAnswer Stored
 found-in (refusedPlan n p) w l l′ e s = let z : _≡_ {A = ℕ} 0 1 = cc in absurd (omega arith)
 found-in (plan ws) w l l′ e s = record { words = ws; is = refl; count = cc; stored = s }
 
-pub refused-in : (o : Compiled) (n p : ℕ) → Refused n p ≡ answerOf o → o ≡ refusedPlan n p
-unfolding answerOf
+refused-in : (o : Compiled) (n p : ℕ) → Refused n p ≡ checkedAnswer o → o ≡ refusedPlan n p
+unfolding checkedAnswer
 refused-in (refusedPlan m q) n p e = cc
 refused-in (plan ws) n p e = let z : _≡_ {A = ℕ} 0 1 = cc in absurd (omega arith)
 
@@ -176,42 +181,50 @@ module _ (o : Compiled) (a : Answer) (l l′ : List ℕ) (c : Checks o a l l′)
 -- ---- the call
 
 module _ (d root : List ℕ) (a : Answer) (k k′ : List ℕ) (c : Checks (planOf (descriptionOf d root)) a k k′) (l : List ℕ) where
-  pub gives-refused : (n q : ℕ) → a ≡ Refused n q → Gives (compileOf d root (length l)) a l l
+  pub gives-refused : (n q : ℕ) → a ≡ Refused n q → Gives (compileBy bareForm d root (length l)) a l l
   unfolding compileOf roomed answerOf planAfter
-  gives-refused n q e = let o = turned-down _ a k k′ c n q e in record { answer = e ∙ rw o; plan = rw o }
+  gives-refused n q e =
+      let o = turned-down _ a k k′ c n q e in
+      rw (refused-by d root (length l) n q (rw o)) (record { answer = e; plan = refl })
 
   module _ (w : ℕ) (e : a ≡ Words w) where
     f : Found (planOf (descriptionOf d root)) w k k′
     f = found _ a k k′ c w e
 
-    pub gives-full : length l < w → Gives (compileOf d root (length l)) (Refused 30 0) l l
+    pub gives-full : length l < w → Gives (compileBy bareForm d root (length l)) (Refused 30 0) l l
     unfolding compileOf roomed answerOf planAfter pick
     gives-full h =
         let h′ : length l < length (f .words) = omega (arith, f .count) in
-        rw (f .is, lt-ltb _ _ h′) (record { answer = refl; plan = refl })
+        rw (refused-by d root (length l) 30 0 (rw (f .is, lt-ltb _ _ h′))) (record { answer = refl; plan = refl })
 
-    pub gives-planned : w ≤ length l → (a′ : Answer) (l′ : List ℕ) → Checks (planOf (descriptionOf d root)) a′ l l′ → Gives (compileOf d root (length l)) (Words w) l l′
+    pub gives-planned : w ≤ length l → (a′ : Answer) (l′ : List ℕ) → Checks (planOf (descriptionOf d root)) a′ l l′ → Gives (compileBy bareForm d root (length l)) (Words w) l l′
     unfolding compileOf roomed answerOf planAfter Stored pick
     gives-planned h a′ l′ b =
         let h′ : length (f .words) ≤ length l = omega (arith, f .count) in
         let g = rw (f .is) at (b .words) in
-        rw (f .is, le-ltb _ _ h′)
+        rw (planned-by d root (length l) (f .words) (rw (f .is, le-ltb _ _ h′)))
         (record {
           answer = ap Words (f .count);
           plan = g ∙ sets-eq (f .words) l 0 (omega arith) ∙ ap (λ (n : ℕ). f .words ++ drop n l) (zero-add (length (f .words)));
         })
 
+-- what an answer says of the outcome
+pub refused-of : (o : Outcome (List ℕ)) (n p : ℕ) → Refused n p ≡ answerOf o → o ≡ refused n p
+unfolding answerOf
+refused-of (refused m q) n p e = let a : m ≡ n = cc in let b : q ≡ p = cc in rw (a, b)
+refused-of (accepted ws) n p e = let z : _≡_ {A = ℕ} 0 1 = cc in absurd (omega arith)
+
 -- ---- its room
 
 -- a plan that is given fits its room
-pub planned-room : (d root : List ℕ) (room : ℕ) (ws : List ℕ) → compileOf d root room ≡ plan ws → length ws ≤ room
-unfolding compileOf roomed
-planned-room d root room ws = go (planOf (descriptionOf d root))
+pub planned-room : (d root : List ℕ) (room : ℕ) (ws : List ℕ) → compileBy bareForm d root room ≡ accepted ws → length ws ≤ room
+unfolding compileBy planRoomed
+planned-room d root room ws = go (describe bareForm d root)
   where
-    go : (o : Compiled) → roomed room o ≡ plan ws → length ws ≤ room
-    go (refusedPlan n p) e = let z : _≡_ {A = ℕ} 0 1 = cc in absurd (omega arith)
-    go (plan vs) e =
+    go : (o : Outcome DescribedType) → planRoomed room o ≡ accepted ws → length ws ≤ room
+    go (refused n p) e = let z : _≡_ {A = ℕ} 0 1 = cc in absurd (omega arith)
+    go (accepted t) e =
         ⊎-elim
-        (λ (q : (ltb room (length vs) ≡ true) × (refusedPlan 30 0 ≡ plan ws)). let f = q .1 in let z : _≡_ {A = ℕ} 0 1 = cc in absurd (omega arith))
-        (λ (q : (ltb room (length vs) ≡ false) × (plan vs ≡ plan ws)). let f = q .1 in let v : vs ≡ ws = cc in let h = ltb-false room (length vs) (q .0) in rw v at h)
-        (pick-split (ltb room (length vs)) (refusedPlan 30 0) (plan vs) (plan ws) e)
+        (λ (q : (ltb room (length (wholePlan t)) ≡ true) × (refused 30 0 ≡ accepted ws)). let f = q .1 in let z : _≡_ {A = ℕ} 0 1 = cc in absurd (omega arith))
+        (λ (q : (ltb room (length (wholePlan t)) ≡ false) × (accepted (wholePlan t) ≡ accepted ws)). let f = q .1 in let v : wholePlan t ≡ ws = cc in let h = ltb-false room (length (wholePlan t)) (q .0) in rw v at h)
+        (pick-split (ltb room (length (wholePlan t))) (refused 30 0) (accepted (wholePlan t)) (accepted ws) e)

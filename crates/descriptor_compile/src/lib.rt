@@ -6,9 +6,12 @@ ghost use mathlib.Core.Path.{_≡_};
 ghost use Prim.Native.Nat.{_≤_};
 ghost use lib.ListN.{length};
 ghost use Rattle.descriptor_fields.specs.Fields.{idAt};
-ghost use Rattle.descriptor_blocks.specs.Descriptor.{blocksOf, rooted, descriptionOf, planOf, compileOf};
+ghost use Rattle.protocol.specs.Descriptors.{bareForm};
+ghost use Rattle.descriptor_blocks.specs.Descriptor.{blocksOf, rooted, descriptionOf, planOf};
 ghost use Rattle.descriptor_fields.specs.Arrays.{Told, knownOf};
-ghost use Rattle.descriptor_compile.specs.Compile.{Gives, Checks, refusalOf, hasNode};
+ghost use Rattle.descriptor_compile.specs.Compile.{Gives};
+ghost use Rattle.descriptor_compile.specs.Checking.{Checks, refusalOf, hasNode};
+ghost use Rattle.protocol.specs.Compiling.{compileBy};
 
 // What compiling answers: refused, with number and place; or the words of the plan.
 pub enum Answer {
@@ -90,7 +93,7 @@ pub fn check(d: &[u8], root: &[u8], scratch: &mut [u32]) -> Answer
 
 // Compiles a descriptor's plan: a first pass judges and counts, a second writes.
 pub fn compile(d: &[u8], root: &[u8], plan: &mut [u32]) -> Answer
-    ensures { λ r. ⌜ Gives (compileOf (now (d .entry)) (now (root .entry)) (length (now (plan .entry)))) r (now (plan .entry)) (now (plan .exit)) ⌝ }
+    ensures { λ r. ⌜ Gives (compileBy bareForm (now (d .entry)) (now (root .entry)) (length (now (plan .entry)))) r (now (plan .entry)) (now (plan .exit)) ⌝ }
 {
     let mut none = [0u32; 0];
     let answer = check(d, root, &mut none);

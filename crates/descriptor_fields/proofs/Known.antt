@@ -10,10 +10,10 @@ use lib.Dec.{ltb}
 use lib.ListN.{length, getD, take, drop}
 use borrow.Author.Tests.{lt-ltb, le-ltb}
 use Rattle.wire.proofs.Numbers.{be-none, be-more}
-use Rattle.descriptor_fields.specs.Fields.{Known, Element, noBlock, textAt, sameBytes, named}
+use Rattle.descriptor_fields.specs.Fields.{Known, Element, noBlock, textAt, named}
 use Rattle.descriptor_fields.specs.Arrays.{knownAt, knownOf, elementAt, elementsOf}
 use Rattle.descriptor_fields.proofs.Tabs.{tab-length, tab-get, any-hit, any-none}
-use Rattle.protocol.specs.Numbers.{be}
+use Rattle.protocol.specs.Numbers.{be, sameBytes}
 
 -- what holds below i and of i holds below the next
 pub one-more : (P : ℕ → Type 0) (i : ℕ) → ((j : ℕ) → j < i → P j) → P i → (j : ℕ) → j < i + 1 → P j

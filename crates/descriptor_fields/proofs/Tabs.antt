@@ -9,9 +9,8 @@ use native.Mathlib.Numerals.{add-one}
 use native.Mathlib.Omega.{arith}
 use lib.ListN.{length, getD, length-append, List·getD-append}
 use lib.Seq.{getD-append-seam}
-use Rattle.descriptor_fields.specs.Fields.{any}
 use Rattle.descriptor_fields.specs.Arrays.{tab}
-use Rattle.protocol.specs.Numbers.{pick}
+use Rattle.protocol.specs.Numbers.{pick, any}
 
 module _ {A : Type 0} where
   pub tab-length : (g : ℕ → A) (n : ℕ) → length (tab g n) ≡ n

@@ -1,6 +1,5 @@
--- A field of a block: its size, its rule, and what is kept of it (document 01, 'Descriptors'). "Order: bytes left to right, each field
--- first whole, then its rule." The bytes d end where the block must: today, where the descriptor does. Assumes nothing: these are
--- definitions.
+-- Nobody has to believe these definitions: they are what the code says to itself of one field of a block, its size, its rule and what is
+-- kept of it, by places in the descriptor d; that they give what protocol's give is proved (descriptor_agree). Assumes nothing.
 use Prim.Native.Nat.{ℕ, _+_, _-_}
 use mathlib.Core.Bool.{Bool, true, false}
 use mathlib.Core.List.{List, [], _∷_, _++_}
@@ -8,9 +7,9 @@ use lib.Dec.{leb, ltb, eqb}
 use lib.ListN.{length, take, drop, getD}
 use Rattle.descriptor_fields.specs.Layouts.{ID, NAME, FREE, OPERATION, CARDINALITY, SHAPE-FLAGS, INPUT-FLAGS, BOUND, DIMENSIONS, ANCESTORS, COUNT, ANCESTOR, ANY, OBJECT, ELEMENT, SET-ELEMENT, ARRAY-ELEMENT, valued, objectType}
 use Rattle.descriptor_fields.specs.declared.Draft.{Draft}
-use Rattle.protocol.specs.Numbers.{pick, be, atLeast}
+use Rattle.protocol.specs.Numbers.{pick, be, any, sameBytes, atLeast}
 use Rattle.protocol.specs.Text.{wellFormed}
-use Rattle.protocol.specs.Plans.{isCardinality}
+use Rattle.protocol.specs.Messages.{isCardinality}
 
 -- what the rules ask of an earlier block: where its tag stands, its tag, its height, and the word of the plan at which its node starts
 pub record Known : Type 0 where
@@ -31,13 +30,11 @@ pub record Element : Type 0 where
 unfoldable pub idAt : List ℕ → ℕ → ℕ
 idAt d at = be (take 16 (drop at d))
 
--- "Ids are zero up to the last two bytes: 01 00 uuid, then in order str, bytes, int16, int32, int64, float32, float64, decimal, bool,
--- datetime, local_datetime, local_date, local_time, duration, json, bigint (01 10), relative_duration, date_duration; memory is 01 30.
--- Formats are numbered 0 to 19 in this order." 20 is no format.
+-- the format that an id stands for (R3.15); 20 is none
 unfoldable pub formatOf : ℕ → ℕ
 formatOf i = pick (ltb i 0x100) 20 (pick (ltb i 0x113) (i - 0x100) (pick (eqb i 0x130) 19 20))
 
--- the content of a text: "u32 length, where the field starts, then content"
+-- the content of a text, after its length
 unfoldable pub textAt : List ℕ → ℕ → List ℕ
 textAt d at = take (be (take 4 (drop at d))) (drop (at + 4) d)
 
@@ -55,12 +52,7 @@ extent d c at =
 
 -- ---- the rules; 0 is no fault
 
--- one of a list passes a test
-unfoldable pub any : {A : Type 0} → (A → Bool) → List A → Bool
-any f [] = false
-any f (x ∷ xs) = pick (f x) true (any f xs)
-
--- 15 "block id zero, or equal to an earlier one"
+-- an earlier block has the id (R3.7)
 unfoldable pub taken : List ℕ → List Known → ℕ → Bool
 taken d known i = any (λ k. eqb (idAt d (k .start + 1)) i) known
 
@@ -72,22 +64,14 @@ indexIn d (k ∷ ks) i = pick (eqb (idAt d (k .start + 1)) i) 0 (indexIn d ks i 
 unfoldable pub idFault : List ℕ → List Known → ℕ → ℕ
 idFault d known i = pick (eqb i 0) 15 (pick (taken d known i) 15 0)
 
--- two runs of bytes are the same
-unfoldable pub sameBytes : List ℕ → List ℕ → Bool
-sameBytes [] [] = true
-sameBytes [] (y ∷ ys) = false
-sameBytes (x ∷ xs) [] = false
-sameBytes (x ∷ xs) (y ∷ ys) = pick (eqb x y) (sameBytes xs ys) false
-
--- 16 "name twice in an input shape or named tuple"
+-- an element before has the name (R3.8)
 unfoldable pub named : List ℕ → List Element → ℕ → Bool
 named d es at = any (λ e. sameBytes (textAt d (e .name)) (textAt d at)) es
 
 unfoldable pub textFault : List ℕ → List Element → ℕ → ℕ → ℕ
 textFault d es c at = pick (wellFormed (textAt d at)) (pick (eqb c NAME) (pick (named d es at) 16 0) 0) 12
 
--- 12 "field content not permitted": "Bools are 0 or 1." "Array dimensions: exactly one, -1. Shape flags: low three bits only; input flags
--- zero. Operation: 1 or 2."
+-- the contents that a number may have (R3.6)
 unfoldable pub permits : ℕ → ℕ → Bool
 permits c v =
     pick (leb c FREE) (leb v 1)
@@ -100,11 +84,11 @@ permits c v =
 unfoldable pub numberFault : ℕ → ℕ → ℕ
 numberFault c v = pick (permits c v) 0 12
 
--- "A scalar's format comes from its own id, if known, else from its last ancestor": one whose format is yet to come
+-- a scalar whose format is yet to come, from its last ancestor (R3.16)
 unfoldable pub formatless : ℕ → Draft → Bool
 formatless tag x = pick (eqb tag 3) (eqb (x .format) 20) false
 
--- 17 "a descriptor size above is passed": "512 elements, ancestors, components or members in a block". "no ancestor: 12"
+-- more items than a block may have are 17 (R3.9); a scalar that needs an ancestor and has none is 12 (R3.16)
 unfoldable pub countFault : ℕ → ℕ → Draft → ℕ → ℕ
 countFault tag c x v =
     pick (ltb 512 v) 17 (pick (eqb c ANCESTORS) (pick (eqb v 0) (pick (formatless tag x) 12 0) 0) 0)
@@ -113,12 +97,11 @@ countFault tag c x v =
 unfoldable pub decides : ℕ → Draft → Bool
 decides tag x = pick (formatless tag x) (eqb (x .left) 1) false
 
--- the format of "a scalar with a known id"
+-- the format of a scalar by its own id
 unfoldable pub formatBy : List ℕ → Known → ℕ
 formatBy d k = pick (eqb (k .tag) 3) (formatOf (idAt d (k .start + 1))) 20
 
--- "Ancestors and record elements may go to any earlier block." "its last ancestor, which must be a scalar with a known id (.. any other
--- block: 14)". "Set and array elements aren't sets; array elements aren't arrays. Range elements are scalars."
+-- the blocks that a reference may name (R3.11)
 unfoldable pub fits : List ℕ → ℕ → ℕ → Draft → Known → Bool
 fits d tag c x k =
     pick (eqb c ANCESTOR) (pick (decides tag x) (ltb (formatBy d k) 20) true)
@@ -128,14 +111,14 @@ fits d tag c x k =
     (pick (eqb c SET-ELEMENT) (pick (eqb (k .tag) 0) false (valued (k .tag)))
     (pick (eqb c ARRAY-ELEMENT) (pick (eqb (k .tag) 0) false (pick (eqb (k .tag) 6) false (valued (k .tag)))) (eqb (k .tag) 3))))))
 
--- 14 "reference to a block of the wrong kind". "Height's 17 comes with the reference that passes it, after 14"
+-- 14 for a block of the wrong kind (R3.11), and then 17 for one that is too high (R3.13)
 unfoldable pub kindFault : List ℕ → ℕ → ℕ → Draft → Known → ℕ
 kindFault d tag c x k = pick (fits d tag c x k) (pick (leb ELEMENT c) (pick (leb 32 (k .height)) 17 0) 0) 14
 
 abbrev pub noBlock : Known
 noBlock = record { start = 0; tag = 0; height = 0; node = 0 }
 
--- 13 "reference not to an earlier block"; "in a free shape neither type is checked"
+-- 13 where there is no such block (R3.10); object types of a free shape are not looked at (R3.12)
 unfoldable pub refFault : List ℕ → List Known → ℕ → ℕ → Draft → ℕ → ℕ
 refFault d known tag c x v =
     pick (pick (eqb c OBJECT) (eqb (x .free) 1) false) 0
@@ -156,7 +139,7 @@ formatAfter d known tag c x =
     pick (eqb c ID) (formatOf (idAt d (x .at)))
     (pick (eqb c ANCESTOR) (pick (decides tag x) (formatBy d (getD known (numberAt d c (x .at)) noBlock)) (x .format)) (x .format))
 
--- "a container one more than its highest element"
+-- the height, after an element's reference (R3.13)
 unfoldable pub heightAfter : List ℕ → List Known → ℕ → Draft → ℕ
 heightAfter d known c x =
     pick (leb ELEMENT c) (atLeast (x .height) (getD known (numberAt d c (x .at)) noBlock .height + 1)) (x .height)

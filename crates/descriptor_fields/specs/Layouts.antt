@@ -1,5 +1,5 @@
--- The fields of a descriptor's blocks, in the order of source document 001. A field's kind is a number with a name; its size and its rule
--- are in Fields. Assumes nothing: these are definitions.
+-- Nobody has to believe these definitions: they are what the code says to itself of the fields of each block. A field's kind is a number
+-- with a name; its size and its rule are in Fields. That they give what protocol's give is proved (descriptor_agree). Assumes nothing.
 use Prim.Native.Nat.{ℕ}
 use mathlib.Core.Bool.{Bool, true, false}
 use mathlib.Core.List.{List, [], _∷_, _++_}
@@ -14,7 +14,7 @@ use Rattle.protocol.specs.Numbers.{pick}
 abbrev pub ID : ℕ
 ID = 1
 
--- "Every string, names and members too, is text as in messages"
+-- text
 abbrev pub TEXT : ℕ
 TEXT = 2
 
@@ -22,7 +22,7 @@ TEXT = 2
 abbrev pub NAME : ℕ
 NAME = 3
 
--- numbers of one byte: "Bools are 0 or 1", and one that says whether a shape is free
+-- numbers of one byte: truth values, and one that says whether a shape is free
 abbrev pub BOOL : ℕ
 BOOL = 4
 
@@ -126,20 +126,20 @@ layout tag =
     -- scalar
     (typed [] []))))))))))))
 
--- "Known tags: 0, 1, 3 to 11, 13 and 7f"
+-- the known tags (R3.2)
 unfoldable pub knownTag : ℕ → Bool
 knownTag tag =
     pick (leb tag 1) true (pick (ltb tag 3) false (pick (leb tag 11) true (pick (eqb tag 13) true (eqb tag 127))))
 
--- "Annotation blocks (7f) take no index"
+-- an annotation has no index (R3.4)
 unfoldable pub indexed : ℕ → Bool
 indexed tag = pick (eqb tag 127) false true
 
--- "blocks with values: all but 10, 11, 13"
+-- blocks with values
 unfoldable pub valued : ℕ → Bool
 valued tag = pick (eqb tag 10) false (pick (eqb tag 11) false (pick (eqb tag 13) false true))
 
--- "Shape type, source type and components go to 10 or 11"
+-- object and compound types
 unfoldable pub objectType : ℕ → Bool
 objectType tag = pick (eqb tag 10) true (eqb tag 11)
 

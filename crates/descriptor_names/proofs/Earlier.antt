@@ -9,10 +9,10 @@ use native.Mathlib.Omega.{arith}
 use lib.Dec.{eqb}
 use lib.ListN.{length, getD}
 use Rattle.wire.proofs.Picks.{pick-yes, pick-no, pick-case}
-use Rattle.descriptor_fields.specs.Fields.{Known, noBlock, idAt, any, taken, indexIn}
+use Rattle.descriptor_fields.specs.Fields.{Known, noBlock, idAt, taken, indexIn}
 use Rattle.descriptor_fields.specs.Arrays.{knownAt, knownOf}
 use Rattle.descriptor_fields.proofs.Known.{known-length, known-get}
-use Rattle.protocol.specs.Numbers.{pick}
+use Rattle.protocol.specs.Numbers.{pick, any}
 
 index-most : (d : List ℕ) (ks : List Known) (i : ℕ) → indexIn d ks i ≤ length ks
 unfolding indexIn

@@ -9,8 +9,8 @@ use lib.Dec.{eqb}
 use lib.ListN.{length, take, drop, getD, length-drop, drop-of-length-le}
 use lib.Seq.{take-all, take-nil, drop-cons}
 use borrow.Author.Tests.{ne-eqb}
-use Rattle.descriptor_fields.specs.Fields.{textAt, sameBytes}
-use Rattle.protocol.specs.Numbers.{pick, be}
+use Rattle.descriptor_fields.specs.Fields.{textAt}
+use Rattle.protocol.specs.Numbers.{pick, be, sameBytes}
 
 module _ (d : List ℕ) (at : ℕ) where
   pub text-none : length d < at + 4 → [] ≡ textAt d at

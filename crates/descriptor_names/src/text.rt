@@ -4,8 +4,9 @@ use plan_nodes::words::wide;
 ghost use mathlib.Core.Path.{_≡_};
 ghost use Prim.Native.Nat.{_+_, _*_, _^_, _≤_, _<_};
 ghost use lib.ListN.{length};
-ghost use Rattle.descriptor_fields.specs.Fields.{textAt, sameBytes, named, textFault};
+ghost use Rattle.descriptor_fields.specs.Fields.{textAt, named, textFault};
 ghost use Rattle.descriptor_fields.specs.Arrays.{elementsOf};
+ghost use Rattle.protocol.specs.Numbers.{sameBytes};
 
 // The content of the text at a place; of one that is not whole, what is there.
 pub fn content(d: &[u8], at: usize) -> &[u8]

@@ -1,4 +1,4 @@
--- The words of a block's node as the code puts them out. Assumes nothing: these are definitions.
+-- Nobody has to believe these definitions: they are the words of a block's node as the code puts them out. Assumes nothing.
 use mathlib.Core.Path.{_≡_}
 use Prim.Native.Nat.{ℕ, _+_}
 use mathlib.Core.List.{List, [], _∷_, map}

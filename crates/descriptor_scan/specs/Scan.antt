@@ -1,5 +1,5 @@
--- The reading of the blocks as the code does it: what is kept of them in words, and the plan by its words so far. Assumes nothing: these
--- are definitions.
+-- Nobody has to believe these definitions: they are the reading of the blocks as the code does it, what is kept of them in words, and the
+-- plan by its words so far. Assumes nothing.
 use mathlib.Core.Path.{_≡_}
 use Prim.Native.Nat.{ℕ, _+_, _*_, _≤_}
 use mathlib.Core.Bool.{false}
@@ -23,7 +23,7 @@ unfoldable pub faultOf : Part → ℕ
 faultOf (Fault n) = n
 faultOf (Next x) = 0
 
--- 11 "unknown tag"; "the block count's [17] with the tag, after 11"
+-- 11 for an unknown tag (R3.2), and then 17 for one block too many (R3.14)
 unfoldable pub tagFault : ℕ → ℕ → ℕ
 tagFault tag n = pick (knownTag tag) (pick (pick (indexed tag) (leb 1024 n) false) 17 0) 11
 

@@ -14,7 +14,8 @@ use Rattle.wire.proofs.Picks.{pick-yes, pick-no, pick-case}
 use Rattle.plan_heights.specs.Scan.{knownAt, knownOf, Among, Rising}
 use Rattle.plan_heights.proofs.Starts.{find-miss, find-hit}
 use Rattle.protocol.specs.Numbers.{pick, atLeast}
-use Rattle.protocol.specs.Plans.{PlanNode, placedAt, mayRefer, raised, refer, referAll, isCardinality, allCardinalities}
+use Rattle.protocol.specs.Messages.{isCardinality}
+use Rattle.protocol.specs.Plans.{PlanNode, placedAt, mayRefer, raised, refer, referAll, allCardinalities}
 
 -- ---- one reference
 

@@ -18,7 +18,8 @@ use Rattle.plan_nodes.proofs.Looks.{elem-in, up-length, up-at}
 use Rattle.plan_nodes.proofs.Reading.{find-append, Inside, size-positive, sound-none, all-read}
 use Rattle.protocol.specs.Numbers.{pick, upTo}
 use Rattle.protocol.specs.Nodes.{Node, refAt}
-use Rattle.protocol.specs.Plans.{PlanNode, placedAt, isSome, pairRef, pairCard, refsAt, look, raised, refer, referAll, isCardinality, allCardinalities, nodeSize, nodeHeight, NodesRead, malformed, nodes, nodesOf, startsIn, noType, planFormed, manyHeight}
+use Rattle.protocol.specs.Messages.{isCardinality}
+use Rattle.protocol.specs.Plans.{PlanNode, placedAt, isSome, pairRef, pairCard, refsAt, look, raised, refer, referAll, allCardinalities, nodeSize, nodeHeight, NodesRead, malformed, nodes, nodesOf, startsIn, noType, planFormed, manyHeight}
 use Rattle.plan_nodes.specs.Readers.{At}
 
 -- ---- references that were found

@@ -2,7 +2,8 @@
 ghost use mathlib.Core.Path.{_≡_};
 ghost use Prim.Native.Nat.{_+_, _<_};
 ghost use lib.ListN.{length, getD, set};
-ghost use Rattle.protocol.specs.Plans.{isCardinality, nodeSize};
+ghost use Rattle.protocol.specs.Messages.{isCardinality};
+ghost use Rattle.protocol.specs.Plans.{nodeSize};
 
 pub fn wide(x: u32) -> usize
     ensures { λ r. ⌜ r ≡ x ⌝ }

@@ -238,6 +238,10 @@ TAG-RECORD = 13
 abbrev pub TAG-ANNOTATION : ℕ
 TAG-ANNOTATION = 127
 
+-- the bound of an array that has none, -1 (R3.6)
+abbrev pub UNBOUNDED : ℕ
+UNBOUNDED = 0xffffffff
+
 -- ---- Formats of scalars (R3.15)
 
 abbrev pub FORMAT-UUID : ℕ

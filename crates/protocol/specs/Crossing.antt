@@ -8,11 +8,13 @@ use lib.Dec.{leb, eqb}
 use lib.ListN.{length, drop}
 use Rattle.protocol.specs.Constants.{MOST-WORDS, ROOM, UNKNOWN-TYPE, BAD-FIELD, BAD-PLAN, NO-VALUE, NO-ENTRY}
 use Rattle.protocol.specs.Numbers.{pick, be, bytesBe}
-use Rattle.protocol.specs.Answers.{refused, accepted, Put, refusedPut, putOut, outputAfter}
+use Rattle.protocol.specs.Answers.{Outcome, refused, accepted, Put, refusedPut, putOut, outputAfter}
 use Rattle.protocol.specs.Messages.{Layout, layoutOf, MessageRead, unread, read, messageCall, messageWritten}
 use Rattle.protocol.specs.Lists.{words}
 use Rattle.protocol.specs.Values.{ValueOutcome}
 use Rattle.protocol.specs.Plans.{planFormed}
+use Rattle.protocol.specs.Compiling.{compileBy}
+use Rattle.protocol.specs.Descriptors.{bareForm}
 use Rattle.protocol.specs.Running.{checked, runOf}
 use Rattle.protocol.specs.Finding.{Found, unfound, found, findOf, Numbered, unnumbered, numbered, ofFound}
 use Rattle.protocol.specs.Building.{writeOf}
@@ -93,6 +95,25 @@ pub record SettlesPut (o : Put) (r : Answer) (out out′ : List ℕ) : Type 0 wh
 
 abbrev pub WritesMessage : ℕ → ℕ → List ℕ → List ℕ → Answer → List ℕ → List ℕ → Type 0
 WritesMessage side t list src r out out′ = SettlesPut (writtenFrom side t list src (length out)) r out out′
+
+-- ---- compiling a descriptor's plan
+
+-- the words written
+unfoldable pub compileAnswer : Outcome (List ℕ) → Answer
+compileAnswer (refused n p) = refusal n p
+compileAnswer (accepted ws) = success (length ws) 0
+
+unfoldable pub compileRoom : Outcome (List ℕ) → List ℕ → List ℕ
+compileRoom (refused n p) l = l
+compileRoom (accepted ws) l = wordsOver ws l
+
+-- what an outcome settles: the answer, and every byte of the plan's room
+pub record SettlesPlan (o : Outcome (List ℕ)) (r : Answer) (l l′ : List ℕ) : Type 0 where
+  pub answer : r ≡ compileAnswer o
+  pub plan : l′ ≡ compileRoom o l
+
+abbrev pub CompilesPlan : List ℕ → List ℕ → Answer → List ℕ → List ℕ → Type 0
+CompilesPlan d root r l l′ = SettlesPlan (compileBy bareForm d root (wordRoom (length l))) r l l′
 
 -- ---- running a plan over a value
 

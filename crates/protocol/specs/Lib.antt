@@ -5,13 +5,16 @@ pub mod Numbers
 pub mod Text
 pub mod Answers
 pub mod Messages
+pub mod Descriptors
 pub mod Scalars
 pub mod Heads
 pub mod Nodes
 pub mod Lists
 pub mod Values
 pub mod Plans
+pub mod Compiling
 pub mod Running
+pub mod OffDescriptor
 pub mod Finding
 pub mod Supplies
 pub mod Building

@@ -1,6 +1,8 @@
 -- Lists (R6): what an accepted value lists, entries, each with what is below it, in the order of the wire.
-use Prim.Native.Nat.{ℕ, _+_}
+use mathlib.Core.Path.{_≡_}
+use Prim.Native.Nat.{ℕ, _+_, _*_, _/_, _≤_}
 use mathlib.Core.List.{List, [], _∷_, _++_}
+use Rattle.protocol.specs.Constants.{ENTRY-WORDS}
 
 -- R6.1: the fifth word, how many entries are directly below, is not stored, so none can be made up
 pub record Entry : Type 0 where
@@ -44,3 +46,9 @@ unfoldable pub renamedForest : (ℕ → ℕ) → Forest → Forest
 renamedForest ρ empty = empty
 renamedForest ρ (tree e below next) =
     tree (entryOf (ρ (e .node)) (e .index) (e .start) (e .size)) (renamedForest ρ below) (renamedForest ρ next)
+
+-- R6.10: w words are whole entries, at most one and one more for every four of n bytes
+pub record Entries (n w : ℕ) : Type 0 where
+  pub entries : ℕ
+  pub words : w ≡ ENTRY-WORDS * entries
+  pub most : entries ≤ 1 + n / 4

@@ -52,6 +52,9 @@ cardinalities =
     ∷ CARDINALITY-AT-LEAST-ONE
     ∷ []
 
+unfoldable pub isCardinality : ℕ → Bool
+isCardinality c = oneOf c cardinalities
+
 -- R2.7
 abbrev pub annotationItem : Layout
 annotationItem = one text (one text done)

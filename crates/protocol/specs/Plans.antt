@@ -6,8 +6,8 @@ use mathlib.Core.Option.{Option, none, some}
 use lib.Dec.{leb, ltb, eqb}
 use lib.ListN.{length, take, drop, getD}
 use Rattle.protocol.specs.Constants.{MOST-BLOCKS, MOST-ITEMS, MOST-HEIGHT, FORMATS, KIND-LEAF, KIND-SET-OR-ARRAY, KIND-SET-OF-ARRAYS, KIND-TUPLE, KIND-OUTPUT-OBJECT, KIND-INPUT-OBJECT, KIND-RANGE, KIND-ENUMERATION}
-use Rattle.protocol.specs.Numbers.{pick, oneOf, upTo, atLeast}
-use Rattle.protocol.specs.Messages.{cardinalities}
+use Rattle.protocol.specs.Numbers.{pick, upTo, atLeast}
+use Rattle.protocol.specs.Messages.{isCardinality}
 use Rattle.protocol.specs.Nodes.{Node, leaf, enum, row, arrays, tuple, object, sparse, range}
 
 -- ---- the node at a position (R4.2)
@@ -67,9 +67,6 @@ refer seen kind r (suc h) = raised kind (suc h) (placedAt seen r)
 unfoldable pub referAll : List PlanNode → ℕ → (ℕ → ℕ) → ℕ → ℕ
 referAll seen kind f zero = 1
 referAll seen kind f (suc n) = refer seen kind (f n) (referAll seen kind f n)
-
-unfoldable pub isCardinality : ℕ → Bool
-isCardinality c = oneOf c cardinalities
 
 unfoldable pub allCardinalities : (ℕ → ℕ) → ℕ → Bool
 allCardinalities f zero = true

@@ -13,7 +13,7 @@ use Rattle.descriptor_fields.specs.Fields.{Known, Element}
 use Rattle.descriptor_blocks.specs.Descriptor.{refs, nodeWords, nodeAt, Block, summary, summaries, allWords, blockOf, planWords}
 use Rattle.descriptor_blocks.proofs.Elements.{noElement, target, element-valued, raisedBy, Refers}
 use Rattle.descriptor_blocks.proofs.Accepted.{missing, Made, Accepted, Valued}
-use Rattle.run_compiled.specs.OffDescriptor.{blockAt}
+use Rattle.run_compiled.specs.OffBlocks.{blockAt}
 use Rattle.run_compiled.proofs.Words.{kindOf, refsOf, Proper, Stands, stands}
 use Rattle.run_compiled.proofs.Shapes.{ref-of, Kinded, kinded, shape-refs, shape-proper, shape-refers}
 use Rattle.run_compiled.proofs.Places.{summary-at, all-append, place, words-are}

@@ -16,7 +16,7 @@ use Rattle.descriptor_blocks.specs.Descriptor.{nodeWords, nodeAt, Block, summar
 use Rattle.descriptor_blocks.proofs.Elements.{noElement}
 use Rattle.descriptor_blocks.proofs.Sound.{raised-least}
 use Rattle.descriptor_blocks.proofs.Accepted.{missing, Accepted, Valued}
-use Rattle.run_compiled.specs.OffDescriptor.{blockAt}
+use Rattle.run_compiled.specs.OffBlocks.{blockAt}
 use Rattle.run_compiled.proofs.Words.{kindOf, refsOf, Stands}
 use Rattle.run_compiled.proofs.Shapes.{Kinded}
 use Rattle.run_compiled.proofs.Places.{node-at, words-some, knownOf, seenOf, seen-few, place, node-is, words-none, words-are, place-next, seen-next, find-block}

@@ -8,6 +8,8 @@ pub mod Climbs
 pub mod Blocks
 pub mod Formed
 pub mod PlanSize
+pub mod ByBlocks
+pub mod RulesSame
 pub mod Demand3
 pub mod Follows
 pub mod EntryBound

@@ -19,7 +19,7 @@ use Rattle.run_compiled.proofs.Places.{node-at, place, node-is, words-n
 use Rattle.run_compiled.proofs.Renames.{rename-proper}
 use Rattle.run_compiled.proofs.Blocks.{facts, renames-same}
 use Rattle.protocol.specs.Nodes.{Node, leaf, enum, row, arrays, tuple, object, sparse, range, rename}
-use Rattle.protocol.specs.Plans.{isCardinality}
+use Rattle.protocol.specs.Messages.{isCardinality}
 use Rattle.protocol.specs.Numbers.{oneOf}
 
 -- ---- words

@@ -20,7 +20,8 @@ use Rattle.descriptor_blocks.proofs.Sound.{Sound}
 use Rattle.run_compiled.proofs.Words.{kindOf, refsOf, Paired, Proper}
 use Rattle.protocol.specs.Numbers.{pick}
 use Rattle.protocol.specs.Nodes.{row, arrays}
-use Rattle.protocol.specs.Plans.{mayRefer, isCardinality}
+use Rattle.protocol.specs.Messages.{isCardinality}
+use Rattle.protocol.specs.Plans.{mayRefer}
 
 -- ---- lists of elements
 

@@ -16,7 +16,8 @@ use Rattle.descriptor_blocks.specs.Descriptor.{pairs, nodeWords}
 use Rattle.descriptor_nodes.proofs.NodeWords.{pairs-length}
 use Rattle.protocol.specs.Numbers.{pick, upTo}
 use Rattle.protocol.specs.Nodes.{Node, leaf, enum, row, arrays, tuple, object, sparse, range}
-use Rattle.protocol.specs.Plans.{PlanNode, pairRef, pairCard, refsAt, cardsAt, look, referAll, isCardinality, allCardinalities, nodeSize, nodeHeight, manyHeight}
+use Rattle.protocol.specs.Messages.{isCardinality}
+use Rattle.protocol.specs.Plans.{PlanNode, pairRef, pairCard, refsAt, cardsAt, look, referAll, allCardinalities, nodeSize, nodeHeight, manyHeight}
 
 -- ---- nodes
 

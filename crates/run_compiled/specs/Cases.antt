@@ -2,11 +2,13 @@
 use Prim.Native.Nat.{ℕ}
 use mathlib.Core.List.{List, [], _∷_, _++_}
 use lib.ListN.{replicate, take}
+use Rattle.protocol.specs.Descriptors.{bareForm}
 use Rattle.run_plan.specs.Cases.{Result, refusal, list, resultOf, planA, planSparse, four, twoIntegers}
-use Rattle.descriptor_blocks.specs.Descriptor.{Compiled, refusedPlan, plan, compileOf}
+use Rattle.protocol.specs.Answers.{Outcome, refused, accepted}
+use Rattle.protocol.specs.Compiling.{compileBy}
 use Rattle.protocol.specs.Running.{runOf}
 
--- "Descriptor A, 53 bytes: 03, id ..0105, 0000000a, 'std::int64', 01 0000 (34 bytes); 00, id 11 sixteen times, 0000. Root: the second id."
+-- descriptor A of the cases: a scalar block for int64, and a set of it, which is the root
 unfoldable pub int64Id : List ℕ
 int64Id = replicate 14 0 ++ (0x01 ∷ 0x05 ∷ [])
 
@@ -25,9 +27,9 @@ setBlock id r = 0x00 ∷ (id ++ (0x00 ∷ r ∷ []))
 unfoldable pub descriptorA : List ℕ
 descriptorA = int64Block ++ setBlock setId 0
 
-unfoldable pub compiledResult : Compiled → Result
-compiledResult (refusedPlan n p) = refusal n p
-compiledResult (plan ws) = list ws
+unfoldable pub compiledResult : Outcome (List ℕ) → Result
+compiledResult (refused n p) = refusal n p
+compiledResult (accepted ws) = list ws
 
 -- what is done, and what it gives
 pub record Case : Type 0 where
@@ -35,7 +37,7 @@ pub record Case : Type 0 where
   pub expected : Result
 
 abbrev pub compiling : List ℕ → List ℕ → Result → Case
-compiling d root r = record { gives = compiledResult (compileOf d root 8192); expected = r }
+compiling d root r = record { gives = compiledResult (compileBy bareForm d root 8192); expected = r }
 
 abbrev pub running : List ℕ → List ℕ → Result → Case
 running p s r = record { gives = resultOf (runOf p s 8192); expected = r }

@@ -1,3 +1,3 @@
-pub mod OffDescriptor
 pub mod Follows
 pub mod Cases
+pub mod OffBlocks

@@ -18,7 +18,7 @@ use Rattle.protocol.specs.Values.{ValueOutcome, valueOf, fuel}
 use Rattle.protocol.specs.Answers.{refused, accepted}
 use Rattle.protocol.specs.Plans.{look, planFormed}
 use Rattle.plan_nodes.specs.Readers.{At}
-use Rattle.protocol.specs.Running.{nothingIn, valueBy, checked, listRoomed, runOf}
+use Rattle.protocol.specs.Running.{nothingIn, listRoomed, valueBy, checked, runOf}
 
 -- of a value of n bytes: 28 at 0, or as its own rules judge it
 abbrev Sized : ℕ → ValueOutcome → Type 0

@@ -23,7 +23,7 @@ use Rattle.protocol.specs.Lists.{Forest, words}
 use Rattle.protocol.specs.Values.{ValueOutcome, valueOf}
 use Rattle.protocol.specs.Answers.{refused, accepted}
 use Rattle.protocol.specs.Plans.{look, noType, nodesOf, startsIn, planFormed}
-use Rattle.protocol.specs.Running.{nothingIn, valueBy, checked, listRoomed, runOf, listAfter}
+use Rattle.protocol.specs.Running.{nothingIn, listRoomed, valueBy, checked, runOf, listAfter}
 
 -- ---- a well-formed plan's root
 

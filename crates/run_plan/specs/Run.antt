@@ -11,8 +11,8 @@ use Rattle.protocol.specs.Numbers.{pick}
 use Rattle.protocol.specs.Lists.{Forest, words}
 use Rattle.protocol.specs.Values.{ValueOutcome}
 use Rattle.protocol.specs.Answers.{refused, accepted}
-use Rattle.protocol.specs.Plans.{planFormed}
 use Rattle.protocol.specs.Running.{listAfter}
+use Rattle.protocol.specs.Plans.{planFormed}
 
 -- the refusals before the value is looked at, 0 where there is none
 unfoldable pub earlyFault : List ℕ → List ℕ → ℕ

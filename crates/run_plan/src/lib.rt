@@ -7,7 +7,7 @@ ghost use mathlib.Core.Bool.{true};
 ghost use Rattle.plan_nodes.specs.Memo.{Memo};
 ghost use Rattle.run_plan.specs.Run.{earlyFault, Gives, Checks};
 ghost use Rattle.protocol.specs.Plans.{planFormed};
-ghost use Rattle.protocol.specs.Running.{valueBy, checked, listRoomed, runOf};
+ghost use Rattle.protocol.specs.Running.{listRoomed, valueBy, checked, runOf};
 
 // What a run answers: refused, with number and place; or the words of the list.
 pub enum Answer {

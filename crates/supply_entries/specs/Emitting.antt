@@ -24,7 +24,7 @@ use Rattle.protocol.specs.Nodes.{refAt}
 use Rattle.protocol.specs.Values.{noMarks}
 use Rattle.protocol.specs.Plans.{look, cardsAt}
 use Rattle.protocol.specs.Supplies.{zeros, Claim, Next, short, next, nextOf}
-use Rattle.protocol.specs.Building.{partMade as Spec·partMade, elementsMade as Spec·elementsMade, wrong as Spec·wrong, Front as Spec·Front, made as Spec·made, Made as Spec·Made, sparseOrder as Spec·sparseOrder, front as Spec·front, buildOf as Spec·buildOf, noFront as Spec·noFront}
+use Rattle.protocol.specs.Building.{noFront as Spec·noFront, elementsMade as Spec·elementsMade, front as Spec·front, partMade as Spec·partMade, wrong as Spec·wrong, sparseOrder as Spec·sparseOrder, buildOf as Spec·buildOf, Made as Spec·Made, made as Spec·made, Front as Spec·Front}
 
 -- ---- entries
 

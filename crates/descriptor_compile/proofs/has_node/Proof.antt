@@ -4,7 +4,7 @@ use Rattle.wire.proofs.Picks.{pick-yes, pick-no}
 use Rattle.descriptor_fields.specs.Layouts.{valued}
 use Rattle.descriptor_fields.specs.Fields.{Known}
 use Rattle.descriptor_fields.proofs.Known.{known-in, known-out, known-get}
-use Rattle.descriptor_compile.specs.Compile.{hasNode}
+use Rattle.descriptor_compile.specs.Checking.{hasNode}
 use borrow.Author.Needs.{needs}
 use Rattle.descriptor_compile.proofs.has_node.Statement.{statement}
 use Rattle.descriptor_compile.proofs.has_node.Tie as tie

@@ -1,6 +1,6 @@
 -- `descriptor_compile::refusal_of` meets its contract. Assumes nothing.
 use mathlib.Core.Path.{sym, ap}
-use Rattle.descriptor_compile.specs.Compile.{refusalOf}
+use Rattle.descriptor_compile.specs.Checking.{refusalOf}
 use borrow.Author.Needs.{needs}
 use Rattle.descriptor_compile.proofs.refusal_of.Statement.{statement}
 use Rattle.descriptor_compile.proofs.refusal_of.Tie as tie

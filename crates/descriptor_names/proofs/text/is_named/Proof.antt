@@ -4,11 +4,12 @@ use mathlib.Core.Bool.{false}
 use Prim.Native.Nat.{ℕ, _-_, _*_, _<_, _≤_}
 use native.Mathlib.Omega.{arith}
 use lib.ListN.{getD}
-use Rattle.descriptor_fields.specs.Fields.{textAt, sameBytes}
+use Rattle.descriptor_fields.specs.Fields.{textAt}
 use Rattle.descriptor_fields.proofs.Known.{one-more, named-hit, named-none}
 use borrow.Author.Needs.{needs}
 use Rattle.descriptor_names.proofs.text.is_named.Statement.{statement}
 use Rattle.descriptor_names.proofs.text.is_named.Tie as tie
+use Rattle.protocol.specs.Numbers.{sameBytes}
 
 abbrev Inv-loop : tie.InvT-loop
 Inv-loop d elements n at name i₀ i =

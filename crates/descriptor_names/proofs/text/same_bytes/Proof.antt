@@ -3,12 +3,11 @@ use mathlib.Core.Bool.{false}
 use Prim.Native.Nat.{_-_, _≤_}
 use native.Mathlib.Omega.{arith}
 use lib.ListN.{length, drop}
-use Rattle.descriptor_fields.specs.Fields.{sameBytes}
 use Rattle.descriptor_names.proofs.Texts.{unlike-lengths, same-next, same-end}
 use borrow.Author.Needs.{needs}
 use Rattle.descriptor_names.proofs.text.same_bytes.Statement.{statement}
 use Rattle.descriptor_names.proofs.text.same_bytes.Tie as tie
-use Rattle.protocol.specs.Numbers.{pick}
+use Rattle.protocol.specs.Numbers.{pick, sameBytes}
 
 abbrev Inv-loop : tie.InvT-loop
 Inv-loop a b same₀ i₀ same i =

@@ -5,7 +5,7 @@ use Rattle.wire.proofs.Picks.{pick-no}
 use Rattle.plan_nodes.proofs.words.is_cardinality.Statement.{statement}
 use Rattle.plan_nodes.proofs.words.is_cardinality.Tie as tie
 use Rattle.protocol.specs.Numbers.{pick, oneOf}
-use Rattle.protocol.specs.Plans.{isCardinality}
+use Rattle.protocol.specs.Messages.{isCardinality}
 
 returns : tie.Need-returns
 unfolding isCardinality pick oneOf

@@ -1,5 +1,5 @@
--- The rules read off the descriptor (demand 3): "fed descriptor, root id, value and list room, never a plan". Assumes nothing: these are
--- definitions.
+-- Nobody has to believe these definitions: they are the rules read off the code's own blocks, by which the plan's are proved; that they
+-- give what protocol's give is proved too (proofs/RulesSame). Assumes nothing.
 use Prim.Native.Nat.{ℕ, zero, suc}
 use mathlib.Core.List.{List, [], _∷_}
 use lib.Dec.{ltb}
@@ -11,23 +11,22 @@ use Rattle.protocol.specs.Values.{renamed, ValueOutcome, valueOf}
 use Rattle.protocol.specs.Answers.{refused}
 use Rattle.protocol.specs.Running.{nothingIn, listRoomed}
 
--- the kind of the block with an index: "an element is one of the block its element reference names"
+-- the node of the block with an index
 unfoldable pub blockAt : List Block → ℕ → Node
 blockAt [] k = enum
 blockAt (b ∷ bs) zero = b .shape
 blockAt (b ∷ bs) (suc k) = blockAt bs k
 
--- "The top is a value of the root block"; the list names blocks by their node words.
+-- a value of the root block; the list names blocks by their node words
 unfoldable pub valueIn : List Block → ℕ → List ℕ → ValueOutcome
 valueIn bs root s = renamed (nodeAt (summaries bs)) (valueOf (blockAt bs) root 0 0 s)
 
--- "The rules give 28, else the first value fault"; "'no type' as above, 28 still first". A descriptor that is not accepted has its own
--- number and place.
+-- 28, and then the value's own faults; a descriptor that is not accepted has its own number and place
 unfoldable pub judged : Description → List ℕ → ValueOutcome
 judged (refusedBy n p) s = refused n p
 judged noType s = pick (ltb 65535 (length s)) (refused 28 0) (nothingIn s)
 judged (described bs root) s = pick (ltb 65535 (length s)) (refused 28 0) (valueIn bs root s)
 
--- "else 31, else the list"
+-- and 31 last
 unfoldable pub rulesOf : List ℕ → List ℕ → List ℕ → ℕ → ValueOutcome
 rulesOf d root s room = listRoomed room (judged (descriptionOf d root) s)
