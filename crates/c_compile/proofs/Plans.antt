@@ -1,4 +1,4 @@
--- The laws of compiling on bytes. Assumes nothing.
+-- The laws of compiling on bytes.
 use mathlib.Core.Path.{_≡_, refl}
 use mathlib.Core.Bool.{Bool, true, false}
 use mathlib.Core.List.{List}
@@ -48,5 +48,8 @@ module _ (d root : List ℕ) (a : Compile.Answer) (k k′ : List ℕ) (c : Check
     pub plans-settled : 8192 ≤ length k → (r : Answer) (l′ : List ℕ) → WordsOut 30 w (take w k′) r l l′ → SettlesPlan (compileBy bareForm d root (wordRoom (length l))) r l l′
     unfolding compileAnswer compileRoom
     plans-settled b r l′ g =
-        let x = out-settled compileAnswer (λ (o : Outcome (List ℕ)). compileRoom o l) (refused 30 0) (accepted (f .words)) 30 w k k′ (f .words) l r l′ refl refl refl refl (f .stored) (f .count) (scratch-holds b) g in
+        let x =
+        out-settled compileAnswer (λ (o : Outcome (List ℕ)). compileRoom o l) (refused 30 0) (accepted (f .words)) 30 w k k′ (f .words) l r l′
+        refl refl refl refl (f .stored) (f .count) (scratch-holds b) g
+        in
         rw compiled (record { answer = x .0; plan = x .1 })

@@ -1,6 +1,6 @@
 // Compiling a descriptor's plan.
-use forms::Answer;
 use c_words::refused;
+use forms::Answer;
 ghost use Prim.Native.Nat.{_≤_};
 ghost use lib.ListN.{length};
 ghost use Rattle.protocol.specs.Crossing.{CompilesPlan};
@@ -12,7 +12,12 @@ fn compile_by(descriptor: &[u8], root: &[u8], scratch: &mut [u32], plan: &mut [u
 {
     match descriptor_compile::check(descriptor, root, scratch) {
         descriptor_compile::Answer::Refused { no, place } => refused(no, place),
-        descriptor_compile::Answer::Words { words } => c_words::put_answer(30, scratch, words, plan),
+        descriptor_compile::Answer::Words { words } => c_words::put_answer(
+            30,
+            scratch,
+            words,
+            plan,
+        ),
     }
 }
 

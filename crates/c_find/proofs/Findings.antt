@@ -1,4 +1,4 @@
--- The laws of finding on bytes. Assumes nothing.
+-- The laws of finding on bytes.
 use mathlib.Core.Path.{_≡_, refl, ap, _∙_}
 use mathlib.Core.Bool.{true, false}
 use mathlib.Core.List.{List, []}

@@ -1,4 +1,4 @@
--- The laws of the two message calls on bytes. Assumes nothing.
+-- The laws of the two message calls on bytes.
 use mathlib.Core.Path.{_≡_, refl, ap, sym, _∙_}
 use mathlib.Core.Bool.{true, false}
 use mathlib.Core.List.{List}

@@ -1,4 +1,4 @@
--- The two message calls on bytes. Assumes nothing: these are definitions.
+-- The two message calls on bytes.
 use mathlib.Core.Path.{_≡_}
 use Prim.Native.Nat.{ℕ, _*_, _≤_}
 use mathlib.Core.List.{List}

@@ -1,4 +1,4 @@
--- The laws of an element's number on bytes. Assumes nothing.
+-- The laws of an element's number on bytes.
 use mathlib.Core.Path.{_≡_, ap, _∙_}
 use mathlib.Core.Bool.{true, false}
 use mathlib.Core.List.{List}

@@ -1,5 +1,5 @@
--- Demand 3 as the C host meets it: the bytes that compiling wrote are a plan that runs, with no descriptor, as the rules read off the
--- descriptor do. Assumes nothing.
+-- Demand 3 as the C host meets it: the bytes that compiling wrote are a plan
+-- that runs, with no descriptor, as the rules read off the descriptor do.
 use mathlib.Core.Path.{_≡_, ap, _∙_}
 use mathlib.Core.List.{List}
 use Prim.Native.Nat.{ℕ, _*_, _≤_}

@@ -1,4 +1,4 @@
--- The laws of running a plan on bytes. Assumes nothing.
+-- The laws of running a plan on bytes.
 use mathlib.Core.Path.{_≡_, refl}
 use mathlib.Core.Bool.{true, false}
 use mathlib.Core.List.{List}
@@ -41,7 +41,8 @@ module _ (p s : List ℕ) (a : Run.Answer) (k k′ : List ℕ) (c : Checks (leng
 -- ---- the plan's crossing
 
 module _ (plan value : List ℕ) (r : Answer) (l l′ : List ℕ) where
-  pub crossed-plan : crosses (length plan) ≡ true → (ws : List ℕ) → ws ≡ wordsIn plan → SettlesRun (runOf ws value (wordRoom (length l))) r l l′ → SettlesRun (runFrom plan value (wordRoom (length l))) r l l′
+  pub crossed-plan : crosses (length plan) ≡ true → (ws : List ℕ) → ws ≡ wordsIn plan
+      → SettlesRun (runOf ws value (wordRoom (length l))) r l l′ → SettlesRun (runFrom plan value (wordRoom (length l))) r l l′
   unfolding runFrom pick
   crossed-plan e ws w x = rw (e, ← w) x
 

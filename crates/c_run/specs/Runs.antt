@@ -1,4 +1,4 @@
--- Running a plan over a value, on bytes. Assumes nothing: these are definitions.
+-- Running a plan over a value, on bytes.
 use Prim.Native.Nat.{ℕ, _*_, _+_, _≤_}
 
 -- scratch room that holds any list of a value of n bytes that can cross

@@ -1,6 +1,6 @@
 // Checking and listing a value by a plan.
-use forms::Answer;
 use c_words::refused;
+use forms::Answer;
 ghost use mathlib.Core.Path.{_≡_};
 ghost use mathlib.Core.Bool.{true};
 ghost use Prim.Native.Nat.{_≤_};

@@ -1,4 +1,4 @@
--- The laws of writing a value on bytes. Assumes nothing.
+-- The laws of writing a value on bytes.
 use mathlib.Core.Path.{_≡_, refl, sym, _∙_}
 use mathlib.Core.Bool.{Bool, true, false}
 use mathlib.Core.List.{List, _++_}

@@ -1,4 +1,4 @@
--- Writing a value from a supply, on bytes. Assumes nothing: these are definitions.
+-- Writing a value from a supply, on bytes.
 use mathlib.Core.Path.{_≡_}
 use mathlib.Core.Bool.{true}
 use Prim.Native.Nat.{ℕ}

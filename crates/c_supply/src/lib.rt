@@ -1,6 +1,6 @@
 // Writing a value from a supply, by a plan.
-use forms::Answer;
 use c_words::refused;
+use forms::Answer;
 ghost use mathlib.Core.Path.{_≡_};
 ghost use mathlib.Core.Bool.{true};
 ghost use Prim.Native.Nat.{_+_, _*_, _-_, _≤_};
@@ -12,7 +12,8 @@ ghost use Rattle.protocol.specs.Crossing.{wordsIn, crosses, putAnswer, uncrosse
 // Writes a value from the plan of the first n words and the list of those up to `end`.
 fn write_words(words: &[u32], n: usize, end: usize, src: &[u8], out: &mut [u8]) -> Answer
     requires { ⌜ (n ≤ end) × (end ≤ length (now words)) ⌝ }
-    ensures { λ r. ⌜ SettlesPut (writeOf (take n (now (words .entry))) (take (end - n) (drop n (now (words .entry)))) (now (src .entry)) (length (now (out .entry)))) r (now (out .entry)) (now (out .exit)) ⌝ }
+    ensures { λ r. ⌜ SettlesPut (writeOf (take n (now (words .entry))) (take (end - n) (drop n (now (words .entry)))) (now (src .entry)) (length (now (out .entry)))) r
+        (now (out .entry)) (now (out .exit)) ⌝ }
 {
     match supply_write::write(&words[..n], &words[n..end], src, out) {
         supply_write::Answer::Refused { no } => refused(no, 0),

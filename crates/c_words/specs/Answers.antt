@@ -1,4 +1,4 @@
--- What a call answers. Assumes nothing: these are definitions.
+-- What a call answers.
 use mathlib.Core.Path.{_≡_}
 use mathlib.Core.List.{List, _++_}
 use Prim.Native.Nat.{ℕ, _*_}

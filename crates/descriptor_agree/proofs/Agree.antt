@@ -17,7 +17,7 @@ use Rattle.protocol.specs.Descriptors
 use Rattle.protocol.specs.Numbers.{pick, be}
 use Rattle.protocol.specs.Text.{wellFormed}
 
--- readings agree if both refuse with one number, or both go on at one byte with what a relation asks. Assumes nothing.
+-- readings agree if both refuse with one number, or both go on at one byte with what a relation asks.
 
 -- ---- two readings agree
 
@@ -45,7 +45,9 @@ module _ (d : List ℕ) where
 
   -- one after another
   module _ {A B : Type 0} (R : Draft → List Element → A → Type 0) (Q : Draft → List Element → B → Type 0) where
-    pub agree-then : (r : Reading) (p : Parsed A) (f : Draft → List Element → Reading) (g : A → Reader B) → Agree R r p → ((x : Draft) (es : List Element) (a : A) → x .at ≤ length d → R x es a → Agree Q (f x es) (g a (drop (x .at) d))) → Agree Q (andThen r f) (parseThen p g)
+    pub agree-then : (r : Reading) (p : Parsed A) (f : Draft → List Element → Reading) (g : A → Reader B) → Agree R r p
+        → ((x : Draft) (es : List Element) (a : A) → x .at ≤ length d → R x es a → Agree Q (f x es) (g a (drop (x .at) d)))
+        → Agree Q (andThen r f) (parseThen p g)
     unfolding andThen parseThen
     agree-then (stop n) (unparsed m) f g e k = e
     agree-then (stop n) (parsed a s) f g e k = absurd e
@@ -115,12 +117,20 @@ judged d at size n a = pick (leb (at + size) (length d)) (verdict n (parsed a (d
 
 module _ (d : List ℕ) (known : List Known) (tag : ℕ) where
   module _ {A B : Type 0} (Q : Draft → List Element → B → Type 0) (c : ℕ) (x : Draft) (es : List Element) (p : Parsed A) (a : A) (f : Draft → List Element → Reading) (g : A → Reader B) where
-    pub agree-field : p ≡ judged d (x .at) (extent d c (x .at)) (faultOf d known tag c x es) a → (x .at + extent d c (x .at) ≤ length d → faultOf d known tag c x es ≡ 0 → Agree d Q (f (kept d known tag c x) (grown d c x es)) (g a (drop (x .at + extent d c (x .at)) d))) → Agree d Q (andThen (field d known tag c x es) f) (parseThen p g)
+    pub agree-field : p ≡ judged d (x .at) (extent d c (x .at)) (faultOf d known tag c x es) a
+        → (x .at + extent d c (x .at) ≤ length d → faultOf d known tag c x es ≡ 0 → Agree d Q (f (kept d known tag c x) (grown d c x es)) (g a (drop (x .at + extent d c (x .at)) d)))
+        → Agree d Q (andThen (field d known tag c x es) f) (parseThen p g)
     unfolding field judged verdict kept pick andThen parseThen
     agree-field e k = rw e (cases (leb (x .at + extent d c (x .at)) (length d)) refl (eqb (faultOf d known tag c x es) 0) refl)
       where
-        cases : (s : Bool) → leb (x .at + extent d c (x .at)) (length d) ≡ s → (t : Bool) → eqb (faultOf d known tag c x es) 0 ≡ t → Agree d Q (andThen (pick s (pick t (next (kept d known tag c x) (grown d c x es) (record { kind = c; start = x .at } ∷ [])) (stop (faultOf d known tag c x es))) (stop 10)) f) (parseThen (pick s (pick t (parsed a (drop (x .at + extent d c (x .at)) d)) (unparsed (faultOf d known tag c x es))) (unparsed 10)) g)
-        cases true h true z = agree-noted d Q (record { kind = c; start = x .at } ∷ []) (f (kept d known tag c x) (grown d c x es)) (g a (drop (x .at + extent d c (x .at)) d)) (k (leb-true (x .at + extent d c (x .at)) (length d) h) (eqb-true (faultOf d known tag c x es) 0 z))
+        cases : (s : Bool) → leb (x .at + extent d c (x .at)) (length d) ≡ s → (t : Bool) → eqb (faultOf d known tag c x es) 0 ≡ t
+            → Agree d Q
+            (andThen (pick s (pick t (next (kept d known tag c x) (grown d c x es) (record { kind = c; start = x .at } ∷ [])) (stop (faultOf d known tag c x es))) (stop 10)) f)
+            (parseThen (pick s (pick t (parsed a (drop (x .at + extent d c (x .at)) d)) (unparsed (faultOf d known tag c x es))) (unparsed 10)) g)
+        cases true h true z =
+            agree-noted d Q (record { kind = c; start = x .at } ∷ []) (f (kept d known tag c x) (grown d c x es))
+            (g a (drop (x .at + extent d c (x .at)) d))
+            (k (leb-true (x .at + extent d c (x .at)) (length d) h) (eqb-true (faultOf d known tag c x es) 0 z))
         cases true h false z = refl
         cases false h t z = refl
 
@@ -131,7 +141,9 @@ module _ (d : List ℕ) (known : List Known) (tag : ℕ) where
 
   -- the last field
   module _ {A : Type 0} (Q : Draft → List Element → A → Type 0) (c : ℕ) (x : Draft) (es : List Element) (p : Parsed A) (a : A) where
-    pub agree-last : p ≡ judged d (x .at) (extent d c (x .at)) (faultOf d known tag c x es) a → (x .at + extent d c (x .at) ≤ length d → faultOf d known tag c x es ≡ 0 → Q (kept d known tag c x) (grown d c x es) a) → Agree d Q (andThen (field d known tag c x es) (λ y fs. next y fs [])) p
+    pub agree-last : p ≡ judged d (x .at) (extent d c (x .at)) (faultOf d known tag c x es) a
+        → (x .at + extent d c (x .at) ≤ length d → faultOf d known tag c x es ≡ 0 → Q (kept d known tag c x) (grown d c x es) a)
+        → Agree d Q (andThen (field d known tag c x es) (λ y fs. next y fs [])) p
     unfolding kept
     agree-last e k = rw then-give at (agree-field Q c x es p a (λ y fs. next y fs []) Descriptors.give e (λ l z. (refl, l, k l z)))
 
@@ -158,16 +170,20 @@ module _ (d : List ℕ) (at : ℕ) (inside : at ≤ length d) where
   number-at w = rw (bytes-at w) (judged-then w (take w (drop at d)) (λ b. Descriptors.give (be b)))
 
   -- a rule, which refuses with a number
-  pub checked-at : {A : Type 0} (n : ℕ) (rule : A → Bool) (p : Reader A) (size : ℕ) (a : A) → p (drop at d) ≡ judged d at size 0 a → passing (suc n) rule p (drop at d) ≡ judged d at size (pick (rule a) 0 (suc n)) a
+  pub checked-at : {A : Type 0} (n : ℕ) (rule : A → Bool) (p : Reader A) (size : ℕ) (a : A) → p (drop at d) ≡ judged d at size 0 a
+      → passing (suc n) rule p (drop at d) ≡ judged d at size (pick (rule a) 0 (suc n)) a
   unfolding passing judged
   checked-at n rule p size a e = rw (e, judged-then size a (λ b. pick (rule b) (Descriptors.give b) (Descriptors.refuse (suc n))), verdict-pick (rule a) n (parsed a (drop (at + size) d))) (rw pick-at)
 
   -- one more rule, after a field's own
-  pub checked-more : {A : Type 0} (n m : ℕ) (rule : A → Bool) (p : Reader A) (size : ℕ) (a : A) → p (drop at d) ≡ judged d at size m a → passing (suc n) rule p (drop at d) ≡ judged d at size (pick (eqb m 0) (pick (rule a) 0 (suc n)) m) a
+  pub checked-more : {A : Type 0} (n m : ℕ) (rule : A → Bool) (p : Reader A) (size : ℕ) (a : A) → p (drop at d) ≡ judged d at size m a
+      → passing (suc n) rule p (drop at d) ≡ judged d at size (pick (eqb m 0) (pick (rule a) 0 (suc n)) m) a
   unfolding passing judged verdict parseThen pick
   checked-more n m rule p size a e = rw e (go (leb (at + size) (length d)) (eqb m 0) refl (rule a))
     where
-      go : (s t : Bool) → eqb m 0 ≡ t → (r : Bool) → parseThen (pick s (pick t (parsed a (drop (at + size) d)) (unparsed m)) (unparsed 10)) (λ b. pick (rule b) (Descriptors.give b) (Descriptors.refuse (suc n))) ≡ pick s (verdict (pick t (pick (rule a) 0 (suc n)) m) (parsed a (drop (at + size) d))) (unparsed 10)
+      go : (s t : Bool) → eqb m 0 ≡ t → (r : Bool)
+          → parseThen (pick s (pick t (parsed a (drop (at + size) d)) (unparsed m)) (unparsed 10)) (λ b. pick (rule b) (Descriptors.give b) (Descriptors.refuse (suc n)))
+          ≡ pick s (verdict (pick t (pick (rule a) 0 (suc n)) m) (parsed a (drop (at + size) d))) (unparsed 10)
       go true true z r = after (rule a)
         where
           after : (r : Bool) → pick r (Descriptors.give a) (Descriptors.refuse (suc n)) (drop (at + size) d) ≡ verdict (pick r 0 (suc n)) (parsed a (drop (at + size) d))

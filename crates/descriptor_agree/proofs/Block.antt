@@ -1,4 +1,4 @@
--- A block, by both definitions. Assumes nothing.
+-- A block, by both definitions.
 use mathlib.Core.Path.{_≡_, refl, sym, subst}
 use mathlib.Core.Bool.{Bool, true, false, not}
 use mathlib.Core.List.{List, [], _∷_}
@@ -19,7 +19,9 @@ use Rattle.protocol.specs.Descriptors.{Block, BlockKind, types, Reader, parseTh
 use Rattle.descriptor_agree.proofs.Agree.{Agree, agree-map, agree-assoc, agree-unassoc, agree-field}
 use Rattle.descriptor_agree.proofs.Fields.{Pairs, id-same}
 use Rattle.descriptor_agree.proofs.Runs.{rest, Fresh}
-use Rattle.descriptor_agree.proofs.Contents.{Final, set-agrees, output-agrees, tuple-agrees, named-tuple-agrees, array-agrees, enumeration-agrees, input-agrees, range-agrees, object-agrees, compound-agrees, record-agrees, annotation-agrees}
+use Rattle.descriptor_agree.proofs.Contents.{Final, set-agrees, output-agrees, tuple-agrees, named-tuple-agrees, array-agrees}
+use Rattle.descriptor_agree.proofs.Contents.{enumeration-agrees, input-agrees, range-agrees, object-agrees, compound-agrees}
+use Rattle.descriptor_agree.proofs.Contents.{record-agrees, annotation-agrees}
 use Rattle.descriptor_agree.proofs.Scalars.{scalar-agrees}
 use Rattle.protocol.specs.Numbers.{pick, be, any}
 
@@ -42,7 +44,9 @@ module _ (d : List ℕ) (known : List Known) (bs : List Block) (pairs : Pairs d 
   abbrev blockBy : ℕ → (ℕ → Reader BlockKind) → Reader (Option Block)
   blockBy tag K s = parseThen (newId bs s) (λ id s. parseThen (K id s) (λ kind. give (some (record { tag = tag; id = id; kind = kind; height = heightOver bs 1 (types kind) }))))
 
-  from-id : (tag : ℕ) (cs is : List ℕ) (k : Draft → List Element → Reading) (K : ℕ → Reader BlockKind) → ((i : ℕ) (y : Draft) → y .at ≤ length d → Fresh y [] → y .left ≡ 0 → y .format ≡ oldFormat i → Agree d (Final known bs tag) (andThen (rest d known tag cs is y []) k) (K i (drop (y .at) d))) → Agree d (Twin d known bs tag at) (andThen (section d known tag (ID ∷ cs) is (blank at) []) k) (blockBy tag K (drop at d))
+  from-id : (tag : ℕ) (cs is : List ℕ) (k : Draft → List Element → Reading) (K : ℕ → Reader BlockKind)
+      → ((i : ℕ) (y : Draft) → y .at ≤ length d → Fresh y [] → y .left ≡ 0 → y .format ≡ oldFormat i → Agree d (Final known bs tag) (andThen (rest d known tag cs is y []) k) (K i (drop (y .at) d)))
+      → Agree d (Twin d known bs tag at) (andThen (section d known tag (ID ∷ cs) is (blank at) []) k) (blockBy tag K (drop at d))
   unfolding section fields rest kept heightAfter formatAfter grown pick idAt
   from-id tag cs is k K all =
       let Q = Twin d known bs tag at in
@@ -54,7 +58,8 @@ module _ (d : List ℕ) (known : List Known) (bs : List Block) (pairs : Pairs d 
       (agree-field d known tag Q ID x [] (newId bs (drop at d)) i _ _ (id-same d known tag bs pairs x [] inside) (λ l z.
       let y = kept d known tag ID x in
       agree-unassoc d Q (fields d known tag cs y []) last k _
-      (agree-map d (Final known bs tag) Q (λ kind. some (record { tag = tag; id = i; kind = kind; height = heightOver bs 1 (types kind) })) (andThen (rest d known tag cs is y []) k) (K i (drop (y .at) d))
+      (agree-map d (Final known bs tag) Q (λ kind. some (record { tag = tag; id = i; kind = kind; height = heightOver bs 1 (types kind) }))
+      (andThen (rest d known tag cs is y []) k) (K i (drop (y .at) d))
       (all i y l (record { height = refl; free = refl; none-yet = refl }) refl refl)
       (λ w fs kind f. record { block = record { tag = tag; id = i; kind = kind; height = heightOver bs 1 (types kind) }; is = refl; tags = refl; ids = refl; height = sym (f .height); final = f })))))
 
@@ -152,5 +157,23 @@ pub tag-known : (tag : ℕ) → knownTag tag ≡ pick (eqb tag 127) true (any (e
 unfolding knownTag any pick listed
 tag-known tag = elim (decLt tag 128) [
   | yes h ↦ alike-same (knownTag tag) (listed tag) (tag-low tag h)
-  | no h ↦ let l : 128 ≤ tag = omega (arith, h) in rw (lt-leb tag 1 (omega arith), le-ltb tag 3 (omega arith), lt-leb tag 11 (omega arith), ne-eqb tag 13 (λ e. omega arith), ne-eqb tag 127 (λ e. omega arith), ne-eqb tag 0 (λ e. omega arith), ne-eqb tag 1 (λ e. omega arith), ne-eqb tag 3 (λ e. omega arith), ne-eqb tag 4 (λ e. omega arith), ne-eqb tag 5 (λ e. omega arith), ne-eqb tag 6 (λ e. omega arith), ne-eqb tag 7 (λ e. omega arith), ne-eqb tag 8 (λ e. omega arith), ne-eqb tag 9 (λ e. omega arith), ne-eqb tag 10 (λ e. omega arith), ne-eqb tag 11 (λ e. omega arith))
+  | no h ↦ let l : 128 ≤ tag = omega (arith, h) in
+      rw (
+        lt-leb tag 1 (omega arith),
+        le-ltb tag 3 (omega arith),
+        lt-leb tag 11 (omega arith),
+        ne-eqb tag 13 (λ e. omega arith),
+        ne-eqb tag 127 (λ e. omega arith),
+        ne-eqb tag 0 (λ e. omega arith),
+        ne-eqb tag 1 (λ e. omega arith),
+        ne-eqb tag 3 (λ e. omega arith),
+        ne-eqb tag 4 (λ e. omega arith),
+        ne-eqb tag 5 (λ e. omega arith),
+        ne-eqb tag 6 (λ e. omega arith),
+        ne-eqb tag 7 (λ e. omega arith),
+        ne-eqb tag 8 (λ e. omega arith),
+        ne-eqb tag 9 (λ e. omega arith),
+        ne-eqb tag 10 (λ e. omega arith),
+        ne-eqb tag 11 (λ e. omega arith),
+      )
 ]

@@ -1,4 +1,4 @@
--- Each kind of block, by both definitions. Assumes nothing.
+-- Each kind of block, by both definitions.
 use mathlib.Core.Path.{_≡_, refl, sym, _∙_}
 use mathlib.Core.Bool.{Bool, true, false}
 use mathlib.Core.List.{List, [], _∷_, _++_, map, map-append}
@@ -7,14 +7,23 @@ use Prim.Native.Nat.{ℕ, suc, _+_, _-_, _≤_, _<_}
 use native.Mathlib.Omega.{arith}
 use lib.ListN.{length, take, drop, getD}
 use borrow.Author.Tests.{ltb-true}
-use Rattle.descriptor_fields.specs.Layouts.{TEXT, NAME, BOOL, FREE, OPERATION, CARDINALITY, SHAPE-FLAGS, INPUT-FLAGS, BOUND, DIMENSIONS, ANCESTORS, COUNT, ANCESTOR, ANY, OBJECT, ELEMENT, SET-ELEMENT, ARRAY-ELEMENT, RANGE-ELEMENT, valued as valuedTag}
+use Rattle.descriptor_fields.specs.Layouts.{TEXT, NAME, BOOL, FREE, OPERATION, CARDINALITY, SHAPE-FLAGS, INPUT-FLAGS, BOUND, DIMENSIONS}
+use Rattle.descriptor_fields.specs.Layouts.{ANCESTORS, COUNT, ANCESTOR, ANY, OBJECT, ELEMENT, SET-ELEMENT, ARRAY-ELEMENT, RANGE-ELEMENT}
+use Rattle.descriptor_fields.specs.Layouts.{valued as valuedTag}
 use Rattle.descriptor_fields.specs.Fields.{Known, noBlock, Element, textAt, numberAt, widthOf, formatless, fault as faultOf, refFault, kept, grown, heightAfter}
 use Rattle.descriptor_fields.specs.declared.Draft.{Draft}
 use Rattle.descriptor_blocks.specs.Blocks.{Reading, stop, next, noted, andThen, fields, items, section, counting}
 use Rattle.descriptor_blocks.specs.Descriptor.{nodeOf as oldNode, onlyRef}
-use Rattle.protocol.specs.Descriptors.{Block, BlockKind, set-of, output-shape, tuple-of, named-tuple, array-of, enum-of, input-shape, range-of, compound-type, sql-record, types, Schema, OutputElement, InputElement, NamedElement, Parsed, unparsed, parsed, textField, counted, schema, element, reference, hasValues, ofObjects, heightAt, heightOver, Text, outputElement, tupleElement, inputElement, recordElement, annotationBlock, fieldsOf}
+use Rattle.protocol.specs.Descriptors.{Block, BlockKind, set-of, output-shape, tuple-of, named-tuple, array-of, enum-of, input-shape}
+use Rattle.protocol.specs.Descriptors.{range-of, compound-type, sql-record, types, Schema, OutputElement, InputElement, NamedElement}
+use Rattle.protocol.specs.Descriptors.{Parsed, unparsed, parsed, textField, counted, schema, element, reference, hasValues, ofObjects}
+use Rattle.protocol.specs.Descriptors.{heightAt, heightOver, Text, outputElement, tupleElement, inputElement, recordElement}
+use Rattle.protocol.specs.Descriptors.{annotationBlock, fieldsOf}
 use Rattle.descriptor_agree.proofs.Agree.{Agree, agree-then, agree-map, agree-field, agree-last}
-use Rattle.descriptor_agree.proofs.Fields.{Pairs, pairs-height, pairs-tag, bool-same, free-same, operation-same, cardinal-same, output-flags-same, input-flags-same, bound-same, dimensions-same, text-same, name-same, count-same, any-same, object-same, component-same, element-same, set-element-same, array-element-same, range-element-same}
+use Rattle.descriptor_agree.proofs.Fields.{Pairs, pairs-height, pairs-tag, bool-same, free-same, operation-same, cardinal-same}
+use Rattle.descriptor_agree.proofs.Fields.{output-flags-same, input-flags-same, bound-same, dimensions-same, text-same, name-same}
+use Rattle.descriptor_agree.proofs.Fields.{count-same, any-same, object-same, component-same, element-same, set-element-same}
+use Rattle.descriptor_agree.proofs.Fields.{array-element-same, range-element-same}
 use Rattle.descriptor_agree.proofs.Runs.{rest, rest-cons, rest-end, agree-run, Fresh, schema-agrees}
 use Rattle.protocol.specs.Numbers.{pick, be, atLeast}
 use Rattle.protocol.specs.Compiling.{blockNode}
@@ -73,7 +82,8 @@ module _ (d : List ℕ) (known : List Known) (bs : List Block) (pairs : Pairs d 
   unfolding heightOver
   listed-none x es f = record { refs = rw (f .none-yet); height = f .height; below = tt }
 
-  listed-more : (h : ℕ) (es : List Element) (ts : List ℕ) (e : Element) → Listed known bs h es ts → e .ref < length known → Listed known bs (atLeast h (getD known (e .ref) noBlock .height + 1)) (es ++ (e ∷ [])) (ts ++ (e .ref ∷ []))
+  listed-more : (h : ℕ) (es : List Element) (ts : List ℕ) (e : Element) → Listed known bs h es ts → e .ref < length known
+      → Listed known bs (atLeast h (getD known (e .ref) noBlock .height + 1)) (es ++ (e ∷ [])) (ts ++ (e .ref ∷ []))
   listed-more h es ts e l b =
       record {
         refs = map-append _ es (e ∷ []) ∙ rw (l .refs);
@@ -82,7 +92,8 @@ module _ (d : List ℕ) (known : List Known) (bs : List Block) (pairs : Pairs d 
       }
 
   -- nothing comes after the first section
-  pub agree-done : {A : Type 0} (tag : ℕ) (R Q : Draft → List Element → A → Type 0) (r : Reading) (p : Parsed A) → Agree d R r p → ((x : Draft) (es : List Element) (a : A) → R x es a → Q (counting 0 x) es a) → Agree d Q (andThen r (section d known tag [] [])) p
+  pub agree-done : {A : Type 0} (tag : ℕ) (R Q : Draft → List Element → A → Type 0) (r : Reading) (p : Parsed A) → Agree d R r p
+      → ((x : Draft) (es : List Element) (a : A) → R x es a → Q (counting 0 x) es a) → Agree d Q (andThen r (section d known tag [] [])) p
   unfolding andThen section fields items noted
   agree-done tag R Q (stop n) (unparsed m) e k = e
   agree-done tag R Q (stop n) (parsed a s) e k = e
@@ -90,14 +101,16 @@ module _ (d : List ℕ) (known : List Known) (bs : List Block) (pairs : Pairs d 
   agree-done tag R Q (next x es is) (parsed a s) e k = (e .0, e .1, k x es a (e .2))
 
   module _ (tag : ℕ) where
-    tuple-step : (n : ℕ) (x : Draft) (es : List Element) (before : List ℕ) → x .at ≤ length d → Listed known bs (x .height) es before → Agree d (λ y fs a. Listed known bs (y .height) fs (before ++ (a ∷ []))) (fields d known tag (ELEMENT ∷ []) (counting (suc n) x) es) (element bs hasValues (drop (x .at) d))
+    tuple-step : (n : ℕ) (x : Draft) (es : List Element) (before : List ℕ) → x .at ≤ length d → Listed known bs (x .height) es before
+        → Agree d (λ y fs a. Listed known bs (y .height) fs (before ++ (a ∷ []))) (fields d known tag (ELEMENT ∷ []) (counting (suc n) x) es) (element bs hasValues (drop (x .at) d))
     unfolding fields kept heightAfter grown pick numberAt widthOf faultOf refFault
     tuple-step n x es before h i =
         agree-last d known tag _ ELEMENT (counting (suc n) x) es _ (be (take 2 (drop (x .at) d))) (element-same d known tag bs pairs (counting (suc n) x) es h)
         (λ l z. listed-more (x .height) es before (record { name = x .name; ref = be (take 2 (drop (x .at) d)); card = x .card }) i (ltb-true _ _ (named-13 _ _ z)))
 
   -- a run of fields with no items after it
-  pub items-none : {A : Type 0} (tag : ℕ) (Q : Draft → List Element → A → Type 0) (n : ℕ) (x : Draft) (es : List Element) (p : Parsed A) → n ≡ 0 → Agree d Q (next x es []) p → Agree d Q (items d known tag [] n x es) p
+  pub items-none : {A : Type 0} (tag : ℕ) (Q : Draft → List Element → A → Type 0) (n : ℕ) (x : Draft) (es : List Element) (p : Parsed A)
+      → n ≡ 0 → Agree d Q (next x es []) p → Agree d Q (items d known tag [] n x es) p
   unfolding items
   items-none tag Q n x es p e a = rw e a
 
@@ -114,10 +127,12 @@ module _ (d : List ℕ) (known : List Known) (bs : List Block) (pairs : Pairs d 
   final-range y fs s v i = record { height = i .height; node = rw (only-of fs v (i .refs)); below = i .below }
 
   -- the only element
-  listed-one : (x : Draft) (es : List Element) (v : ℕ) → Fresh x es → v < length known → Listed known bs (atLeast (x .height) (getD known v noBlock .height + 1)) (es ++ (record { name = x .name; ref = v; card = x .card } ∷ [])) (v ∷ [])
+  listed-one : (x : Draft) (es : List Element) (v : ℕ) → Fresh x es → v < length known
+      → Listed known bs (atLeast (x .height) (getD known v noBlock .height + 1)) (es ++ (record { name = x .name; ref = v; card = x .card } ∷ [])) (v ∷ [])
   listed-one x es v f b = listed-more (x .height) es [] (record { name = x .name; ref = v; card = x .card }) (listed-none x es f) b
 
-  pub set-agrees : (i : ℕ) (x : Draft) (es : List Element) → x .at ≤ length d → Fresh x es → x .left ≡ 0 → Agree d (Final known bs 0) (andThen (rest d known 0 (SET-ELEMENT ∷ []) [] x es) (section d known 0 [] [])) (fieldsOf bs 0 i (drop (x .at) d))
+  pub set-agrees : (i : ℕ) (x : Draft) (es : List Element) → x .at ≤ length d → Fresh x es → x .left ≡ 0
+      → Agree d (Final known bs 0) (andThen (rest d known 0 (SET-ELEMENT ∷ []) [] x es) (section d known 0 [] [])) (fieldsOf bs 0 i (drop (x .at) d))
   unfolding fieldsOf pick kept heightAfter grown numberAt widthOf faultOf refFault
   set-agrees i x es h f e =
       agree-done 0 (λ y fs k. Final known bs 0 (counting 0 y) fs k) _ _ _
@@ -128,7 +143,10 @@ module _ (d : List ℕ) (known : List Known) (bs : List Block) (pairs : Pairs d 
       (refl, l, final-set _ _ _ (listed-one x es (be (take 2 (drop (x .at) d))) f (ltb-true _ _ (named-13 _ _ z))))))))
       (λ _ _ _ i. i)
 
-  pub array-agrees : (i : ℕ) (x : Draft) (es : List Element) → x .at ≤ length d → Fresh x es → Agree d (Final known bs 6) (andThen (rest d known 6 (TEXT ∷ BOOL ∷ ANCESTORS ∷ []) (ANCESTOR ∷ []) x es) (section d known 6 (ARRAY-ELEMENT ∷ DIMENSIONS ∷ BOUND ∷ []) [])) (fieldsOf bs 6 i (drop (x .at) d))
+  pub array-agrees : (i : ℕ) (x : Draft) (es : List Element) → x .at ≤ length d → Fresh x es
+      → Agree d (Final known bs 6)
+      (andThen (rest d known 6 (TEXT ∷ BOOL ∷ ANCESTORS ∷ []) (ANCESTOR ∷ []) x es) (section d known 6 (ARRAY-ELEMENT ∷ DIMENSIONS ∷ BOUND ∷ []) []))
+      (fieldsOf bs 6 i (drop (x .at) d))
   unfolding fieldsOf formatless pick section rest fields kept heightAfter grown numberAt widthOf faultOf refFault items
   array-agrees i x es h f =
       agree-then d (λ y fs s. Fresh y fs) _ _ (schema bs (drop (x .at) d)) _ _ (schema-agrees d known 6 bs pairs (λ y. refl) x es h f)
@@ -146,7 +164,8 @@ module _ (d : List ℕ) (known : List Known) (bs : List Block) (pairs : Pairs d 
       rest-end d known 6 _ [] (kept d known 6 BOUND x3) gs _
       (refl, l3, final-array _ _ s _ (listed-one x1 fs (be (take 2 (drop (y .at) d))) (record { height = g .height; free = g .free; none-yet = g .none-yet }) (ltb-true _ _ (named-13 _ _ z)))))))))))
 
-  pub range-agrees : (i : ℕ) (x : Draft) (es : List Element) → x .at ≤ length d → Fresh x es → Agree d (Final known bs 9) (andThen (rest d known 9 (TEXT ∷ BOOL ∷ ANCESTORS ∷ []) (ANCESTOR ∷ []) x es) (section d known 9 (RANGE-ELEMENT ∷ []) [])) (fieldsOf bs 9 i (drop (x .at) d))
+  pub range-agrees : (i : ℕ) (x : Draft) (es : List Element) → x .at ≤ length d → Fresh x es
+      → Agree d (Final known bs 9) (andThen (rest d known 9 (TEXT ∷ BOOL ∷ ANCESTORS ∷ []) (ANCESTOR ∷ []) x es) (section d known 9 (RANGE-ELEMENT ∷ []) [])) (fieldsOf bs 9 i (drop (x .at) d))
   unfolding fieldsOf formatless pick section rest fields kept heightAfter grown numberAt widthOf faultOf refFault items
   range-agrees i x es h f =
       agree-then d (λ y fs s. Fresh y fs) _ _ (schema bs (drop (x .at) d)) _ _ (schema-agrees d known 9 bs pairs (λ y. refl) x es h f)
@@ -157,29 +176,35 @@ module _ (d : List ℕ) (known : List Known) (bs : List Block) (pairs : Pairs d 
       rest-end d known 9 _ [] (kept d known 9 RANGE-ELEMENT x1) (grown d RANGE-ELEMENT x1 fs) _
       (refl, l1, final-range _ _ s _ (listed-one x1 fs (be (take 2 (drop (y .at) d))) (record { height = g .height; free = g .free; none-yet = g .none-yet }) (ltb-true _ _ (named-13 _ _ z)))))))
 
-  pub tuple-agrees : (i : ℕ) (x : Draft) (es : List Element) → x .at ≤ length d → Fresh x es → Agree d (Final known bs 4) (andThen (rest d known 4 (TEXT ∷ BOOL ∷ ANCESTORS ∷ []) (ANCESTOR ∷ []) x es) (section d known 4 (COUNT ∷ []) (ELEMENT ∷ []))) (fieldsOf bs 4 i (drop (x .at) d))
+  pub tuple-agrees : (i : ℕ) (x : Draft) (es : List Element) → x .at ≤ length d → Fresh x es
+      → Agree d (Final known bs 4) (andThen (rest d known 4 (TEXT ∷ BOOL ∷ ANCESTORS ∷ []) (ANCESTOR ∷ []) x es) (section d known 4 (COUNT ∷ []) (ELEMENT ∷ []))) (fieldsOf bs 4 i (drop (x .at) d))
   unfolding fieldsOf formatless pick section rest kept heightAfter grown numberAt widthOf types blockNode oldNode valuedTag
   tuple-agrees i x es h f =
       agree-then d (λ y fs s. Fresh y fs) _ _ (schema bs (drop (x .at) d)) _ _ (schema-agrees d known 4 bs pairs (λ y. refl) x es h f)
       (λ y fs s l g.
       agree-map d (λ y fs ts. Listed known bs (y .height) fs ts) _ (tuple-of s) (rest d known 4 (COUNT ∷ []) (ELEMENT ∷ []) (counting 0 y) fs) (counted (λ _. element bs hasValues) (drop (y .at) d))
-      (agree-run d known 4 COUNT (ELEMENT ∷ []) (λ _. element bs hasValues) (λ n y fs ts. Listed known bs (y .height) fs ts) (tuple-step 4) (counting 0 y) fs (count-same d known 4 bs pairs (counting 0 y) fs l) refl (listed-none y fs g))
+      (agree-run d known 4 COUNT (ELEMENT ∷ []) (λ _. element bs hasValues) (λ n y fs ts. Listed known bs (y .height) fs ts) (tuple-step 4)
+      (counting 0 y) fs (count-same d known 4 bs pairs (counting 0 y) fs l) refl (listed-none y fs g))
       (λ z gs ts i. record { height = i .height; node = rw (i .refs); below = i .below }))
 
   -- ---- blocks without elements
 
-  pub enumeration-agrees : (i : ℕ) (x : Draft) (es : List Element) → x .at ≤ length d → Fresh x es → Agree d (Final known bs 7) (andThen (rest d known 7 (TEXT ∷ BOOL ∷ ANCESTORS ∷ []) (ANCESTOR ∷ []) x es) (section d known 7 (COUNT ∷ []) (TEXT ∷ []))) (fieldsOf bs 7 i (drop (x .at) d))
+  pub enumeration-agrees : (i : ℕ) (x : Draft) (es : List Element) → x .at ≤ length d → Fresh x es
+      → Agree d (Final known bs 7) (andThen (rest d known 7 (TEXT ∷ BOOL ∷ ANCESTORS ∷ []) (ANCESTOR ∷ []) x es) (section d known 7 (COUNT ∷ []) (TEXT ∷ []))) (fieldsOf bs 7 i (drop (x .at) d))
   unfolding fieldsOf formatless pick section rest fields kept heightAfter grown numberAt widthOf types blockNode oldNode valuedTag heightOver
   enumeration-agrees i x es h f =
       agree-then d (λ y fs s. Fresh y fs) _ _ (schema bs (drop (x .at) d)) _ _ (schema-agrees d known 7 bs pairs (λ y. refl) x es h f)
       (λ y fs s l g.
       agree-map d (λ y fs ts. Fresh y fs) _ (enum-of s) (rest d known 7 (COUNT ∷ []) (TEXT ∷ []) (counting 0 y) fs) (counted (λ _. textField) (drop (y .at) d))
       (agree-run d known 7 COUNT (TEXT ∷ []) (λ _. textField) (λ n y fs ts. Fresh y fs)
-      (λ n x es before h f. agree-last d known 7 _ TEXT (counting (suc n) x) es _ (textAt d (x .at)) (text-same d known 7 bs pairs (counting (suc n) x) es h) (λ l z. record { height = f .height; free = f .free; none-yet = f .none-yet }))
+      (λ n x es before h f. agree-last d known 7 _ TEXT (counting (suc n) x) es _ (textAt d (x .at))
+      (text-same d known 7 bs pairs (counting (suc n) x) es h)
+      (λ l z. record { height = f .height; free = f .free; none-yet = f .none-yet }))
       (counting 0 y) fs (count-same d known 7 bs pairs (counting 0 y) fs l) refl (record { height = g .height; free = g .free; none-yet = g .none-yet }))
       (λ z gs ts i. record { height = i .height; node = refl; below = tt }))
 
-  pub object-agrees : (i : ℕ) (x : Draft) (es : List Element) → x .at ≤ length d → Fresh x es → x .left ≡ 0 → Agree d (Final known bs 10) (andThen (rest d known 10 (TEXT ∷ BOOL ∷ []) [] x es) (section d known 10 [] [])) (fieldsOf bs 10 i (drop (x .at) d))
+  pub object-agrees : (i : ℕ) (x : Draft) (es : List Element) → x .at ≤ length d → Fresh x es → x .left ≡ 0
+      → Agree d (Final known bs 10) (andThen (rest d known 10 (TEXT ∷ BOOL ∷ []) [] x es) (section d known 10 [] [])) (fieldsOf bs 10 i (drop (x .at) d))
   unfolding fieldsOf pick kept heightAfter grown numberAt widthOf types heightOver blockNode valuedTag
   object-agrees i x es h f e =
       agree-done 10 (λ y fs k. Final known bs 10 (counting 0 y) fs k) _ _ _
@@ -193,7 +218,8 @@ module _ (d : List ℕ) (known : List Known) (bs : List Block) (pairs : Pairs d 
       (refl, l′, record { height = f .height; node = refl; below = tt })))))))
       (λ _ _ _ i. i)
 
-  pub compound-agrees : (i : ℕ) (x : Draft) (es : List Element) → x .at ≤ length d → Fresh x es → Agree d (Final known bs 11) (andThen (rest d known 11 (TEXT ∷ BOOL ∷ OPERATION ∷ COUNT ∷ []) (OBJECT ∷ []) x es) (section d known 11 [] [])) (fieldsOf bs 11 i (drop (x .at) d))
+  pub compound-agrees : (i : ℕ) (x : Draft) (es : List Element) → x .at ≤ length d → Fresh x es
+      → Agree d (Final known bs 11) (andThen (rest d known 11 (TEXT ∷ BOOL ∷ OPERATION ∷ COUNT ∷ []) (OBJECT ∷ []) x es) (section d known 11 [] [])) (fieldsOf bs 11 i (drop (x .at) d))
   unfolding fieldsOf pick fields kept heightAfter grown numberAt widthOf types heightOver blockNode valuedTag
   compound-agrees i x es h f =
       agree-done 11 (λ y fs k. Final known bs 11 (counting 0 y) fs k) _ _ _
@@ -206,14 +232,19 @@ module _ (d : List ℕ) (known : List Known) (bs : List Block) (pairs : Pairs d 
       rest-cons d known 11 _ OPERATION (COUNT ∷ []) (OBJECT ∷ []) x2 es _
       (agree-field d known 11 _ OPERATION x2 es _ (be (take 1 (drop (x2 .at) d))) _ _ (operation-same d known 11 bs pairs x2 es l1) (λ l2 _.
       let x3 = kept d known 11 OPERATION x2 in
-      agree-map d (λ y fs ts. Fresh y fs) _ (λ cs. compound-type (record { name = textAt d (x .at); defined = be (take 1 (drop (x1 .at) d)); ancestors = [] }) (be (take 1 (drop (x2 .at) d))) cs) (rest d known 11 (COUNT ∷ []) (OBJECT ∷ []) x3 es) (counted (λ _. reference bs ofObjects) (drop (x3 .at) d))
+      agree-map d (λ y fs ts. Fresh y fs) _
+      (λ cs. compound-type (record { name = textAt d (x .at); defined = be (take 1 (drop (x1 .at) d)); ancestors = [] }) (be (take 1 (drop (x2 .at) d))) cs)
+      (rest d known 11 (COUNT ∷ []) (OBJECT ∷ []) x3 es) (counted (λ _. reference bs ofObjects) (drop (x3 .at) d))
       (agree-run d known 11 COUNT (OBJECT ∷ []) (λ _. reference bs ofObjects) (λ n y fs ts. Fresh y fs)
-      (λ n x es before h f. agree-last d known 11 _ OBJECT (counting (suc n) x) es _ (be (take 2 (drop (x .at) d))) (component-same d known 11 bs pairs (counting (suc n) x) es h (rw (f .free))) (λ l z. record { height = f .height; free = f .free; none-yet = f .none-yet }))
+      (λ n x es before h f. agree-last d known 11 _ OBJECT (counting (suc n) x) es _ (be (take 2 (drop (x .at) d)))
+      (component-same d known 11 bs pairs (counting (suc n) x) es h (rw (f .free)))
+      (λ l z. record { height = f .height; free = f .free; none-yet = f .none-yet }))
       x3 es (count-same d known 11 bs pairs x3 es l2) refl (record { height = f .height; free = f .free; none-yet = f .none-yet }))
       (λ z gs ts i. record { height = i .height; node = refl; below = tt }))))))))
       (λ _ _ _ i. i)
 
-  pub record-agrees : (i : ℕ) (x : Draft) (es : List Element) → x .at ≤ length d → Fresh x es → Agree d (Final known bs 13) (andThen (rest d known 13 (COUNT ∷ []) (TEXT ∷ ANY ∷ []) x es) (section d known 13 [] [])) (fieldsOf bs 13 i (drop (x .at) d))
+  pub record-agrees : (i : ℕ) (x : Draft) (es : List Element) → x .at ≤ length d → Fresh x es
+      → Agree d (Final known bs 13) (andThen (rest d known 13 (COUNT ∷ []) (TEXT ∷ ANY ∷ []) x es) (section d known 13 [] [])) (fieldsOf bs 13 i (drop (x .at) d))
   unfolding fieldsOf recordElement pick fields kept heightAfter grown numberAt widthOf types heightOver blockNode valuedTag
   record-agrees i x es h f =
       agree-done 13 (λ y fs k. Final known bs 13 (counting 0 y) fs k) _ _ _
@@ -223,17 +254,23 @@ module _ (d : List ℕ) (known : List Known) (bs : List Block) (pairs : Pairs d 
       let x1 = counting (suc n) x in
       agree-field d known 13 _ TEXT x1 es _ (textAt d (x .at)) _ _ (text-same d known 13 bs pairs x1 es h) (λ l _.
       let x2 = kept d known 13 TEXT x1 in
-      agree-field d known 13 _ ANY x2 es _ (be (take 2 (drop (x2 .at) d))) _ _ (any-same d known 13 bs pairs x2 es l) (λ l1 _. (refl, l1, record { height = f .height; free = f .free; none-yet = f .none-yet }))))
+      agree-field d known 13 _ ANY x2 es _ (be (take 2 (drop (x2 .at) d))) _ _ (any-same d known 13 bs pairs x2 es l)
+      (λ l1 _. (refl, l1, record { height = f .height; free = f .free; none-yet = f .none-yet }))))
       x es (count-same d known 13 bs pairs x es h) refl (record { height = f .height; free = f .free; none-yet = f .none-yet }))
       (λ z gs ts i. record { height = i .height; node = refl; below = tt }))
       (λ _ _ _ i. i)
 
   -- ---- named elements
 
-  listed-map : {A : Type 0} (type : A → ℕ) (h : ℕ) (es : List Element) (before : List A) (e : Element) (a : A) → Listed known bs h es (map type before) → e .ref ≡ type a → e .ref < length known → Listed known bs (atLeast h (getD known (e .ref) noBlock .height + 1)) (es ++ (e ∷ [])) (map type (before ++ (a ∷ [])))
+  listed-map : {A : Type 0} (type : A → ℕ) (h : ℕ) (es : List Element) (before : List A) (e : Element) (a : A)
+      → Listed known bs h es (map type before) → e .ref ≡ type a → e .ref < length known
+      → Listed known bs (atLeast h (getD known (e .ref) noBlock .height + 1)) (es ++ (e ∷ [])) (map type (before ++ (a ∷ [])))
   listed-map type h es before e a l r b = rw (map-append type before (a ∷ []), ← r) (listed-more h es (map type before) e l b)
 
-  named-step : (n : ℕ) (x : Draft) (es : List Element) (before : List NamedElement) → x .at ≤ length d → Named d known bs (λ (e : NamedElement). e .type) (λ (e : NamedElement). e .name) x es before → Agree d (λ y fs a. Named d known bs (λ (e : NamedElement). e .type) (λ (e : NamedElement). e .name) y fs (before ++ (a ∷ []))) (fields d known 5 (NAME ∷ ELEMENT ∷ []) (counting (suc n) x) es) (tupleElement bs before (drop (x .at) d))
+  named-step : (n : ℕ) (x : Draft) (es : List Element) (before : List NamedElement) → x .at ≤ length d
+      → Named d known bs (λ (e : NamedElement). e .type) (λ (e : NamedElement). e .name) x es before
+      → Agree d (λ y fs a. Named d known bs (λ (e : NamedElement). e .type) (λ (e : NamedElement). e .name) y fs (before ++ (a ∷ [])))
+      (fields d known 5 (NAME ∷ ELEMENT ∷ []) (counting (suc n) x) es) (tupleElement bs before (drop (x .at) d))
   unfolding tupleElement fields kept heightAfter grown pick numberAt widthOf faultOf refFault
   named-step n x es before h i =
       let x1 = counting (suc n) x in
@@ -250,21 +287,30 @@ module _ (d : List ℕ) (known : List Known) (bs : List Block) (pairs : Pairs d 
         },
       )))
 
-  pub named-tuple-agrees : (i : ℕ) (x : Draft) (es : List Element) → x .at ≤ length d → Fresh x es → Agree d (Final known bs 5) (andThen (rest d known 5 (TEXT ∷ BOOL ∷ ANCESTORS ∷ []) (ANCESTOR ∷ []) x es) (section d known 5 (COUNT ∷ []) (NAME ∷ ELEMENT ∷ []))) (fieldsOf bs 5 i (drop (x .at) d))
+  pub named-tuple-agrees : (i : ℕ) (x : Draft) (es : List Element) → x .at ≤ length d → Fresh x es
+      → Agree d (Final known bs 5)
+      (andThen (rest d known 5 (TEXT ∷ BOOL ∷ ANCESTORS ∷ []) (ANCESTOR ∷ []) x es) (section d known 5 (COUNT ∷ []) (NAME ∷ ELEMENT ∷ [])))
+      (fieldsOf bs 5 i (drop (x .at) d))
   unfolding fieldsOf formatless pick section rest kept heightAfter grown numberAt widthOf types blockNode oldNode valuedTag
   named-tuple-agrees i x es h f =
       agree-then d (λ y fs s. Fresh y fs) _ _ (schema bs (drop (x .at) d)) _ _ (schema-agrees d known 5 bs pairs (λ y. refl) x es h f)
       (λ y fs s l g.
-      agree-map d (λ y fs ts. Named d known bs (λ (e : NamedElement). e .type) (λ (e : NamedElement). e .name) y fs ts) _ (named-tuple s) (rest d known 5 (COUNT ∷ []) (NAME ∷ ELEMENT ∷ []) (counting 0 y) fs) (counted (tupleElement bs) (drop (y .at) d))
-      (agree-run d known 5 COUNT (NAME ∷ ELEMENT ∷ []) (tupleElement bs) (λ n y fs ts. Named d known bs (λ (e : NamedElement). e .type) (λ (e : NamedElement). e .name) y fs ts) named-step (counting 0 y) fs (count-same d known 5 bs pairs (counting 0 y) fs l) refl (record { listed = listed-none y fs g; names = rw (g .none-yet) }))
+      agree-map d (λ y fs ts. Named d known bs (λ (e : NamedElement). e .type) (λ (e : NamedElement). e .name) y fs ts) _ (named-tuple s)
+      (rest d known 5 (COUNT ∷ []) (NAME ∷ ELEMENT ∷ []) (counting 0 y) fs) (counted (tupleElement bs) (drop (y .at) d))
+      (agree-run d known 5 COUNT (NAME ∷ ELEMENT ∷ []) (tupleElement bs)
+      (λ n y fs ts. Named d known bs (λ (e : NamedElement). e .type) (λ (e : NamedElement). e .name) y fs ts) named-step (counting 0 y) fs
+      (count-same d known 5 bs pairs (counting 0 y) fs l) refl (record { listed = listed-none y fs g; names = rw (g .none-yet) }))
       (λ z gs ts i. record { height = i .listed .height; node = rw (i .listed .refs); below = i .listed .below }))
 
   -- ---- shapes
 
   abbrev inputs : List Known → List Block → Draft → List Element → List InputElement → Type 0
-  inputs k b x es before = Shaped (λ (e : InputElement). e .type) (λ (e : InputElement). e .cardinal) k b x es before × (map (λ (e : Element). textAt d (e .name)) es ≡ map (λ (e : InputElement). e .name) before)
+  inputs k b x es before =
+      Shaped (λ (e : InputElement). e .type) (λ (e : InputElement). e .cardinal) k b x es before × (map (λ (e : Element). textAt d (e .name)) es ≡ map (λ (e : InputElement). e .name) before)
 
-  input-step : (n : ℕ) (x : Draft) (es : List Element) (before : List InputElement) → x .at ≤ length d → inputs known bs x es before → Agree d (λ y fs a. inputs known bs y fs (before ++ (a ∷ []))) (fields d known 8 (INPUT-FLAGS ∷ CARDINALITY ∷ NAME ∷ ELEMENT ∷ []) (counting (suc n) x) es) (inputElement bs before (drop (x .at) d))
+  input-step : (n : ℕ) (x : Draft) (es : List Element) (before : List InputElement) → x .at ≤ length d → inputs known bs x es before
+      → Agree d (λ y fs a. inputs known bs y fs (before ++ (a ∷ [])))
+      (fields d known 8 (INPUT-FLAGS ∷ CARDINALITY ∷ NAME ∷ ELEMENT ∷ []) (counting (suc n) x) es) (inputElement bs before (drop (x .at) d))
   unfolding inputElement fields kept heightAfter grown pick numberAt widthOf faultOf refFault
   input-step n x es before h i =
       let x1 = counting (suc n) x in
@@ -288,19 +334,26 @@ module _ (d : List ℕ) (known : List Known) (bs : List Block) (pairs : Pairs d 
         ),
       )))))
 
-  pub input-agrees : (i : ℕ) (x : Draft) (es : List Element) → x .at ≤ length d → Fresh x es → Agree d (Final known bs 8) (andThen (rest d known 8 (COUNT ∷ []) (INPUT-FLAGS ∷ CARDINALITY ∷ NAME ∷ ELEMENT ∷ []) x es) (section d known 8 [] [])) (fieldsOf bs 8 i (drop (x .at) d))
+  pub input-agrees : (i : ℕ) (x : Draft) (es : List Element) → x .at ≤ length d → Fresh x es
+      → Agree d (Final known bs 8) (andThen (rest d known 8 (COUNT ∷ []) (INPUT-FLAGS ∷ CARDINALITY ∷ NAME ∷ ELEMENT ∷ []) x es) (section d known 8 [] [])) (fieldsOf bs 8 i (drop (x .at) d))
   unfolding fieldsOf pick kept heightAfter grown numberAt widthOf types blockNode oldNode valuedTag
   input-agrees i x es h f =
       agree-done 8 (λ y fs k. Final known bs 8 (counting 0 y) fs k) _ _ _
       (agree-map d (inputs known bs) _ input-shape (rest d known 8 (COUNT ∷ []) (INPUT-FLAGS ∷ CARDINALITY ∷ NAME ∷ ELEMENT ∷ []) x es) (counted (inputElement bs) (drop (x .at) d))
-      (agree-run d known 8 COUNT (INPUT-FLAGS ∷ CARDINALITY ∷ NAME ∷ ELEMENT ∷ []) (inputElement bs) (λ n y fs ts. inputs known bs y fs ts) input-step x es (count-same d known 8 bs pairs x es h) refl (record { listed = listed-none x es f; cards = rw (f .none-yet) }, rw (f .none-yet)))
+      (agree-run d known 8 COUNT (INPUT-FLAGS ∷ CARDINALITY ∷ NAME ∷ ELEMENT ∷ []) (inputElement bs) (λ n y fs ts. inputs known bs y fs ts)
+      input-step x es (count-same d known 8 bs pairs x es h) refl
+      (record { listed = listed-none x es f; cards = rw (f .none-yet) }, rw (f .none-yet)))
       (λ z gs ts i. record { height = i .0 .listed .height; node = rw (i .0 .listed .refs, i .0 .cards); below = i .0 .listed .below }))
       (λ _ _ _ i. i)
 
   abbrev outputs : ℕ → List Known → List Block → Draft → List Element → List OutputElement → Type 0
   outputs free k b x es before = Shaped (λ (e : OutputElement). e .type) (λ (e : OutputElement). e .cardinal) k b x es before × (x .free ≡ free)
 
-  output-step : (free n : ℕ) (x : Draft) (es : List Element) (before : List OutputElement) → x .at ≤ length d → outputs free known bs x es before → Agree d (λ y fs a. outputs free known bs y fs (before ++ (a ∷ []))) (fields d known 1 (SHAPE-FLAGS ∷ CARDINALITY ∷ TEXT ∷ ELEMENT ∷ OBJECT ∷ []) (counting (suc n) x) es) (outputElement bs free (drop (x .at) d))
+  output-step : (free n : ℕ) (x : Draft) (es : List Element) (before : List OutputElement) → x .at ≤ length d
+      → outputs free known bs x es before
+      → Agree d (λ y fs a. outputs free known bs y fs (before ++ (a ∷ [])))
+      (fields d known 1 (SHAPE-FLAGS ∷ CARDINALITY ∷ TEXT ∷ ELEMENT ∷ OBJECT ∷ []) (counting (suc n) x) es)
+      (outputElement bs free (drop (x .at) d))
   unfolding outputElement fields kept heightAfter grown pick numberAt widthOf faultOf refFault
   output-step free n x es before h i =
       let x1 = counting (suc n) x in
@@ -314,7 +367,15 @@ module _ (d : List ℕ) (known : List Known) (bs : List Block) (pairs : Pairs d 
       let x5 = kept d known 1 ELEMENT x4 in
       let e : Element = record { name = x .name; ref = be (take 2 (drop (x4 .at) d)); card = be (take 1 (drop (x2 .at) d)) } in
       agree-field d known 1 _ OBJECT x5 (es ++ (e ∷ [])) _ (be (take 2 (drop (x5 .at) d))) _ _ (object-same d known 1 bs pairs x5 (es ++ (e ∷ [])) l4 free (i .1)) (λ l5 _.
-      let a : OutputElement = record { flags = be (take 4 (drop (x .at) d)); cardinal = be (take 1 (drop (x2 .at) d)); name = textAt d (x3 .at); type = be (take 2 (drop (x4 .at) d)); source = be (take 2 (drop (x5 .at) d)) } in (
+      let a : OutputElement =
+      record {
+        flags = be (take 4 (drop (x .at) d));
+        cardinal = be (take 1 (drop (x2 .at) d));
+        name = textAt d (x3 .at);
+        type = be (take 2 (drop (x4 .at) d));
+        source = be (take 2 (drop (x5 .at) d));
+      }
+      in (
         refl,
         l5,
         (
@@ -326,7 +387,10 @@ module _ (d : List ℕ) (known : List Known) (bs : List Block) (pairs : Pairs d 
         ),
       ))))))
 
-  pub output-agrees : (i : ℕ) (x : Draft) (es : List Element) → x .at ≤ length d → Fresh x es → Agree d (Final known bs 1) (andThen (rest d known 1 (FREE ∷ OBJECT ∷ COUNT ∷ []) (SHAPE-FLAGS ∷ CARDINALITY ∷ TEXT ∷ ELEMENT ∷ OBJECT ∷ []) x es) (section d known 1 [] [])) (fieldsOf bs 1 i (drop (x .at) d))
+  pub output-agrees : (i : ℕ) (x : Draft) (es : List Element) → x .at ≤ length d → Fresh x es
+      → Agree d (Final known bs 1)
+      (andThen (rest d known 1 (FREE ∷ OBJECT ∷ COUNT ∷ []) (SHAPE-FLAGS ∷ CARDINALITY ∷ TEXT ∷ ELEMENT ∷ OBJECT ∷ []) x es) (section d known 1 [] []))
+      (fieldsOf bs 1 i (drop (x .at) d))
   unfolding fieldsOf pick kept heightAfter grown numberAt widthOf types blockNode oldNode valuedTag
   output-agrees i x es h f =
       agree-done 1 (λ y fs k. Final known bs 1 (counting 0 y) fs k) _ _ _
@@ -337,14 +401,19 @@ module _ (d : List ℕ) (known : List Known) (bs : List Block) (pairs : Pairs d 
       rest-cons d known 1 _ OBJECT (COUNT ∷ []) (SHAPE-FLAGS ∷ CARDINALITY ∷ TEXT ∷ ELEMENT ∷ OBJECT ∷ []) x1 es _
       (agree-field d known 1 _ OBJECT x1 es _ (be (take 2 (drop (x1 .at) d))) _ _ (object-same d known 1 bs pairs x1 es l1 free refl) (λ l2 _.
       let x2 = kept d known 1 OBJECT x1 in
-      agree-map d (outputs free known bs) _ (output-shape free (be (take 2 (drop (x1 .at) d)))) (rest d known 1 (COUNT ∷ []) (SHAPE-FLAGS ∷ CARDINALITY ∷ TEXT ∷ ELEMENT ∷ OBJECT ∷ []) x2 es) (counted (λ _. outputElement bs free) (drop (x2 .at) d))
-      (agree-run d known 1 COUNT (SHAPE-FLAGS ∷ CARDINALITY ∷ TEXT ∷ ELEMENT ∷ OBJECT ∷ []) (λ _. outputElement bs free) (λ n y fs ts. outputs free known bs y fs ts) (output-step free) x2 es (count-same d known 1 bs pairs x2 es l2) refl (record { listed = listed-none x es f; cards = rw (f .none-yet) }, refl))
+      agree-map d (outputs free known bs) _ (output-shape free (be (take 2 (drop (x1 .at) d))))
+      (rest d known 1 (COUNT ∷ []) (SHAPE-FLAGS ∷ CARDINALITY ∷ TEXT ∷ ELEMENT ∷ OBJECT ∷ []) x2 es)
+      (counted (λ _. outputElement bs free) (drop (x2 .at) d))
+      (agree-run d known 1 COUNT (SHAPE-FLAGS ∷ CARDINALITY ∷ TEXT ∷ ELEMENT ∷ OBJECT ∷ []) (λ _. outputElement bs free)
+      (λ n y fs ts. outputs free known bs y fs ts) (output-step free) x2 es (count-same d known 1 bs pairs x2 es l2) refl
+      (record { listed = listed-none x es f; cards = rw (f .none-yet) }, refl))
       (λ z gs ts i. record { height = i .0 .listed .height; node = rw (i .0 .listed .refs, i .0 .cards); below = i .0 .listed .below }))))))
       (λ _ _ _ i. i)
 
   -- ---- annotations
 
-  pub annotation-agrees : (x : Draft) (es : List Element) → x .at ≤ length d → x .left ≡ 0 → Agree d (λ y fs b. b ≡ none) (andThen (rest d known 127 (ANY ∷ TEXT ∷ TEXT ∷ []) [] x es) (section d known 127 [] [])) (annotationBlock bs (drop (x .at) d))
+  pub annotation-agrees : (x : Draft) (es : List Element) → x .at ≤ length d → x .left ≡ 0
+      → Agree d (λ y fs b. b ≡ none) (andThen (rest d known 127 (ANY ∷ TEXT ∷ TEXT ∷ []) [] x es) (section d known 127 [] [])) (annotationBlock bs (drop (x .at) d))
   unfolding annotationBlock pick kept grown numberAt widthOf
   annotation-agrees x es h e =
       agree-done 127 (λ y fs b. b ≡ none) _ _ _

@@ -1,4 +1,4 @@
--- Each field of a block, by both definitions: the same bytes, the same rule. Assumes nothing.
+-- Each field of a block, by both definitions: the same bytes, the same rule.
 use mathlib.Core.Path.{_≡_, refl, ap, sym, _∙_}
 use mathlib.Core.Bool.{Bool, true, false, not}
 use mathlib.Core.List.{List, [], _∷_, map}
@@ -9,10 +9,17 @@ use native.Mathlib.Nat.{not-suc-le-zero}
 use lib.Dec.{leb, ltb, eqb}
 use lib.ListN.{length, take, drop, getD, getElem?}
 use borrow.Author.Tests.{leb-true, leb-false, eqb-true, eqb-false, ne-eqb, eq-eqb, ltb-true, ltb-false, lt-ltb, le-ltb}
-use Rattle.descriptor_fields.specs.Layouts.{ID, TEXT, NAME, BOOL, FREE, OPERATION, CARDINALITY, SHAPE-FLAGS, INPUT-FLAGS, BOUND, DIMENSIONS, ANCESTORS, COUNT, ANCESTOR, ANY, OBJECT, ELEMENT, SET-ELEMENT, ARRAY-ELEMENT, RANGE-ELEMENT, valued as valuedTag, objectType as objectTag}
-use Rattle.descriptor_fields.specs.Fields.{Known, noBlock, Element, idAt, extent, widthOf, textAt, numberAt, taken, idFault, named, textFault, permits, numberFault, formatless, countFault, decides, fits, kindFault, refFault, fault as faultOf}
+use Rattle.descriptor_fields.specs.Layouts.{ID, TEXT, NAME, BOOL, FREE, OPERATION, CARDINALITY, SHAPE-FLAGS, INPUT-FLAGS, BOUND, DIMENSIONS}
+use Rattle.descriptor_fields.specs.Layouts.{ANCESTORS, COUNT, ANCESTOR, ANY, OBJECT, ELEMENT, SET-ELEMENT, ARRAY-ELEMENT, RANGE-ELEMENT}
+use Rattle.descriptor_fields.specs.Layouts.{valued as valuedTag, objectType as objectTag}
+use Rattle.descriptor_fields.specs.Fields.{Known, noBlock, Element, idAt, extent, widthOf, textAt, numberAt, taken, idFault, named}
+use Rattle.descriptor_fields.specs.Fields.{textFault, permits, numberFault, formatless, countFault, decides, fits, kindFault, refFault}
+use Rattle.descriptor_fields.specs.Fields.{fault as faultOf}
 use Rattle.descriptor_fields.specs.declared.Draft.{Draft}
-use Rattle.protocol.specs.Descriptors.{Block, unparsed, parsed, Reader, numberField, passing, textField, boolField, operation, cardinalOf, outputFlags, inputFlags, dimensions, unbound, itemCount, newName, newId, refersTo, reference, anyBlock, objectReference, element, heightAt, hasValues, ofObjects, setElement, arrayElement, rangeElement, Text}
+use Rattle.protocol.specs.Descriptors.{Block, unparsed, parsed, Reader, numberField, passing, textField, boolField, operation, cardinalOf}
+use Rattle.protocol.specs.Descriptors.{outputFlags, inputFlags, dimensions, unbound, itemCount, newName, newId, refersTo, reference}
+use Rattle.protocol.specs.Descriptors.{anyBlock, objectReference, element, heightAt, hasValues, ofObjects, setElement, arrayElement}
+use Rattle.protocol.specs.Descriptors.{rangeElement, Text}
 use Rattle.descriptor_agree.proofs.Agree.{judged, verdict, verdict-pick, number-at, checked-at, checked-more, judged-then, text-at, pick-at}
 use Rattle.protocol.specs.Numbers.{pick, be, any, sameBytes}
 use Rattle.protocol.specs.Text.{wellFormed}
@@ -127,7 +134,9 @@ module _ (d : List ℕ) (known : List Known) (tag : ℕ) (bs : List Block) (pair
   here : List ℕ
   here = drop (x .at) d
 
-  ruled : (c w n : ℕ) (rule : ℕ → Bool) → extent d c (x .at) ≡ w → faultOf d known tag c x es ≡ pick (rule (be (take w (drop (x .at) d)))) 0 (suc n) → Same c (passing (suc n) rule (numberField w)) (be (take w (drop (x .at) d)))
+  ruled : (c w n : ℕ) (rule : ℕ → Bool) → extent d c (x .at) ≡ w
+      → faultOf d known tag c x es ≡ pick (rule (be (take w (drop (x .at) d)))) 0 (suc n)
+      → Same c (passing (suc n) rule (numberField w)) (be (take w (drop (x .at) d)))
   ruled c w n rule e f = checked-at d (x .at) inside n rule (numberField w) w (be (take w (drop (x .at) d))) (number-at d (x .at) inside w) ∙ rw (e, f)
 
   pub bool-same : Same BOOL boolField (be (take 1 (drop (x .at) d)))
@@ -196,7 +205,9 @@ module _ (d : List ℕ) (known : List Known) (tag : ℕ) (bs : List Block) (pair
   -- ids and texts
   pub id-same : Same ID (newId bs) (be (take 16 (drop (x .at) d)))
   unfolding newId extent faultOf idFault idAt any pick
-  id-same = ruled ID 16 14 (λ i. not (any (eqb i) (0 ∷ map (λ (b : Block). b .id) bs))) refl (rw (pairs-taken d known bs pairs (be (take 16 (drop (x .at) d)))) (two (eqb (be (take 16 (drop (x .at) d))) 0) (any (eqb (be (take 16 (drop (x .at) d)))) (map (λ (b : Block). b .id) bs))))
+  id-same =
+      ruled ID 16 14 (λ i. not (any (eqb i) (0 ∷ map (λ (b : Block). b .id) bs))) refl
+      (rw (pairs-taken d known bs pairs (be (take 16 (drop (x .at) d)))) (two (eqb (be (take 16 (drop (x .at) d))) 0) (any (eqb (be (take 16 (drop (x .at) d)))) (map (λ (b : Block). b .id) bs))))
     where
       two : (s t : Bool) → _≡_ {A = ℕ} (pick s 15 (pick t 15 0)) (pick (not (pick s true t)) 0 15)
       two true t = refl
@@ -210,7 +221,10 @@ module _ (d : List ℕ) (known : List Known) (tag : ℕ) (bs : List Block) (pair
   -- a name that is not among the others'
   pub name-same : (others : List Text) → map (λ (e : Element). textAt d (e .name)) es ≡ others → Same NAME (newName others) (textAt d (x .at))
   unfolding newName extent faultOf textFault named pick
-  name-same others e = checked-more d (x .at) inside 15 (pick (wellFormed (textAt d (x .at))) 0 12) (λ t. not (any (λ o. sameBytes o t) others)) textField _ (textAt d (x .at)) (text-at d (x .at) inside) ∙ rw (← e, ← heard d es (textAt d (x .at))) (ap (λ (n : ℕ). judged d (x .at) (extent d NAME (x .at)) n (textAt d (x .at))) (two (wellFormed (textAt d (x .at))) (any (λ e. sameBytes (textAt d (e .name)) (textAt d (x .at))) es)))
+  name-same others e =
+      checked-more d (x .at) inside 15 (pick (wellFormed (textAt d (x .at))) 0 12) (λ t. not (any (λ o. sameBytes o t) others)) textField _ (textAt d (x .at)) (text-at d (x .at) inside)
+      ∙ rw (← e, ← heard d es (textAt d (x .at))) (ap (λ (n : ℕ). judged d (x .at) (extent d NAME (x .at)) n (textAt d (x .at)))
+      (two (wellFormed (textAt d (x .at))) (any (λ e. sameBytes (textAt d (e .name)) (textAt d (x .at))) es)))
     where
       two : (s t : Bool) → _≡_ {A = ℕ} (pick (eqb (pick s 0 12) 0) (pick (not t) 0 16) (pick s 0 12)) (pick s (pick t 16 0) 12)
       two true true = refl
@@ -219,20 +233,32 @@ module _ (d : List ℕ) (known : List Known) (tag : ℕ) (bs : List Block) (pair
 
   -- references: what is asked of the block is the same
   module _ (old : Known → Bool) (new : Block → Bool) (same : (k : Known) (b : Block) → Pair d k b → old k ≡ new b) where
-    reference-at : reference bs new (drop (x .at) d) ≡ judged d (x .at) 2 (pick (ltb (be (take 2 (drop (x .at) d))) (length known)) (pick (old (getD known (be (take 2 (drop (x .at) d))) noBlock)) 0 14) 13) (be (take 2 (drop (x .at) d)))
+    reference-at : reference bs new (drop (x .at) d)
+        ≡ judged d (x .at) 2 (pick (ltb (be (take 2 (drop (x .at) d))) (length known)) (pick (old (getD known (be (take 2 (drop (x .at) d))) noBlock)) 0 14) 13) (be (take 2 (drop (x .at) d)))
     unfolding reference judged refersTo pick verdict
-    reference-at = rw (number-at d (x .at) inside 2, judged-then d (x .at) inside 2 (be (take 2 (drop (x .at) d))) (λ t. refersTo bs new t (getElem? bs t))) (go (be (take 2 (drop (x .at) d))) (ltb (be (take 2 (drop (x .at) d))) (length known)) refl)
+    reference-at =
+        rw (number-at d (x .at) inside 2, judged-then d (x .at) inside 2 (be (take 2 (drop (x .at) d))) (λ t. refersTo bs new t (getElem? bs t)))
+        (go (be (take 2 (drop (x .at) d))) (ltb (be (take 2 (drop (x .at) d))) (length known)) refl)
       where
-        go : (v : ℕ) (t : Bool) → ltb v (length known) ≡ t → pick (leb (x .at + 2) (length d)) (refersTo bs new v (getElem? bs v) (drop (x .at + 2) d)) (unparsed 10) ≡ judged d (x .at) 2 (pick t (pick (old (getD known v noBlock)) 0 14) 13) v
+        go : (v : ℕ) (t : Bool) → ltb v (length known) ≡ t
+            → pick (leb (x .at + 2) (length d)) (refersTo bs new v (getElem? bs v) (drop (x .at + 2) d)) (unparsed 10) ≡ judged d (x .at) 2 (pick t (pick (old (getD known v noBlock)) 0 14) 13) v
         go v true e =
             let q = pairs-at d known bs pairs v (ltb-true v (length known) e) in
             rw (q .1, same (getD known v noBlock) (q .0) (q .2), pick-at (new (q .0))) (rw (verdict-pick (new (q .0)) 13 (parsed v (drop (x .at + 2) d))))
         go v false e = rw (pairs-past d known bs pairs v (ltb-false v (length known) e)) refl
 
     -- the height of the block comes after its kind
-    element-at : element bs new (drop (x .at) d) ≡ judged d (x .at) 2 (pick (ltb (be (take 2 (drop (x .at) d))) (length known)) (pick (old (getD known (be (take 2 (drop (x .at) d))) noBlock)) (pick (leb 32 (getD known (be (take 2 (drop (x .at) d))) noBlock .height)) 17 0) 14) 13) (be (take 2 (drop (x .at) d)))
+    element-at : element bs new (drop (x .at) d)
+        ≡ judged d (x .at) 2
+        (pick (ltb (be (take 2 (drop (x .at) d))) (length known))
+        (pick (old (getD known (be (take 2 (drop (x .at) d))) noBlock)) (pick (leb 32 (getD known (be (take 2 (drop (x .at) d))) noBlock .height)) 17 0) 14) 13)
+        (be (take 2 (drop (x .at) d)))
     unfolding element
-    element-at = checked-more d (x .at) inside 16 _ (λ t. ltb (heightAt bs t) 32) (reference bs new) 2 (be (take 2 (drop (x .at) d))) reference-at ∙ ap (λ (n : ℕ). judged d (x .at) 2 n (be (take 2 (drop (x .at) d)))) (rw (pairs-height d known bs pairs) (tests (ltb (be (take 2 (drop (x .at) d))) (length known)) (old (getD known (be (take 2 (drop (x .at) d))) noBlock)) (heightAt bs (be (take 2 (drop (x .at) d))))))
+    element-at =
+        checked-more d (x .at) inside 16 _ (λ t. ltb (heightAt bs t) 32) (reference bs new) 2 (be (take 2 (drop (x .at) d))) reference-at
+        ∙ ap (λ (n : ℕ). judged d (x .at) 2 n (be (take 2 (drop (x .at) d))))
+        (rw (pairs-height d known bs pairs) (tests (ltb (be (take 2 (drop (x .at) d))) (length known))
+        (old (getD known (be (take 2 (drop (x .at) d))) noBlock)) (heightAt bs (be (take 2 (drop (x .at) d))))))
 
   pub any-same : Same ANY (anyBlock bs) (be (take 2 (drop (x .at) d)))
   unfolding anyBlock extent faultOf refFault kindFault fits numberAt widthOf pick
@@ -246,7 +272,11 @@ module _ (d : List ℕ) (known : List Known) (tag : ℕ) (bs : List Block) (pair
   unfolding objectReference extent faultOf refFault kindFault fits numberAt widthOf pick
   object-same free e = rw e (go (eqb free 1))
     where
-      go : (t : Bool) → pick t (numberField 2) (reference bs ofObjects) (drop (x .at) d) ≡ judged d (x .at) 2 (pick t 0 (pick (ltb (be (take 2 (drop (x .at) d))) (length known)) (pick (objectTag (getD known (be (take 2 (drop (x .at) d))) noBlock .tag)) 0 14) 13)) (be (take 2 (drop (x .at) d)))
+      go : (t : Bool)
+          → pick t (numberField 2) (reference bs ofObjects) (drop (x .at) d)
+          ≡ judged d (x .at) 2
+          (pick t 0 (pick (ltb (be (take 2 (drop (x .at) d))) (length known)) (pick (objectTag (getD known (be (take 2 (drop (x .at) d))) noBlock .tag)) 0 14) 13))
+          (be (take 2 (drop (x .at) d)))
       go true = number-at d (x .at) inside 2
       go false = reference-at (λ k. objectTag (k .tag)) ofObjects (object-fit d)
 

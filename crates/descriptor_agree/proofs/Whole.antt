@@ -1,4 +1,4 @@
--- A descriptor's blocks, its root and its plan, by both definitions. Assumes nothing.
+-- A descriptor's blocks, its root and its plan, by both definitions.
 use mathlib.Core.Path.{_≡_, refl, ap, sym, subst, _∙_}
 use mathlib.Core.Bool.{Bool, true, false, not}
 use mathlib.Core.List.{List, [], _∷_, _++_}
@@ -15,8 +15,15 @@ use Rattle.descriptor_fields.specs.Layouts.{knownTag, indexed, valued as valued
 use Rattle.descriptor_fields.specs.Fields.{Element, idAt}
 use Rattle.descriptor_fields.specs.declared.Draft.{Draft}
 use Rattle.descriptor_blocks.specs.Blocks.{Item, Reading, stop, next, blockFrom}
-use Rattle.descriptor_blocks.specs.Descriptor.{Block as OldBlock, Blocks, faulty, whole, summary, summaries, allWords, nodeAt, nodeOf as oldNode, wordsOf as oldWordsOf, nodeWords as oldWords, blockOf, extended, full, onward as oldOnward, blocksFrom as oldFrom, blocksOf as oldBlocks, Description as OldDescription, refusedBy, noType, described as oldDescribed, indexOf, tagAt, rooted as oldRooted, descriptionOf, planWords as oldPlan, Compiled, refusedPlan, plan, planOf, roomed as oldRoomed, compileOf}
-use Rattle.protocol.specs.Descriptors.{Block, BlockKind, types, Parsed, unparsed, parsed, annotationBlock, indexedBlock, tagged, block, bareForm, withBlock, afterBlock, readBlocks, allBlocks, hasValues, DescribedType, no-type, block-type, rootIn, rootedAt, rootedBlocks, describe}
+use Rattle.descriptor_blocks.specs.Descriptor.{Block as OldBlock, Blocks, faulty, whole, summary, summaries, allWords, nodeAt}
+use Rattle.descriptor_blocks.specs.Descriptor.{nodeOf as oldNode, wordsOf as oldWordsOf, nodeWords as oldWords, blockOf, extended, full}
+use Rattle.descriptor_blocks.specs.Descriptor.{onward as oldOnward, blocksFrom as oldFrom, blocksOf as oldBlocks}
+use Rattle.descriptor_blocks.specs.Descriptor.{Description as OldDescription, refusedBy, noType, described as oldDescribed, indexOf, tagAt}
+use Rattle.descriptor_blocks.specs.Descriptor.{rooted as oldRooted, descriptionOf, planWords as oldPlan, Compiled, refusedPlan, plan}
+use Rattle.descriptor_blocks.specs.Descriptor.{planOf, roomed as oldRoomed, compileOf}
+use Rattle.protocol.specs.Descriptors.{Block, BlockKind, types, Parsed, unparsed, parsed, annotationBlock, indexedBlock, tagged, block}
+use Rattle.protocol.specs.Descriptors.{bareForm, withBlock, afterBlock, readBlocks, allBlocks, hasValues, DescribedType, no-type}
+use Rattle.protocol.specs.Descriptors.{block-type, rootIn, rootedAt, rootedBlocks, describe}
 use Rattle.descriptor_agree.proofs.Agree.{Agree}
 use Rattle.descriptor_agree.proofs.Fields.{Pairs, pairs-length, valued-fit}
 use Rattle.descriptor_agree.proofs.Contents.{Below}
@@ -36,20 +43,27 @@ module _ (d : List ℕ) where
   Both (whole os) (refused m q) = ⊥
   Both (whole os) (accepted bs) = Twins d os bs
 
-  after-both : (R : Draft → List Element → Option Block → Type 0) (at : ℕ) (bs : List Block) (r : Reading) (p : Parsed (Option Block)) (k : Draft → List Element → List Item → Blocks) (j : List ℕ → List Block → Outcome (List Block)) → Agree d R r p → ((x : Draft) (es : List Element) (is : List Item) (o : Option Block) → x .at ≤ length d → R x es o → Both (k x es is) (j (drop (x .at) d) (withBlock bs o))) → Both (oldOnward at r k) (afterBlock at bs p j)
+  after-both : (R : Draft → List Element → Option Block → Type 0) (at : ℕ) (bs : List Block) (r : Reading) (p : Parsed (Option Block))
+      (k : Draft → List Element → List Item → Blocks) (j : List ℕ → List Block → Outcome (List Block))
+      → Agree d R r p
+      → ((x : Draft) (es : List Element) (is : List Item) (o : Option Block) → x .at ≤ length d → R x es o → Both (k x es is) (j (drop (x .at) d) (withBlock bs o)))
+      → Both (oldOnward at r k) (afterBlock at bs p j)
   unfolding oldOnward afterBlock
   after-both R at bs (stop n) (unparsed m) k j e f = (e, refl)
   after-both R at bs (stop n) (parsed o s) k j e f = absurd e
   after-both R at bs (next x es is) (unparsed m) k j e f = absurd e
   after-both R at bs (next x es is) (parsed o s) k j e f = rw (e .0) (f x es is o (e .1) (e .2))
 
-  words-by : (t : Bool) (os : List OldBlock) (bs : List Block) (kind : BlockKind) (n : Node) → blockNode bs kind ≡ pick t (some n) none → pick t (oldWords (rename (nodeAt (summaries os)) n)) [] ≡ blockWords (nodeAt (summaries os)) (blockNode bs kind)
+  words-by : (t : Bool) (os : List OldBlock) (bs : List Block) (kind : BlockKind) (n : Node) → blockNode bs kind ≡ pick t (some n) none
+      → pick t (oldWords (rename (nodeAt (summaries os)) n)) [] ≡ blockWords (nodeAt (summaries os)) (blockNode bs kind)
   unfolding blockWords pick
   words-by true os bs kind n e = rw e (words-same (rename (nodeAt (summaries os)) n))
   words-by false os bs kind n e = rw e
 
   -- one more block
-  more : (os : List OldBlock) (bs : List Block) → Twins d os bs → (at tag : ℕ) (x : Draft) (es : List Element) (is : List Item) (o : Option Block) → Twin d (summaries os) bs tag (at + 1) x es o → Twins d (os ++ (blockOf os at tag x es is ∷ [])) (withBlock bs o)
+  more : (os : List OldBlock) (bs : List Block) → Twins d os bs
+      → (at tag : ℕ) (x : Draft) (es : List Element) (is : List Item) (o : Option Block) → Twin d (summaries os) bs tag (at + 1) x es o
+      → Twins d (os ++ (blockOf os at tag x es is ∷ [])) (withBlock bs o)
   unfolding withBlock summary blockOf oldWordsOf
   more os bs t at tag x es is o w =
       let b = w .block in
@@ -61,17 +75,27 @@ module _ (d : List ℕ) where
       (subst (λ (n : ℕ). Below n (types (b .kind))) (pairs-length d (summaries os) bs (t .pairs)) (w .final .below))
       (w .final .node))
 
-  module _ (f : ℕ) (again : (at : ℕ) (os : List OldBlock) (bs : List Block) → at ≤ length d → Twins d os bs → Both (oldFrom d f at os) (readBlocks bareForm d f (drop at d) bs)) (at : ℕ) (h : at < length d) (os : List OldBlock) (bs : List Block) (t : Twins d os bs) where
+  module _ (f : ℕ)
+      (again : (at : ℕ) (os : List OldBlock) (bs : List Block) → at ≤ length d → Twins d os bs → Both (oldFrom d f at os) (readBlocks bareForm d f (drop at d) bs))
+      (at : ℕ) (h : at < length d) (os : List OldBlock) (bs : List Block) (t : Twins d os bs) where
     abbrev older : ℕ → Draft → List Element → List Item → Blocks
     older tag x es is = oldFrom d f (x .at) (extended os at tag x es is)
 
     note-both : Both (oldOnward at (blockFrom d (summaries os) 127 (at + 1)) (older 127)) (afterBlock at bs (annotationBlock bs (drop (at + 1) d)) (readBlocks bareForm d f))
     unfolding extended indexed pick withBlock
-    note-both = after-both (λ y fs o. o ≡ none) at bs (blockFrom d (summaries os) 127 (at + 1)) (annotationBlock bs (drop (at + 1) d)) (older 127) (readBlocks bareForm d f) (note-agrees d (summaries os) bs (t .pairs) (at + 1) (omega arith)) (λ x es is o l e. rw e (again (x .at) os bs l t))
+    note-both =
+        after-both (λ y fs o. o ≡ none) at bs (blockFrom d (summaries os) 127 (at + 1)) (annotationBlock bs (drop (at + 1) d)) (older 127)
+        (readBlocks bareForm d f) (note-agrees d (summaries os) bs (t .pairs) (at + 1) (omega arith))
+        (λ x es is o l e. rw e (again (x .at) os bs l t))
 
-    indexed-both : (tag : ℕ) → eqb tag 127 ≡ false → any (eqb tag) tags ≡ true → Both (oldOnward at (blockFrom d (summaries os) tag (at + 1)) (older tag)) (afterBlock at bs (indexedBlock bs tag (drop (at + 1) d)) (readBlocks bareForm d f))
+    indexed-both : (tag : ℕ) → eqb tag 127 ≡ false → any (eqb tag) tags ≡ true
+        → Both (oldOnward at (blockFrom d (summaries os) tag (at + 1)) (older tag)) (afterBlock at bs (indexedBlock bs tag (drop (at + 1) d)) (readBlocks bareForm d f))
     unfolding extended indexed pick
-    indexed-both tag n e = after-both (Twin d (summaries os) bs tag (at + 1)) at bs (blockFrom d (summaries os) tag (at + 1)) (indexedBlock bs tag (drop (at + 1) d)) (older tag) (readBlocks bareForm d f) (block-agrees d (summaries os) bs (t .pairs) (at + 1) (omega arith) tag e) (λ x es is o l w. rw n (again (x .at) (os ++ (blockOf os at tag x es is ∷ [])) (withBlock bs o) l (more os bs t at tag x es is o w)))
+    indexed-both tag n e =
+        after-both (Twin d (summaries os) bs tag (at + 1)) at bs (blockFrom d (summaries os) tag (at + 1))
+        (indexedBlock bs tag (drop (at + 1) d)) (older tag) (readBlocks bareForm d f)
+        (block-agrees d (summaries os) bs (t .pairs) (at + 1) (omega arith) tag e)
+        (λ x es is o l w. rw n (again (x .at) (os ++ (blockOf os at tag x es is ∷ [])) (withBlock bs o) l (more os bs t at tag x es is o w)))
 
     same-length : length os ≡ length bs
     same-length = sym (length-map os summary) ∙ pairs-length d (summaries os) bs (t .pairs)
@@ -80,12 +104,16 @@ module _ (d : List ℕ) where
     unfolding full indexed pick
     full-same tag e = rw (e, same-length)
 
-    counted-both : (tag : ℕ) → eqb tag 127 ≡ false → any (eqb tag) tags ≡ true → (b : Bool) → Both (pick b (faulty 17 at) (oldOnward at (blockFrom d (summaries os) tag (at + 1)) (older tag))) (afterBlock at bs (pick b (λ s. unparsed 17) (indexedBlock bs tag) (drop (at + 1) d)) (readBlocks bareForm d f))
+    counted-both : (tag : ℕ) → eqb tag 127 ≡ false → any (eqb tag) tags ≡ true → (b : Bool)
+        → Both (pick b (faulty 17 at) (oldOnward at (blockFrom d (summaries os) tag (at + 1)) (older tag)))
+        (afterBlock at bs (pick b (λ s. unparsed 17) (indexedBlock bs tag) (drop (at + 1) d)) (readBlocks bareForm d f))
     unfolding pick afterBlock
     counted-both tag n e true = (refl, refl)
     counted-both tag n e false = indexed-both tag n e
 
-    known-both : (tag : ℕ) → eqb tag 127 ≡ false → (b : Bool) → any (eqb tag) tags ≡ b → Both (pick b (pick (full os tag) (faulty 17 at) (oldOnward at (blockFrom d (summaries os) tag (at + 1)) (older tag))) (faulty 11 at)) (afterBlock at bs (pick (not b) (λ s. unparsed 11) (pick (leb 1024 (length bs)) (λ s. unparsed 17) (indexedBlock bs tag)) (drop (at + 1) d)) (readBlocks bareForm d f))
+    known-both : (tag : ℕ) → eqb tag 127 ≡ false → (b : Bool) → any (eqb tag) tags ≡ b
+        → Both (pick b (pick (full os tag) (faulty 17 at) (oldOnward at (blockFrom d (summaries os) tag (at + 1)) (older tag))) (faulty 11 at))
+        (afterBlock at bs (pick (not b) (λ s. unparsed 11) (pick (leb 1024 (length bs)) (λ s. unparsed 17) (indexedBlock bs tag)) (drop (at + 1) d)) (readBlocks bareForm d f))
     unfolding pick afterBlock
     known-both tag n true e = rw (full-same tag n) (counted-both tag n e (leb 1024 (length bs)))
     known-both tag n false e = (refl, refl)
@@ -94,12 +122,21 @@ module _ (d : List ℕ) where
     unfolding full indexed pick
     full-note = refl
 
-    tag-both : (tag : ℕ) → Both (pick (knownTag tag) (pick (full os tag) (faulty 17 at) (oldOnward at (blockFrom d (summaries os) tag (at + 1)) (older tag))) (faulty 11 at)) (afterBlock at bs (tagged bs tag (drop (at + 1) d)) (readBlocks bareForm d f))
+    tag-both : (tag : ℕ)
+        → Both (pick (knownTag tag) (pick (full os tag) (faulty 17 at) (oldOnward at (blockFrom d (summaries os) tag (at + 1)) (older tag))) (faulty 11 at))
+        (afterBlock at bs (tagged bs tag (drop (at + 1) d)) (readBlocks bareForm d f))
     unfolding tagged pick
     tag-both tag = rw (tag-known tag) (go (eqb tag 127) refl)
       where
-        go : (b : Bool) → eqb tag 127 ≡ b → Both (pick (pick b true (any (eqb tag) tags)) (pick (full os tag) (faulty 17 at) (oldOnward at (blockFrom d (summaries os) tag (at + 1)) (older tag))) (faulty 11 at)) (afterBlock at bs (pick b (annotationBlock bs) (pick (not (any (eqb tag) tags)) (λ s. unparsed 11) (pick (leb 1024 (length bs)) (λ s. unparsed 17) (indexedBlock bs tag))) (drop (at + 1) d)) (readBlocks bareForm d f))
-        go true e = subst (λ (g : ℕ). Both (pick (full os g) (faulty 17 at) (oldOnward at (blockFrom d (summaries os) g (at + 1)) (older g))) (afterBlock at bs (annotationBlock bs (drop (at + 1) d)) (readBlocks bareForm d f))) (sym (eqb-true tag 127 e)) (rw full-note note-both)
+        go : (b : Bool) → eqb tag 127 ≡ b
+            → Both (pick (pick b true (any (eqb tag) tags)) (pick (full os tag) (faulty 17 at) (oldOnward at (blockFrom d (summaries os) tag (at + 1)) (older tag))) (faulty 11 at))
+            (afterBlock at bs
+            (pick b (annotationBlock bs) (pick (not (any (eqb tag) tags)) (λ s. unparsed 11) (pick (leb 1024 (length bs)) (λ s. unparsed 17) (indexedBlock bs tag))) (drop (at + 1) d))
+            (readBlocks bareForm d f))
+        go true e =
+            subst (λ (g : ℕ). Both (pick (full os g) (faulty 17 at) (oldOnward at (blockFrom d (summaries os) g (at + 1)) (older g)))
+            (afterBlock at bs (annotationBlock bs (drop (at + 1) d)) (readBlocks bareForm d f)))
+            (sym (eqb-true tag 127 e)) (rw full-note note-both)
         go false e = known-both tag e (any (eqb tag) tags) refl
 
   step-new : (f at : ℕ) (bs : List Block) → at < length d → readBlocks bareForm d (suc f) (drop at d) bs ≡ afterBlock at bs (tagged bs (getD d at 0) (drop (at + 1) d)) (readBlocks bareForm d f)
@@ -114,7 +151,13 @@ module _ (d : List ℕ) where
   blocks-both zero at os bs h t = (refl, rw length-drop (omega arith))
   blocks-both (suc f) at os bs h t = go (leb (length d) at) refl (blocks-both f)
     where
-      go : (b : Bool) → leb (length d) at ≡ b → ((at : ℕ) (os : List OldBlock) (bs : List Block) → at ≤ length d → Twins d os bs → Both (oldFrom d f at os) (readBlocks bareForm d f (drop at d) bs)) → Both (pick b (whole os) (pick (knownTag (getD d at 0)) (pick (full os (getD d at 0)) (faulty 17 at) (oldOnward at (blockFrom d (summaries os) (getD d at 0) (at + 1)) (λ x es is. oldFrom d f (x .at) (extended os at (getD d at 0) x es is)))) (faulty 11 at))) (readBlocks bareForm d (suc f) (drop at d) bs)
+      go : (b : Bool) → leb (length d) at ≡ b
+          → ((at : ℕ) (os : List OldBlock) (bs : List Block) → at ≤ length d → Twins d os bs → Both (oldFrom d f at os) (readBlocks bareForm d f (drop at d) bs))
+          → Both (pick b (whole os)
+          (pick (knownTag (getD d at 0))
+          (pick (full os (getD d at 0)) (faulty 17 at) (oldOnward at (blockFrom d (summaries os) (getD d at 0) (at + 1)) (λ x es is. oldFrom d f (x .at) (extended os at (getD d at 0) x es is))))
+          (faulty 11 at)))
+          (readBlocks bareForm d (suc f) (drop at d) bs)
       go true e again = rw (drop-of-length-le d (leb-true (length d) at e)) t
       go false e again = let l = leb-false (length d) at e in rw (step-new f at bs l) (tag-both f again at l os bs t (getD d at 0))
 
@@ -136,7 +179,8 @@ module _ (d : List ℕ) where
   root-same (o ∷ os) [] i p = absurd p
   root-same (o ∷ os) (b ∷ bs) i p = let e : idAt d (o .start + 1) ≡ b .id = p .0 .ids in rw e (go (eqb (b .id) i) (root-same os bs i (p .1)))
     where
-      go : (t : Bool) → rootIn i bs ≡ pick (valuedTag (tagAt os (indexOf d os i))) (some (indexOf d os i)) none → pick t (pick (hasValues b) (some 0) none) (Option·map suc (rootIn i bs)) ≡ pick (valuedTag (tagAt (o ∷ os) (pick t 0 (indexOf d os i + 1)))) (some (pick t 0 (indexOf d os i + 1))) none
+      go : (t : Bool) → rootIn i bs ≡ pick (valuedTag (tagAt os (indexOf d os i))) (some (indexOf d os i)) none
+          → pick t (pick (hasValues b) (some 0) none) (Option·map suc (rootIn i bs)) ≡ pick (valuedTag (tagAt (o ∷ os) (pick t 0 (indexOf d os i + 1)))) (some (pick t 0 (indexOf d os i + 1))) none
       go true ih = let e : valuedTag (o .tag) ≡ hasValues b = valued-fit d (summary o) b (p .0) in rw e
       go false ih = rw (ih, add-one) (map-pick (valuedTag (tagAt os (indexOf d os i))) (indexOf d os i))
 
@@ -196,7 +240,8 @@ module _ (d : List ℕ) where
   rooted-alike i (whole os) (refused m q) e = absurd e
   rooted-alike i (whole os) (accepted bs) t = rw (root-same d os bs i (t .pairs)) (go (valuedTag (tagAt os (indexOf d os i))) refl)
     where
-      go : (v : Bool) → valuedTag (tagAt os (indexOf d os i)) ≡ v → Alike (pick v (oldDescribed os (indexOf d os i)) (refusedBy 18 (length d))) (rootedAt (length d) bs (pick v (some (indexOf d os i)) none))
+      go : (v : Bool) → valuedTag (tagAt os (indexOf d os i)) ≡ v
+          → Alike (pick v (oldDescribed os (indexOf d os i)) (refusedBy 18 (length d))) (rootedAt (length d) bs (pick v (some (indexOf d os i)) none))
       go true e = (t, refl, let h = root-below d os (indexOf d os i) e in let l = sym (length-map os summary) ∙ pairs-length d (summaries os) bs (t .pairs) in omega arith)
       go false e = (refl, refl)
 
@@ -219,12 +264,20 @@ description-same d root = go (ltb 65535 (length d)) (eqb (length root) 16) refl
     sized : eqb (length root) 16 ≡ true → take 16 root ≡ root
     sized e = take-all 16 root (let h = eqb-true (length root) 16 e in omega arith)
 
-    inner : (i : ℕ) (t z : Bool) → Alike d (pick t (pick z noType (refusedBy 18 (length d))) (oldRooted d i (oldBlocks d))) (pick (not t) (rootedBlocks (length d) i (allBlocks bareForm d)) (pick z (accepted no-type) (refused 18 (length d))))
+    inner : (i : ℕ) (t z : Bool)
+        → Alike d (pick t (pick z noType (refusedBy 18 (length d))) (oldRooted d i (oldBlocks d)))
+        (pick (not t) (rootedBlocks (length d) i (allBlocks bareForm d)) (pick z (accepted no-type) (refused 18 (length d))))
     inner i true true = tt
     inner i true false = (refl, refl)
     inner i false z = rooted-alike d i (oldBlocks d) (allBlocks bareForm d) (start d)
 
-    go : (s t : Bool) → eqb (length root) 16 ≡ t → Alike d (pick s (refusedBy 17 0) (pick t (pick (eqb (be (take 16 root)) 0) (pick (eqb (length d) 0) noType (refusedBy 18 (length d))) (oldRooted d (be (take 16 root)) (oldBlocks d))) (refusedBy 18 (length d)))) (pick s (refused 17 0) (pick (not t) (refused 18 (length d)) (pick (not (eqb (be root) 0)) (rootedBlocks (length d) (be root) (allBlocks bareForm d)) (pick (eqb (length d) 0) (accepted no-type) (refused 18 (length d))))))
+    go : (s t : Bool) → eqb (length root) 16 ≡ t
+        → Alike d
+        (pick s (refusedBy 17 0)
+        (pick t (pick (eqb (be (take 16 root)) 0) (pick (eqb (length d) 0) noType (refusedBy 18 (length d))) (oldRooted d (be (take 16 root)) (oldBlocks d))) (refusedBy 18 (length d))))
+        (pick s (refused 17 0)
+        (pick (not t) (refused 18 (length d))
+        (pick (not (eqb (be root) 0)) (rootedBlocks (length d) (be root) (allBlocks bareForm d)) (pick (eqb (length d) 0) (accepted no-type) (refused 18 (length d))))))
     go true t e = (refl, refl)
     go false true e = rw (sized e) (inner (be root) (eqb (be root) 0) (eqb (length d) 0))
     go false false e = (refl, refl)

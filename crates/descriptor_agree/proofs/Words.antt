@@ -1,4 +1,4 @@
--- The words of the plan, by both definitions. Assumes nothing.
+-- The words of the plan, by both definitions.
 use mathlib.Core.Path.{_≡_, refl, ap, ap₂, sym, _∙_}
 use mathlib.Core.Bool.{Bool, true, false}
 use mathlib.Core.List.{List, [], _∷_, _++_, map, map-append, append-assoc}
@@ -13,7 +13,9 @@ use lib.Seq.{take-append-le, take-length, getD-at}
 use Rattle.descriptor_fields.specs.Layouts.{valued as valuedTag}
 use Rattle.descriptor_fields.specs.Fields.{Known, noBlock}
 use Rattle.descriptor_blocks.specs.Descriptor.{Block as OldBlock, summary, summaries, allWords, nodeWords as oldWords, nodeAt, pairs as oldPairs}
-use Rattle.protocol.specs.Descriptors.{Block, BlockKind, set-of, output-shape, scalar-of, tuple-of, named-tuple, array-of, enum-of, input-shape, range-of, object-type, compound-type, sql-record, types, OutputElement, InputElement, NamedElement}
+use Rattle.protocol.specs.Descriptors.{Block, BlockKind, set-of, output-shape, scalar-of, tuple-of, named-tuple, array-of, enum-of}
+use Rattle.protocol.specs.Descriptors.{input-shape, range-of, object-type, compound-type, sql-record, types, OutputElement, InputElement}
+use Rattle.protocol.specs.Descriptors.{NamedElement}
 use Rattle.descriptor_agree.proofs.Contents.{Below}
 use Rattle.descriptor_agree.proofs.Fields.{Pair, Pairs}
 use Rattle.descriptor_agree.proofs.Fields
@@ -145,7 +147,8 @@ by-below ρ σ n same all (y ∷ ys) b = ap₂ _++_ (kind-below ρ σ n same all
 by-append : (ρ : ℕ → ℕ) (all xs ys : List Block) → wordsBy ρ all (xs ++ ys) ≡ wordsBy ρ all xs ++ wordsBy ρ all ys
 unfolding wordsBy
 by-append ρ all [] ys = refl
-by-append ρ all (x ∷ xs) ys = ap (λ (l : List ℕ). blockWords ρ (blockNode all (x .kind)) ++ l) (by-append ρ all xs ys) ∙ sym (append-assoc (blockWords ρ (blockNode all (x .kind))) (wordsBy ρ all xs) (wordsBy ρ all ys))
+by-append ρ all (x ∷ xs) ys =
+    ap (λ (l : List ℕ). blockWords ρ (blockNode all (x .kind)) ++ l) (by-append ρ all xs ys) ∙ sym (append-assoc (blockWords ρ (blockNode all (x .kind))) (wordsBy ρ all xs) (wordsBy ρ all ys))
 
 all-append : (xs ys : List OldBlock) → allWords (xs ++ ys) ≡ allWords xs ++ allWords ys
 unfolding allWords
@@ -178,7 +181,8 @@ shapes-more all x [] (c ∷ bs) b s = s
 shapes-more all x (o ∷ os) [] b s = s
 shapes-more all x (o ∷ os) (c ∷ bs) b s = (node-more all x (c .kind) (b .0) ∙ s .0, shapes-more all x os bs (b .1) (s .1))
 
-shapes-end : (all : List Block) (os : List OldBlock) (bs : List Block) (o : OldBlock) (b : Block) → Shapes all os bs → blockNode all (b .kind) ≡ pick (valuedTag (o .tag)) (some (o .shape)) none → Shapes all (os ++ (o ∷ [])) (bs ++ (b ∷ []))
+shapes-end : (all : List Block) (os : List OldBlock) (bs : List Block) (o : OldBlock) (b : Block) → Shapes all os bs
+    → blockNode all (b .kind) ≡ pick (valuedTag (o .tag)) (some (o .shape)) none → Shapes all (os ++ (o ∷ [])) (bs ++ (b ∷ []))
 shapes-end all [] [] o b s e = (e, tt)
 shapes-end all [] (c ∷ bs) o b s e = absurd s
 shapes-end all (p ∷ os) [] o b s e = absurd s
@@ -202,7 +206,9 @@ pairs-more : (d : List ℕ) (ks : List Known) (bs : List Block) (k : Known) (b :
 pairs-more d [] [] k b p q = (q, tt)
 pairs-more d (j ∷ ks) (c ∷ bs) k b p q = (p .0, pairs-more d ks bs k b (p .1) q)
 
-module _ (d : List ℕ) (os : List OldBlock) (bs : List Block) (t : Twins d os bs) (o : OldBlock) (b : Block) (p : Pair d (summary o) b) (w : o .words ≡ blockWords (nodeAt (summaries os)) (blockNode bs (b .kind))) (n : o .node ≡ 2 + length (allWords os)) (low : Below (length bs) (types (b .kind))) (shape : blockNode bs (b .kind) ≡ pick (valuedTag (o .tag)) (some (o .shape)) none) where
+module _ (d : List ℕ) (os : List OldBlock) (bs : List Block) (t : Twins d os bs) (o : OldBlock) (b : Block) (p : Pair d (summary o) b)
+    (w : o .words ≡ blockWords (nodeAt (summaries os)) (blockNode bs (b .kind))) (n : o .node ≡ 2 + length (allWords os))
+    (low : Below (length bs) (types (b .kind))) (shape : blockNode bs (b .kind) ≡ pick (valuedTag (o .tag)) (some (o .shape)) none) where
   agree-at : (r : ℕ) → r < length bs → nodeAt (summaries os) r ≡ nodePosition (bs ++ (b ∷ [])) r
   agree-at r h = t .nodes r h ∙ sym (position-more bs b (t .belows) r (omega arith))
 
@@ -211,8 +217,12 @@ module _ (d : List ℕ) (os : List OldBlock) (bs : List Block) (t : Twins d os b
   words-more =
       all-append os (o ∷ [])
       ∙ ap₂ (λ (l m : List ℕ). l ++ (m ++ []))
-      (t .words ∙ by-below (nodePosition bs) (nodePosition (bs ++ (b ∷ []))) (length bs) (λ r h. sym (position-more bs b (t .belows) r (omega arith))) bs bs (t .belows) ∙ sym (by-more bs b (nodePosition (bs ++ (b ∷ []))) bs (t .belows)))
-      (w ∙ kind-below (nodeAt (summaries os)) (nodePosition (bs ++ (b ∷ []))) (length bs) agree-at bs (b .kind) low ∙ ap (blockWords (nodePosition (bs ++ (b ∷ [])))) (sym (node-more bs b (b .kind) low)))
+      (t .words
+      ∙ by-below (nodePosition bs) (nodePosition (bs ++ (b ∷ []))) (length bs) (λ r h. sym (position-more bs b (t .belows) r (omega arith))) bs bs (t .belows)
+      ∙ sym (by-more bs b (nodePosition (bs ++ (b ∷ []))) bs (t .belows)))
+      (w
+      ∙ kind-below (nodeAt (summaries os)) (nodePosition (bs ++ (b ∷ []))) (length bs) agree-at bs (b .kind) low
+      ∙ ap (blockWords (nodePosition (bs ++ (b ∷ [])))) (sym (node-more bs b (b .kind) low)))
       ∙ sym (by-append (nodePosition (bs ++ (b ∷ []))) (bs ++ (b ∷ [])) bs (b ∷ []))
 
   same-length : length (summaries os) ≡ length bs
@@ -224,7 +234,12 @@ module _ (d : List ℕ) (os : List OldBlock) (bs : List Block) (t : Twins d os b
     | yes l ↦ old-before os o k (rw same-length l) ∙ agree-at k l
     | no l ↦
         let e : k ≡ length bs = omega (arith, l, length-append bs (b ∷ [])) in
-        old-last os o k (same-length ∙ sym e) ∙ n ∙ ap (λ (l : List ℕ). 2 + length l) (t .words) ∙ sym (end-at bs) ∙ sym (position-more bs b (t .belows) (length bs) (omega arith)) ∙ ap (nodePosition (bs ++ (b ∷ []))) (sym e)
+        old-last os o k (same-length ∙ sym e)
+        ∙ n
+        ∙ ap (λ (l : List ℕ). 2 + length l) (t .words)
+        ∙ sym (end-at bs)
+        ∙ sym (position-more bs b (t .belows) (length bs) (omega arith))
+        ∙ ap (nodePosition (bs ++ (b ∷ []))) (sym e)
   ]
 
   pub twins-more : Twins d (os ++ (o ∷ [])) (bs ++ (b ∷ []))

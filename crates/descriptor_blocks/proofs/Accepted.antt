@@ -1,5 +1,4 @@
--- What an accepted descriptor's blocks obey: each is made from those before it, and is sound over them; and the root has values. Assumes
--- nothing.
+-- What an accepted descriptor's blocks obey: each is made from those before it, and is sound over them; and the root has values.
 use mathlib.Core.Path.{_≡_, refl, sym, _∙_}
 use mathlib.Core.Logic.{⊎-elim}
 use mathlib.Core.Bool.{true, false}
@@ -14,7 +13,8 @@ use Rattle.wire.proofs.Picks.{clash, pick-yes, pick-split, pick-case}
 use Rattle.descriptor_fields.specs.Layouts.{knownTag, indexed, valued}
 use Rattle.descriptor_fields.specs.Fields.{Element, idAt}
 use Rattle.descriptor_blocks.specs.Blocks.{Item, Reading, stop, next, blockFrom}
-use Rattle.descriptor_blocks.specs.Descriptor.{Block, summaries, blockOf, Blocks, faulty, whole, extended, full, onward, blocksFrom, blocksOf, refusedBy, described, indexOf, tagAt, rooted, descriptionOf}
+use Rattle.descriptor_blocks.specs.Descriptor.{Block, summaries, blockOf, Blocks, faulty, whole, extended, full, onward, blocksFrom}
+use Rattle.descriptor_blocks.specs.Descriptor.{blocksOf, refusedBy, described, indexOf, tagAt, rooted, descriptionOf}
 use Rattle.descriptor_fields.specs.declared.Draft.{Draft}
 use Rattle.descriptor_blocks.proofs.Sound.{Sound, block-sound}
 use Rattle.protocol.specs.Numbers.{pick}

@@ -1,4 +1,4 @@
--- Reading blocks never runs out of fuel: each ends after it starts, so that more fuel than bytes are left changes nothing. Assumes nothing.
+-- Reading blocks never runs out of fuel: each ends after it starts, so that more fuel than bytes are left changes nothing.
 use mathlib.Core.Path.{_≡_, refl}
 use mathlib.Core.Bool.{Bool, true, false}
 use mathlib.Core.List.{List}

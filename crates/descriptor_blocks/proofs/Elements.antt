@@ -1,5 +1,5 @@
 -- What a block's fields keep true of its elements: each refers to an earlier block of a kind that suits, whose height leaves room for one
--- more, and has a cardinality where one is due; the block's height is one more than the highest. Assumes nothing.
+-- more, and has a cardinality where one is due; the block's height is one more than the highest.
 use mathlib.Core.Path.{_≡_, refl, ap, sym, _∙_}
 use mathlib.Core.Logic.{⊎-elim}
 use mathlib.Core.Bool.{Bool, true, false}
@@ -306,5 +306,7 @@ module _ (d : List ℕ) (known : List Known) (tag : ℕ) where
       in
       let f = section-held 0 (layout tag .head) (layout tag .first) (o .head) (o .first) _ [] start (b .draft) (b .list) (b .read) (b .first) in
       let s = section-held _ (layout tag .more) (layout tag .last) (o .more) (o .last) (b .draft) (b .list) (f .2) y fs (b .rest) (b .second) in
-      let w : 0 + elementsIn (layout tag .head) + f .0 * elementsIn (layout tag .first) + elementsIn (layout tag .more) + s .0 * elementsIn (layout tag .last) ≡ elementsIn (layout tag .head) + f .0 * elementsIn (layout tag .first) + (elementsIn (layout tag .more) + s .0 * elementsIn (layout tag .last)) = omega arith in
+      let w : 0 + elementsIn (layout tag .head) + f .0 * elementsIn (layout tag .first) + elementsIn (layout tag .more) + s .0 * elementsIn (layout tag .last)
+      ≡ elementsIn (layout tag .head) + f .0 * elementsIn (layout tag .first) + (elementsIn (layout tag .more) + s .0 * elementsIn (layout tag .last)) =
+      omega arith in
       (f .0, s .0, f .1, s .1, rw w at (s .2))

@@ -1,4 +1,4 @@
--- Every block that takes an index starts with its id, which is whole. Assumes nothing.
+-- Every block that takes an index starts with its id, which is whole.
 use mathlib.Core.Path.{_≡_, refl, ap, sym, _∙_}
 use mathlib.Core.List.{List, [], _∷_}
 use Prim.Native.Nat.{ℕ, _+_, _≤_}
@@ -36,7 +36,8 @@ id-whole d known tag at n x es is e =
     let l = id-first tag n in
     let a = between _ _ x es is e in
     let b = between _ _ (a .draft) (a .list) (a .read) (a .first) in
-    let f : fields d known tag (1 ∷ l .rest) (counting 0 (fresh at)) [] ≡ next (b .draft) (b .list) (b .read) = ap (λ (cs : List ℕ). fields d known tag cs (counting 0 (fresh at)) []) (sym (l .is)) ∙ b .first in
+    let f : fields d known tag (1 ∷ l .rest) (counting 0 (fresh at)) [] ≡ next (b .draft) (b .list) (b .read) =
+    ap (λ (cs : List ℕ). fields d known tag cs (counting 0 (fresh at)) []) (sym (l .is)) ∙ b .first in
     let g = between _ _ (b .draft) (b .list) (b .read) f in
     let s = stepped d known tag 1 (counting 0 (fresh at)) [] (g .draft) (g .list) (g .read) (g .first) in
     omega (arith, s .inside, extent-id d 1 at refl)

@@ -1,5 +1,4 @@
--- The laws of descriptors: of the code's steps; and what every accepted block obeys, which other crates' proofs
--- cite. Assumes nothing.
+-- The laws of descriptors: of the code's steps; and what every accepted block obeys, which other crates' proofs cite.
 pub mod Rules
 pub mod Steps
 pub mod Loops

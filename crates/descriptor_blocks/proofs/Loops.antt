@@ -1,5 +1,4 @@
--- The loops over fields and over items: what is left of each leads to the same place, inside the descriptor and with room for the
--- elements. Assumes nothing.
+-- The loops over fields and over items: what is left of each leads to the same place, inside the descriptor and with room for the elements.
 use mathlib.Core.Path.{_≡_, refl, ap, sym, _∙_}
 use mathlib.Core.List.{List, [], _∷_}
 use Prim.Native.Nat.{ℕ, _+_, _-_, _*_, _≤_, _<_}

@@ -1,4 +1,4 @@
--- A block that is read ends after it starts, and within the descriptor. Assumes nothing.
+-- A block that is read ends after it starts, and within the descriptor.
 use mathlib.Core.Path.{_≡_, ap}
 use mathlib.Core.Bool.{true}
 use mathlib.Core.List.{List, [], _∷_}
@@ -27,7 +27,8 @@ module _ (d : List ℕ) (known : List Known) (tag : ℕ) where
   abbrev Past : ℕ → ℕ → Draft → Type 0
   Past from n x = (from ≤ x .at + n) × (x .at ≤ length d)
 
-  past-step : (from c : ℕ) (cs : List ℕ) (x : Draft) (es : List Element) → Past from (length {A = ℕ} (c ∷ cs)) x → (y : Draft) (fs : List Element) → Step d known tag c x es y fs → Past from (length cs) y
+  past-step : (from c : ℕ) (cs : List ℕ) (x : Draft) (es : List Element) → Past from (length {A = ℕ} (c ∷ cs)) x
+      → (y : Draft) (fs : List Element) → Step d known tag c x es y fs → Past from (length cs) y
   unfolding kept
   past-step from c cs x es q y fs s =
       let e : x .at + extent d c (x .at) ≡ y .at = ap (λ (z : Draft). z .at) (s .draft) in

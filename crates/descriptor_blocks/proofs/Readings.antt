@@ -1,4 +1,4 @@
--- What holds from field to field holds from a block's start to its end. Assumes nothing.
+-- What holds from field to field holds from a block's start to its end.
 use mathlib.Core.Path.{_≡_, refl}
 use mathlib.Core.Logic.{⊎-elim}
 use mathlib.Core.Bool.{Bool, true, false}

@@ -1,4 +1,4 @@
--- The rule of a field by its class, and what is kept of it by its kind. Assumes nothing.
+-- The rule of a field by its class, and what is kept of it by its kind.
 use mathlib.Core.Path.{_≡_, refl, ap, sym, _∙_}
 use mathlib.Core.Logic.{⊎-elim}
 use mathlib.Core.Bool.{true, false}
@@ -12,7 +12,8 @@ use lib.Seq.{getD-set-same, getD-set-other}
 use lib.Dec.{eqb, leb, ltb}
 use borrow.Author.Tests.{eq-eqb, ne-eqb, le-leb, lt-leb, eqb-true, ltb-false}
 use Rattle.wire.proofs.Picks.{pick-yes, pick-no, pick-case, pick-split}
-use Rattle.descriptor_fields.specs.Fields.{Known, noBlock, Element, idAt, formatOf, numberAt, extent, idFault, textFault, numberFault, decides, countFault, formatBy, refFault, fault, formatAfter, heightAfter, kept, grown}
+use Rattle.descriptor_fields.specs.Fields.{Known, noBlock, Element, idAt, formatOf, numberAt, extent, idFault, textFault, numberFault}
+use Rattle.descriptor_fields.specs.Fields.{decides, countFault, formatBy, refFault, fault, formatAfter, heightAfter, kept, grown}
 use Rattle.descriptor_fields.specs.Arrays.{tab, elementAt, elementsOf, knownAt, knownOf, Told}
 use Rattle.descriptor_blocks.specs.Walks.{push}
 use Rattle.descriptor_fields.specs.declared.Draft.{Draft}

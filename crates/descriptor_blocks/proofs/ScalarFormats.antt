@@ -1,4 +1,4 @@
--- A scalar's format is known at its block's end: from its own id, or from its last ancestor. Assumes nothing.
+-- A scalar's format is known at its block's end: from its own id, or from its last ancestor.
 use mathlib.Core.Path.{_≡_, refl, ap, sym, _∙_}
 use mathlib.Core.Logic.{⊎-elim}
 use mathlib.Core.Bool.{Bool, true, false}

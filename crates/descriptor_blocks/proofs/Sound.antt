@@ -1,4 +1,4 @@
--- What every accepted block obeys: how many elements it has and where they may refer, its height and its format. Assumes nothing.
+-- What every accepted block obeys: how many elements it has and where they may refer, its height and its format.
 use mathlib.Core.Path.{_≡_, sym, _∙_}
 use mathlib.Core.Bool.{true}
 use mathlib.Core.List.{List, [], _∷_}

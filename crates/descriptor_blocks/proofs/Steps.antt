@@ -1,4 +1,4 @@
--- Where the reading of fields, of items and of a section leads: what is left of it leads to the same place. Assumes nothing.
+-- Where the reading of fields, of items and of a section leads: what is left of it leads to the same place.
 use mathlib.Core.Path.{_≡_, refl, ap, sym, _∙_}
 use mathlib.Core.Bool.{true}
 use mathlib.Core.List.{List, [], _∷_}

@@ -1,5 +1,5 @@
--- The known tags one by one, and what their fields say of a block's elements: of which kind they are, whether a cardinality is read before
--- each, and how many there are. Assumes nothing.
+-- The known tags one by one, and what their fields say of a block's elements: of which
+-- kind they are, whether a cardinality is read before each, and how many there are.
 use mathlib.Core.Path.{_≡_, refl, sym, _∙_}
 use mathlib.Core.Logic.{⊎-elim}
 use mathlib.Core.Bool.{Bool, true, false}

@@ -1,5 +1,5 @@
 -- Nobody has to believe these definitions: they are what the code says to itself of reading a block field by field; that they give what
--- protocol's give is proved (descriptor_agree). Assumes nothing.
+-- protocol's give is proved (descriptor_agree).
 use Prim.Native.Nat.{ℕ, zero, suc, _+_}
 use mathlib.Core.List.{List, [], _∷_, _++_}
 use lib.Dec.{leb, eqb}

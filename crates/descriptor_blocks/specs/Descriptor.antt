@@ -1,5 +1,5 @@
 -- Nobody has to believe these definitions: they are what the code says to itself of a whole descriptor, its blocks, its root and its plan;
--- that they give what protocol's give is proved (descriptor_agree). Assumes nothing.
+-- that they give what protocol's give is proved (descriptor_agree).
 use Prim.Native.Nat.{ℕ, zero, suc, _+_}
 use mathlib.Core.Bool.{Bool, false}
 use mathlib.Core.List.{List, [], _∷_, _++_, map}

@@ -23,7 +23,8 @@ fn fields(
     elements: &mut [u32],
 ) -> Part
     requires { ⌜ (Told (now d) (now known) n) × (Roomy (now elements) (x .count + pushes (upToEnd (now codes)))) × (x .at ≤ length (now d)) × (x .left ≤ 512) ⌝ }
-    ensures { λ r. ⌜ walkOf r (now (elements .exit)) ≡ led (reading.fields (now (d .entry)) (knownOf (now (d .entry)) (now (known .entry)) n) tag (upToEnd (now (codes .entry))) x (elementsOf (now (elements .entry)) (x .count))) ⌝ }
+    ensures { λ r. ⌜ walkOf r (now (elements .exit))
+        ≡ led (reading.fields (now (d .entry)) (knownOf (now (d .entry)) (now (known .entry)) n) tag (upToEnd (now (codes .entry))) x (elementsOf (now (elements .entry)) (x .count))) ⌝ }
     ensures inside { λ r. ⌜ Inside (length (now (d .entry))) (x .count + pushes (upToEnd (now (codes .entry)))) r ⌝ }
 {
     let mut y = x;
@@ -54,7 +55,8 @@ fn items(
     elements: &mut [u32],
 ) -> Part
     requires { ⌜ (Told (now d) (now known) n) × (Roomy (now elements) (x .count + x .left * pushes (upToEnd (now codes)))) × (x .at ≤ length (now d)) × (x .left ≤ 512) ⌝ }
-    ensures { λ r. ⌜ walkOf r (now (elements .exit)) ≡ led (reading.items (now (d .entry)) (knownOf (now (d .entry)) (now (known .entry)) n) tag (upToEnd (now (codes .entry))) (x .left) x (elementsOf (now (elements .entry)) (x .count))) ⌝ }
+    ensures { λ r. ⌜ walkOf r (now (elements .exit))
+        ≡ led (reading.items (now (d .entry)) (knownOf (now (d .entry)) (now (known .entry)) n) tag (upToEnd (now (codes .entry))) (x .left) x (elementsOf (now (elements .entry)) (x .count))) ⌝ }
     ensures inside { λ r. ⌜ Inside (length (now (d .entry))) (x .count + x .left * pushes (upToEnd (now (codes .entry)))) r ⌝ }
 {
     let mut y = x;
@@ -83,7 +85,9 @@ fn section(
     elements: &mut [u32],
 ) -> Part
     requires { ⌜ (Told (now d) (now known) n) × (Roomy (now elements) (x .count + pushes (upToEnd (now codes)) + 512 * pushes (upToEnd (now each)))) × (x .at ≤ length (now d)) ⌝ }
-    ensures { λ r. ⌜ walkOf r (now (elements .exit)) ≡ led (reading.section (now (d .entry)) (knownOf (now (d .entry)) (now (known .entry)) n) tag (upToEnd (now (codes .entry))) (upToEnd (now (each .entry))) x (elementsOf (now (elements .entry)) (x .count))) ⌝ }
+    ensures { λ r. ⌜ walkOf r (now (elements .exit))
+        ≡ led (reading.section (now (d .entry)) (knownOf (now (d .entry)) (now (known .entry)) n) tag (upToEnd (now (codes .entry)))
+        (upToEnd (now (each .entry))) x (elementsOf (now (elements .entry)) (x .count))) ⌝ }
     ensures inside { λ r. ⌜ Inside (length (now (d .entry))) (x .count + pushes (upToEnd (now (codes .entry))) + 512 * pushes (upToEnd (now (each .entry)))) r ⌝ }
 {
     x.left = 0;

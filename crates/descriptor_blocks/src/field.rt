@@ -88,7 +88,12 @@ fn keep(d: &[u8], known: &[u32], n: usize, tag: u32, code: u8, mut x: Draft) -> 
         kinds::COUNT => x.left = number::number_at(d, code, at),
         kinds::ANCESTOR => {
             if descriptor_references::is_deciding(tag, x) {
-                x.format = descriptor_references::format_at(d, known, n, number::number_at(d, code, at));
+                x.format = descriptor_references::format_at(
+                    d,
+                    known,
+                    n,
+                    number::number_at(d, code, at),
+                );
             }
         }
         _ => {}
@@ -107,7 +112,8 @@ pub fn read(
     elements: &mut [u32],
 ) -> Part
     requires { ⌜ (Told (now d) (now known) n) × (Roomy (now elements) (x .count + push code)) × (x .at ≤ length (now d)) × (x .left ≤ 512) ⌝ }
-    ensures { λ r. ⌜ walkOf r (now (elements .exit)) ≡ led (reading.field (now (d .entry)) (knownOf (now (d .entry)) (now (known .entry)) n) tag code x (elementsOf (now (elements .entry)) (x .count))) ⌝ }
+    ensures { λ r. ⌜ walkOf r (now (elements .exit))
+        ≡ led (reading.field (now (d .entry)) (knownOf (now (d .entry)) (now (known .entry)) n) tag code x (elementsOf (now (elements .entry)) (x .count))) ⌝ }
     ensures inside { λ r. ⌜ Inside (length (now (d .entry))) (x .count + push code) r ⌝ }
 {
     if d.len() < x.at + number::extent_of(d, code, x.at) {

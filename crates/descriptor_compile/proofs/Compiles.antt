@@ -1,4 +1,4 @@
--- The laws of compiling: the root, the tests in their order, what an answer says of the outcome, and the plan's room. Assumes nothing.
+-- The laws of compiling: the root, the tests in their order, what an answer says of the outcome, and the plan's room.
 use mathlib.Core.Path.{_≡_, refl, ap, ap₂, sym, _∙_}
 use mathlib.Core.Logic.{⊎-elim}
 use mathlib.Core.Bool.{Bool, true, false}
@@ -15,7 +15,9 @@ use Rattle.wire.proofs.Picks.{pick-yes, pick-no, pick-split}
 use Rattle.protocol.specs.Descriptors.{bareForm, DescribedType, describe}
 use Rattle.descriptor_fields.specs.Layouts.{valued}
 use Rattle.descriptor_fields.specs.Fields.{Known, idAt, indexIn}
-use Rattle.descriptor_blocks.specs.Descriptor.{nodeAt, Block, summary, summaries, allWords, Blocks, faulty, whole, blocksOf, indexOf, tagAt, refusedBy, noType, described, rooted, descriptionOf, planWords, Compiled, refusedPlan, plan, planOf, roomed, compileOf}
+use Rattle.descriptor_blocks.specs.Descriptor.{nodeAt, Block, summary, summaries, allWords, Blocks, faulty, whole, blocksOf, indexOf, tagAt}
+use Rattle.descriptor_blocks.specs.Descriptor.{refusedBy, noType, described, rooted, descriptionOf, planWords, Compiled, refusedPlan, plan}
+use Rattle.descriptor_blocks.specs.Descriptor.{planOf, roomed, compileOf}
 use Rattle.descriptor_fields.specs.Arrays.{knownOf}
 use Rattle.descriptor_scan.specs.Scan.{Kept, Scans}
 use Rattle.descriptor_compile.specs.Compile.{answerOf, Gives}
@@ -226,5 +228,8 @@ planned-room d root room ws = go (describe bareForm d root)
     go (accepted t) e =
         ⊎-elim
         (λ (q : (ltb room (length (wholePlan t)) ≡ true) × (refused 30 0 ≡ accepted ws)). let f = q .1 in let z : _≡_ {A = ℕ} 0 1 = cc in absurd (omega arith))
-        (λ (q : (ltb room (length (wholePlan t)) ≡ false) × (accepted (wholePlan t) ≡ accepted ws)). let f = q .1 in let v : wholePlan t ≡ ws = cc in let h = ltb-false room (length (wholePlan t)) (q .0) in rw v at h)
+        (λ (q : (ltb room (length (wholePlan t)) ≡ false) × (accepted (wholePlan t) ≡ accepted ws)). let f = q .1 in
+        let v : wholePlan t ≡ ws = cc in
+        let h = ltb-false room (length (wholePlan t)) (q .0) in
+        rw v at h)
         (pick-split (ltb room (length (wholePlan t))) (refused 30 0) (accepted (wholePlan t)) (accepted ws) e)

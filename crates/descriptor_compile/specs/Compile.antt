@@ -1,4 +1,4 @@
--- What compiling answers and leaves in the plan's room (R1.1, R1.2, R4.9). Assumes nothing: these are definitions.
+-- What compiling answers and leaves in the plan's room (R1.1, R1.2, R4.9).
 use mathlib.Core.Path.{_≡_}
 use Prim.Native.Nat.{ℕ}
 use mathlib.Core.List.{List}

@@ -1,4 +1,4 @@
--- The sizes of fields. Assumes nothing.
+-- The sizes of fields.
 use mathlib.Core.Path.{_≡_, _∙_}
 use mathlib.Core.List.{List}
 use Prim.Native.Nat.{ℕ, _+_, _≤_, _<_}

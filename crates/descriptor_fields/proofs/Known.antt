@@ -1,4 +1,4 @@
--- The earlier blocks and the elements, looked through one by one. Assumes nothing.
+-- The earlier blocks and the elements, looked through one by one.
 use mathlib.Core.Path.{_≡_, refl, ap, sym}
 use mathlib.Core.Logic.{⊎-elim}
 use mathlib.Core.Bool.{true, false}

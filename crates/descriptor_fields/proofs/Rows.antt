@@ -1,4 +1,4 @@
--- The layouts of tags, and the code's runs of numbers for them. Assumes nothing.
+-- The layouts of tags, and the code's runs of numbers for them.
 use mathlib.Core.Path.{_≡_, refl, ap, _∙_}
 use mathlib.Core.List.{[]}
 use Prim.Native.Nat.{ℕ}

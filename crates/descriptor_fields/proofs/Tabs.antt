@@ -1,4 +1,4 @@
--- The laws of the first values of a function, as a list. Assumes nothing.
+-- The laws of the first values of a function, as a list.
 use mathlib.Core.Path.{_≡_, refl, ap, sym, _∙_}
 use mathlib.Core.Logic.{⊎-elim}
 use mathlib.Core.Bool.{Bool, true, false}

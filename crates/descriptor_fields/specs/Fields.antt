@@ -1,11 +1,13 @@
 -- Nobody has to believe these definitions: they are what the code says to itself of one field of a block, its size, its rule and what is
--- kept of it, by places in the descriptor d; that they give what protocol's give is proved (descriptor_agree). Assumes nothing.
+-- kept of it, by places in the descriptor d; that they give what protocol's give is proved (descriptor_agree).
 use Prim.Native.Nat.{ℕ, _+_, _-_}
 use mathlib.Core.Bool.{Bool, true, false}
 use mathlib.Core.List.{List, [], _∷_, _++_}
 use lib.Dec.{leb, ltb, eqb}
 use lib.ListN.{length, take, drop, getD}
-use Rattle.descriptor_fields.specs.Layouts.{ID, NAME, FREE, OPERATION, CARDINALITY, SHAPE-FLAGS, INPUT-FLAGS, BOUND, DIMENSIONS, ANCESTORS, COUNT, ANCESTOR, ANY, OBJECT, ELEMENT, SET-ELEMENT, ARRAY-ELEMENT, valued, objectType}
+use Rattle.descriptor_fields.specs.Layouts.{ID, NAME, FREE, OPERATION, CARDINALITY, SHAPE-FLAGS, INPUT-FLAGS, BOUND, DIMENSIONS}
+use Rattle.descriptor_fields.specs.Layouts.{ANCESTORS, COUNT, ANCESTOR, ANY, OBJECT, ELEMENT, SET-ELEMENT, ARRAY-ELEMENT, valued}
+use Rattle.descriptor_fields.specs.Layouts.{objectType}
 use Rattle.descriptor_fields.specs.declared.Draft.{Draft}
 use Rattle.protocol.specs.Numbers.{pick, be, any, sameBytes, atLeast}
 use Rattle.protocol.specs.Text.{wellFormed}

@@ -1,5 +1,5 @@
 -- Nobody has to believe these definitions: they are what the code says to itself of the fields of each block. A field's kind is a number
--- with a name; its size and its rule are in Fields. That they give what protocol's give is proved (descriptor_agree). Assumes nothing.
+-- with a name; its size and its rule are in Fields. That they give what protocol's give is proved (descriptor_agree).
 use Prim.Native.Nat.{ℕ}
 use mathlib.Core.Bool.{Bool, true, false}
 use mathlib.Core.List.{List, [], _∷_, _++_}

@@ -1,4 +1,4 @@
--- The index of the first earlier block with an id, as the code looks for it, block by block. Assumes nothing.
+-- The index of the first earlier block with an id, as the code looks for it, block by block.
 use mathlib.Core.Path.{_≡_, refl, ap, sym, _∙_}
 use mathlib.Core.Bool.{Bool, true, false}
 use mathlib.Core.List.{List, [], _∷_}

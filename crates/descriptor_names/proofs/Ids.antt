@@ -1,4 +1,4 @@
--- Ids as two numbers of eight bytes. Assumes nothing.
+-- Ids as two numbers of eight bytes.
 use mathlib.Core.Path.{_≡_, ap, sym, _∙_}
 use mathlib.Core.Logic.{⊎-elim}
 use mathlib.Core.Bool.{false}

@@ -1,4 +1,4 @@
--- The content of texts, and runs of bytes that are the same. Assumes nothing.
+-- The content of texts, and runs of bytes that are the same.
 use mathlib.Core.Path.{_≡_, refl, ap, sym, _∙_}
 use mathlib.Core.Bool.{Bool, true, false, _&&_}
 use mathlib.Core.List.{List, [], _∷_}

@@ -1,4 +1,4 @@
--- A node's words, as the code puts them out: word by word, and by the block's tag. Assumes nothing.
+-- A node's words, as the code puts them out: word by word, and by the block's tag.
 use mathlib.Core.Path.{_≡_, refl, ap, ap₂, sym, _∙_}
 use mathlib.Core.Logic.{_⊎_, inl, inr}
 use mathlib.Core.Bool.{Bool, true, false}

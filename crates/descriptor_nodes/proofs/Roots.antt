@@ -1,5 +1,4 @@
--- The index of the block with an id, and the tag of the block with an index: as the blocks say and as the words that are kept of them
--- say. Assumes nothing.
+-- The index of the block with an id, and the tag of the block with an index: as the blocks say and as the words that are kept of them say.
 use mathlib.Core.Path.{_≡_, refl, ap}
 use mathlib.Core.List.{List, [], _∷_}
 use Prim.Native.Nat.{ℕ, zero, suc, _+_, _≤_, _<_}

@@ -1,4 +1,4 @@
--- Nobody has to believe these definitions: they are the words of a block's node as the code puts them out. Assumes nothing.
+-- Nobody has to believe these definitions: they are the words of a block's node as the code puts them out.
 use mathlib.Core.Path.{_≡_}
 use Prim.Native.Nat.{ℕ, _+_}
 use mathlib.Core.List.{List, [], _∷_, map}

@@ -88,7 +88,9 @@ fn put_pairs(
     to: usize,
 )
     requires { ⌜ (Told (now d) (now known) n) × (Roomy (now elements) count) × (to ≤ 4194304) ⌝ }
-    ensures { λ _. ⌜ now (plan .exit) ≡ sets (now (plan .entry)) to (pairs (map (nodeAt (knownOf (now (d .entry)) (now (known .entry)) n)) (refs (elementsOf (now (elements .entry)) count))) (cards (elementsOf (now (elements .entry)) count))) ⌝ }
+    ensures { λ _. ⌜ now (plan .exit)
+        ≡ sets (now (plan .entry)) to
+        (pairs (map (nodeAt (knownOf (now (d .entry)) (now (known .entry)) n)) (refs (elementsOf (now (elements .entry)) count))) (cards (elementsOf (now (elements .entry)) count))) ⌝ }
 {
     let mut k: usize = 0;
     while k < count {

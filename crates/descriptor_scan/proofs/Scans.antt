@@ -1,5 +1,5 @@
--- The loop over the blocks: what is left of the reading leads to the same blocks, what is kept of them is theirs, and their words stand in
--- the plan. Assumes nothing.
+-- The loop over the blocks: what is left of the reading leads to the same
+-- blocks, what is kept of them is theirs, and their words stand in the plan.
 use mathlib.Core.Path.{_≡_, refl, ap, ap₂, sym, _∙_}
 use mathlib.Core.Logic.{⊎-elim}
 use mathlib.Core.Bool.{Bool, true, false}
@@ -15,7 +15,8 @@ use Rattle.wire.proofs.Picks.{pick-yes, pick-no, pick-split, pick-case}
 use Rattle.descriptor_fields.specs.Layouts.{knownTag, indexed, valued}
 use Rattle.descriptor_fields.specs.Fields.{Known, noBlock, Element}
 use Rattle.descriptor_blocks.specs.Blocks.{Item, Reading, stop, next, blockFrom}
-use Rattle.descriptor_blocks.specs.Descriptor.{refs, cards, onlyRef, nodeOf, pairs, nodeWords, nodeAt, Block, summary, summaries, allWords, wordsOf, blockOf, faulty, extended, full, onward, blocksFrom, blocksOf}
+use Rattle.descriptor_blocks.specs.Descriptor.{refs, cards, onlyRef, nodeOf, pairs, nodeWords, nodeAt, Block, summary, summaries, allWords}
+use Rattle.descriptor_blocks.specs.Descriptor.{wordsOf, blockOf, faulty, extended, full, onward, blocksFrom, blocksOf}
 use Rattle.descriptor_fields.specs.Arrays.{tab, Told, knownOf, knownAt, elementAt, elementsOf}
 use Rattle.descriptor_blocks.specs.Walks.{stopped, moved, led, walkOf, Inside}
 use Rattle.descriptor_fields.specs.declared.Draft.{Draft}

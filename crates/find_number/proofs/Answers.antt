@@ -1,4 +1,4 @@
--- A contract of the number leaves one answer. Assumes nothing.
+-- A contract of the number leaves one answer.
 use mathlib.Core.Path.{_≡_, refl, ap, sym, _∙_}
 use mathlib.Core.Bool.{Bool, true, false, cond}
 use Prim.Native.Nat.{ℕ}

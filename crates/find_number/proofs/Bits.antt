@@ -1,4 +1,4 @@
--- The laws of an element's bits. Assumes nothing.
+-- The laws of an element's bits.
 use mathlib.Core.Path.{_≡_, refl, ap, sym, _∙_}
 use mathlib.Core.Bool.{true, false, not, cond}
 use mathlib.Core.List.{List, [], _∷_}

@@ -1,4 +1,4 @@
--- The number of what was found: a scalar that is accepted is permitted, and its number is the call's. Assumes nothing.
+-- The number of what was found: a scalar that is accepted is permitted, and its number is the call's.
 use mathlib.Core.Path.{_≡_, refl, sym, _∙_}
 use mathlib.Core.Bool.{Bool, true, false}
 use mathlib.Core.List.{List}

@@ -1,5 +1,5 @@
 -- The number of an element (document 01, 'Plan, list, finding': "An int16, int32, int64, memory, bool or float element can be had as one number
--- of its kind, a float with every bit kept."). "Finding: 33, 28, value faults, 35 or 36, 37." Assumes nothing: these are definitions.
+-- of its kind, a float with every bit kept."). "Finding: 33, 28, value faults, 35 or 36, 37."
 use mathlib.Core.Path.{_≡_}
 use Prim.Native.Nat.{ℕ}
 use mathlib.Core.Bool.{true, not, cond}

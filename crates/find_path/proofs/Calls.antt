@@ -1,4 +1,4 @@
--- The laws of the call: what a check says of the value, and where its path then leads. Assumes nothing.
+-- The laws of the call: what a check says of the value, and where its path then leads.
 use mathlib.Core.Path.{_≡_, refl, ap, _∙_}
 use mathlib.Core.Bool.{Bool, true, false}
 use mathlib.Core.List.{List, []}

@@ -1,4 +1,4 @@
--- The laws of a descent by a path, one word of the path at a time. Assumes nothing.
+-- The laws of a descent by a path, one word of the path at a time.
 use mathlib.Core.Path.{_≡_, refl, _∙_}
 use mathlib.Core.List.{List, [], _∷_}
 use mathlib.Core.Logic.{_⊎_, ⊎-elim}

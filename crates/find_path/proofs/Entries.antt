@@ -1,5 +1,5 @@
 -- What is found is what the path leads to in the words of the run's list: the whole answer is read off that list (`find-lines`), and the part
--- found has the node, start and length of the entry that the path names there (`found-entry`). Assumes nothing.
+-- found has the node, start and length of the entry that the path names there (`found-entry`).
 use mathlib.Core.Path.{_≡_, refl, ap, sym, _∙_}
 use mathlib.Core.Bool.{Bool, true, false}
 use mathlib.Core.List.{List, [], _∷_, _++_, append-assoc, append-nil}

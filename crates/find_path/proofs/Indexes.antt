@@ -1,4 +1,4 @@
--- In the list of an accepted value no two entries side by side have one index, so a path of index words names one entry alone. Assumes nothing.
+-- In the list of an accepted value no two entries side by side have one index, so a path of index words names one entry alone.
 use mathlib.Core.Path.{_≡_, refl, ap, sym, _∙_, subst}
 use mathlib.Core.Bool.{Bool, true, false}
 use mathlib.Core.List.{List, [], _∷_}
@@ -27,7 +27,8 @@ use Rattle.protocol.specs.Constants.{ABSENT}
 use Rattle.protocol.specs.Heads.{indexOf, endOf}
 use Rattle.protocol.specs.Nodes.{Node, leaf, enum, row, arrays, tuple, object, sparse, range, refAt}
 use Rattle.protocol.specs.Lists.{Entry, Forest, empty, tree, append, entryOf}
-use Rattle.protocol.specs.Values.{ValueOutcome, then, Rule, absent, present, elementOutcome, Form, containerEnd, elements, rowHead, rowForm, sparseForm, noMarks, leafRule, rowRule, sparseRule, byNode, valueOf}
+use Rattle.protocol.specs.Values.{ValueOutcome, then, Rule, absent, present, elementOutcome, Form, containerEnd, elements, rowHead, rowForm}
+use Rattle.protocol.specs.Values.{sparseForm, noMarks, leafRule, rowRule, sparseRule, byNode, valueOf}
 use Rattle.protocol.specs.Answers.{accepted}
 use Rattle.protocol.specs.Plans.{look, cardsAt, noType}
 use Rattle.plan_nodes.specs.Readers.{At}

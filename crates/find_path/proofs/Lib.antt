@@ -1,4 +1,4 @@
--- The laws of finding. Assumes nothing.
+-- The laws of finding.
 pub mod Seeks
 pub mod Descents
 pub mod Paths

@@ -1,4 +1,4 @@
--- Of an accepted value a descent finds what the path names in the entries that the value lists. Assumes nothing.
+-- Of an accepted value a descent finds what the path names in the entries that the value lists.
 use mathlib.Core.Path.{_≡_, refl, ap, sym, _∙_}
 use mathlib.Core.Bool.{Bool, true, false}
 use mathlib.Core.List.{List, [], _∷_}
@@ -25,7 +25,8 @@ use Rattle.protocol.specs.Constants.{ABSENT}
 use Rattle.protocol.specs.Heads.{word, sparseIndex, sparseRest, sparseHead, endOf, indexOf}
 use Rattle.protocol.specs.Nodes.{Node, leaf, enum, row, arrays, tuple, object, sparse, range, refAt}
 use Rattle.protocol.specs.Lists.{Entry, Forest, empty, tree, append, entryOf}
-use Rattle.protocol.specs.Values.{ValueOutcome, then, under, Rule, absent, present, elementOutcome, Form, containerEnd, elements, rowForm, sparseForm, noMarks, openingOf, leafRule, rowRule, sparseRule, byNode, value, valueOf}
+use Rattle.protocol.specs.Values.{ValueOutcome, then, under, Rule, absent, present, elementOutcome, Form, containerEnd, elements, rowForm}
+use Rattle.protocol.specs.Values.{sparseForm, noMarks, openingOf, leafRule, rowRule, sparseRule, byNode, value, valueOf}
 use Rattle.protocol.specs.Answers.{refused, accepted}
 use Rattle.protocol.specs.Plans.{look}
 use Rattle.plan_nodes.specs.Readers.{At}
@@ -110,9 +111,12 @@ module _ (rule : Rule) (own : Owns rule) (ref : ℕ → Option ℕ) (base : ℕ)
   pub member-listed : (h : Head) (g : Forest) → elementOutcome rule ref base s h ≡ accepted g → Member h g
   unfolding elementOutcome indexOf ends
   member-listed (Fault n) g e = let z : _≡_ {A = ℕ} 0 1 = cc in absurd (omega arith)
-  member-listed (Absent i start) g e = let w = absent-listed (ref i) i (base + start) g e in record { entry = w .0; inner = empty; is = w .1; index-is = w .2; ends-is = λ w. refl; no-fault = λ n x. let z : _≡_ {A = ℕ} 0 1 = cc in absurd (omega arith) }
+  member-listed (Absent i start) g e =
+      let w = absent-listed (ref i) i (base + start) g e in
+      record { entry = w .0; inner = empty; is = w .1; index-is = w .2; ends-is = λ w. refl; no-fault = λ n x. let z : _≡_ {A = ℕ} 0 1 = cc in absurd (omega arith) }
   member-listed (Present i start size) g e =
-      let w = present-listed (ref i) i (base + start) _ g e in record { entry = w .0; inner = w .1; is = w .2; index-is = w .3; ends-is = λ w. refl; no-fault = λ n x. let z : _≡_ {A = ℕ} 0 1 = cc in absurd (omega arith) }
+      let w = present-listed (ref i) i (base + start) _ g e in
+      record { entry = w .0; inner = w .1; is = w .2; index-is = w .3; ends-is = λ w. refl; no-fault = λ n x. let z : _≡_ {A = ℕ} 0 1 = cc in absurd (omega arith) }
 
   -- the first member and the rest
   pub then-listed : (a b : ValueOutcome) (f : Forest) → then a b ≡ accepted f → (g g′ : Forest) × (a ≡ accepted g) × (b ≡ accepted g′) × (f ≡ append g g′)

@@ -1,4 +1,4 @@
--- The laws of a search among a container's heads. Assumes nothing.
+-- The laws of a search among a container's heads.
 use mathlib.Core.Path.{_≡_, refl, sym, _∙_}
 use mathlib.Core.Bool.{Bool, true, false}
 use mathlib.Core.List.{List, [], _∷_}

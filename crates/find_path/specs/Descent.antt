@@ -1,5 +1,5 @@
 -- Finding as the code does it: a container's heads are read one after the other, up to the element that the path names. Of an accepted value
--- this finds what Find's definition says (proofs/Paths). Assumes nothing: these are definitions.
+-- this finds what Find's definition says (proofs/Paths).
 use Prim.Native.Nat.{ℕ, zero, suc, _+_}
 use mathlib.Core.Bool.{Bool, true}
 use mathlib.Core.List.{List, [], _∷_}

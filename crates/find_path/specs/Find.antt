@@ -1,5 +1,5 @@
 -- What a path leads to (document 01, 'Plan, list, finding': "A path of index words leads down from the top"), in the entries that the value
--- lists. "Finding: 33, 28, value faults, 35 or 36, 37." Assumes nothing: these are definitions.
+-- lists. "Finding: 33, 28, value faults, 35 or 36, 37."
 use mathlib.Core.Path.{_≡_}
 use Prim.Native.Nat.{ℕ}
 use mathlib.Core.List.{List, []}

@@ -58,7 +58,8 @@ fn seek_head(
     first: usize,
     from: usize,
 ) -> Head
-    requires { ⌜ (At (now plan) node) × (Container (now plan) node kind) × (kind ≡ 5 → first + count ≤ getD (now plan) (node + 1) 0) × (first + count < 2 ^ 32) × (length (now part) ≤ 65535) × (from ≤ length (now part)) ⌝ }
+    requires { ⌜ (At (now plan) node) × (Container (now plan) node kind) × (kind ≡ 5 → first + count ≤ getD (now plan) (node + 1) 0)
+        × (first + count < 2 ^ 32) × (length (now part) ≤ 65535) × (from ≤ length (now part)) ⌝ }
     ensures { λ r. ⌜ r ≡ seek (look (now (plan .entry)) node) (now (part .entry)) wanted count first from ⌝ }
 {
     let mut left = count;

@@ -1,4 +1,4 @@
--- What the writer puts out, the reader accepts, with the fields' bytes in order, and whatever comes after it. Assumes nothing.
+-- What the writer puts out, the reader accepts, with the fields' bytes in order, and whatever comes after it.
 use mathlib.Core.Path.{_≡_, refl, ap, sym, _∙_}
 use mathlib.Core.List.{List, [], _∷_, _++_, append-nil}
 use Prim.Native.Nat.{ℕ, _+_, _^_, _<_, _≤_}
@@ -14,7 +14,8 @@ use Rattle.message_laws.proofs.Covers.{covers}
 use Rattle.message_laws.proofs.Words.{pairs-contents, bounded}
 use Rattle.message_laws.proofs.ReadBack.{Stands, Same, Reads, read-back}
 use Rattle.protocol.specs.Numbers.{pick, bytesBe}
-use Rattle.protocol.specs.Messages.{Layout, layoutOf, read, fieldsRead, messageEnd, bodyRead, messageOf, messageRoomed, messageCall, Written, unwritten, wrote, fieldsWritten, messageWhole, bodyWritten, messageWritten, contents}
+use Rattle.protocol.specs.Messages.{Layout, layoutOf, read, fieldsRead, messageEnd, bodyRead, messageOf, messageRoomed, messageCall}
+use Rattle.protocol.specs.Messages.{Written, unwritten, wrote, fieldsWritten, messageWhole, bodyWritten, messageWritten, contents}
 use mathlib.Core.Option.{Option, some, none}
 use Rattle.protocol.specs.Answers.{Put, refusedPut, putOut}
 

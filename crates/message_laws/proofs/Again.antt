@@ -1,4 +1,4 @@
--- A message that was read and is written again has the same bytes. Assumes nothing.
+-- A message that was read and is written again has the same bytes.
 use mathlib.Core.Path.{_≡_, ap, sym, _∙_}
 use mathlib.Core.List.{List, [], _∷_, _++_, append-nil}
 use Prim.Native.Nat.{ℕ, zero, suc, _+_, _-_, _<_, _≤_}

@@ -1,5 +1,5 @@
 -- Demand 2 as the C host meets it, on the answers of the two message calls and on bytes: what is read and written again is the same
--- message, and what is written is read, with the same contents. Assumes nothing.
+-- message, and what is written is read, with the same contents.
 use mathlib.Core.Path.{_≡_, refl, ap, sym, _∙_}
 use mathlib.Core.Bool.{true}
 use mathlib.Core.List.{List, [], _∷_, _++_}
@@ -18,7 +18,8 @@ use Rattle.message_laws.proofs.Words.{pairs-words, bounded, Numbered, n
 use Rattle.message_laws.proofs.Accepted.{refuse, ReadBack, accepted-back}
 use Rattle.protocol.specs.Numbers.{pick}
 use mathlib.Core.Option.{Option, some, none}
-use Rattle.protocol.specs.Messages.{Layout, layoutOf, MessageRead, unread, read, messageOf, messageRoomed, messageCall, Written, unwritten, wrote, fieldsWritten, messageWhole, bodyWritten, messageWritten, contents}
+use Rattle.protocol.specs.Messages.{Layout, layoutOf, MessageRead, unread, read, messageOf, messageRoomed, messageCall, Written, unwritten}
+use Rattle.protocol.specs.Messages.{wrote, fieldsWritten, messageWhole, bodyWritten, messageWritten, contents}
 use Rattle.protocol.specs.Answers.{Put, refusedPut, putOut, outputAfter}
 use Rattle.protocol.specs.Crossing.{wordsIn, bytesOut, crosses, wordRoom, refusal, success, readAnswer, readList, ReadsMessage, uncrossedList, writtenFrom, putAnswer, WritesMessage}
 

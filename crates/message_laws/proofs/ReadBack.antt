@@ -1,4 +1,4 @@
--- What is written in any layout is read back, with the same contents, wherever it stands in a message. Assumes nothing.
+-- What is written in any layout is read back, with the same contents, wherever it stands in a message.
 use mathlib.Core.Path.{_≡_, refl, ap, _∙_}
 use mathlib.Core.Bool.{true}
 use mathlib.Core.List.{List, [], _∷_, _++_, append-assoc}
@@ -14,7 +14,9 @@ use Rattle.wire.proofs.Picks.{both, pick-case}
 use Rattle.forms.specs.declared.FieldRead.the-variants.{At}
 use Rattle.message_laws.proofs.RoundTrip.{count-next}
 use Rattle.protocol.specs.Numbers.{pick, be, bytesBe}
-use Rattle.protocol.specs.Messages.{Field, number, text, bytes, Layout, done, one, run, u16, permits, lengthened, textual, fieldAt, MessageRead, read, readBefore, thenRead, fieldOutcome, timesRead, fieldsRead, Written, unwritten, wrote, fitting, fieldBytes, nextField, putBefore, joined, timesWritten, fieldsWritten, contents}
+use Rattle.protocol.specs.Messages.{Field, number, text, bytes, Layout, done, one, run, u16, permits, lengthened, textual, fieldAt}
+use Rattle.protocol.specs.Messages.{MessageRead, read, readBefore, thenRead, fieldOutcome, timesRead, fieldsRead, Written, unwritten, wrote}
+use Rattle.protocol.specs.Messages.{fitting, fieldBytes, nextField, putBefore, joined, timesWritten, fieldsWritten, contents}
 
 -- ---- bytes at a position
 

@@ -1,5 +1,4 @@
 -- What is read of any layout, written again from its list and a source that has its bytes where it has them, has the same bytes.
--- Assumes nothing.
 use mathlib.Core.Path.{_≡_, refl, ap, sym, _∙_}
 use mathlib.Core.Bool.{true}
 use mathlib.Core.List.{List, [], _++_, append-assoc}
@@ -17,7 +16,9 @@ use Rattle.forms.specs.declared.FieldRead.the-variants.{Short, Barred, At}
 use Rattle.message_laws.proofs.Covers.{Covers}
 use Rattle.protocol.specs.Numbers.{pick, be, bytesBe}
 use Rattle.protocol.specs.Text.{wellFormed}
-use Rattle.protocol.specs.Messages.{Field, number, text, bytes, Layout, done, one, run, u16, permits, lengthened, textual, fieldAt, MessageRead, unread, read, readBefore, thenRead, fieldOutcome, timesRead, fieldsRead, Written, wrote, fitting, fieldBytes, nextField, putBefore, joined, timesWritten, fieldsWritten}
+use Rattle.protocol.specs.Messages.{Field, number, text, bytes, Layout, done, one, run, u16, permits, lengthened, textual, fieldAt}
+use Rattle.protocol.specs.Messages.{MessageRead, unread, read, readBefore, thenRead, fieldOutcome, timesRead, fieldsRead, Written, wrote}
+use Rattle.protocol.specs.Messages.{fitting, fieldBytes, nextField, putBefore, joined, timesWritten, fieldsWritten}
 
 -- the bytes of m from p up to q
 abbrev pub span : List ℕ → ℕ → ℕ → List ℕ

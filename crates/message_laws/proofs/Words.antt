@@ -1,4 +1,4 @@
--- What every reading keeps to: a refusal has a number, and a list's words are pairs that lie in the message. Assumes nothing.
+-- What every reading keeps to: a refusal has a number, and a list's words are pairs that lie in the message.
 use mathlib.Core.Path.{_≡_, refl, sym, _∙_}
 use mathlib.Core.List.{List, [], _∷_, _++_}
 use Prim.Native.Nat.{ℕ, zero, suc, _+_, _<_, _≤_}
@@ -14,7 +14,9 @@ use Rattle.message_laws.proofs.Covers.{Covers}
 use Rattle.message_laws.proofs.RoundTrip.{LiesAt, lies-field}
 use Rattle.message_laws.proofs.Again.{made, used}
 use Rattle.protocol.specs.Numbers.{be}
-use Rattle.protocol.specs.Messages.{Field, Layout, done, one, run, u16, layoutOf, fieldAt, MessageRead, unread, read, readBefore, thenRead, fieldOutcome, timesRead, fieldsRead, messageEnd, bodyRead, messageOf, messageRoomed, messageCall, contents}
+use Rattle.protocol.specs.Messages.{Field, Layout, done, one, run, u16, layoutOf, fieldAt, MessageRead, unread, read, readBefore, thenRead}
+use Rattle.protocol.specs.Messages.{fieldOutcome, timesRead, fieldsRead, messageEnd, bodyRead, messageOf, messageRoomed, messageCall}
+use Rattle.protocol.specs.Messages.{contents}
 use mathlib.Core.Option.{Option, some, none}
 
 -- ---- pairs of start and length, which lie in n bytes
@@ -82,7 +84,8 @@ module _ (m : List ℕ) where
   sound-fields (one f rest) p = sound-then (length m) _ (fieldsRead rest m) (sound-field f p) (sound-fields rest)
   sound-fields (run items rest) p =
       sound-then (length m) _ (fieldsRead rest m)
-      (sound-then (length m) _ (timesRead (be (take 2 (drop p m))) (fieldsRead items m)) (sound-field u16 p) (sound-times (length m) (fieldsRead items m) (sound-fields items) (be (take 2 (drop p m)))))
+      (sound-then (length m) _ (timesRead (be (take 2 (drop p m))) (fieldsRead items m)) (sound-field u16 p)
+      (sound-times (length m) (fieldsRead items m) (sound-fields items) (be (take 2 (drop p m)))))
       (sound-fields rest)
 
 -- ---- a message

@@ -1,4 +1,4 @@
--- The layout at a position of the table of codes, what holds of every code, and a measure for walks over the table. Assumes nothing.
+-- The layout at a position of the table of codes, what holds of every code, and a measure for walks over the table.
 use mathlib.Core.Path.{_≡_, refl, ap, sym, _∙_}
 use mathlib.Core.List.{List, [], _∷_}
 use mathlib.Core.Logic.{_⊎_, inl, inr, ⊎-elim}

@@ -1,4 +1,4 @@
--- The laws of layouts that are judged or not. Assumes nothing.
+-- The laws of layouts that are judged or not.
 use mathlib.Core.Path.{_≡_, refl}
 use mathlib.Core.Bool.{Bool, true, false}
 use Rattle.message_layout.specs.Judged.{judged, unjudged, judgedAll}

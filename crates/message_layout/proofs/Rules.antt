@@ -1,4 +1,4 @@
--- The laws of a number's permitted values, and of the table of codes' rules. Assumes nothing.
+-- The laws of a number's permitted values, and of the table of codes' rules.
 use mathlib.Core.Path.{_≡_, refl, ap, sym, _∙_, subst}
 use mathlib.Core.Bool.{true}
 use mathlib.Core.List.{List, [], _∷_}

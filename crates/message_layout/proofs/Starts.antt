@@ -1,4 +1,4 @@
--- The layout at a type byte's start is the one that the side knows for it. Assumes nothing.
+-- The layout at a type byte's start is the one that the side knows for it.
 use mathlib.Core.Path.{_≡_, refl, ap, _∙_}
 use mathlib.Core.Bool.{Bool, true, false}
 use Prim.Native.Nat.{ℕ}

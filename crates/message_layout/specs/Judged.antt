@@ -1,4 +1,4 @@
--- Fields without the rules on their content, for a second pass over what a first pass has judged. Assumes nothing: these are definitions.
+-- Fields without the rules on their content, for a second pass over what a first pass has judged.
 use mathlib.Core.Bool.{Bool, true, false}
 use mathlib.Core.List.{[]}
 use Rattle.protocol.specs.Messages.{Field, number, text, bytes, Layout, done, one, run}

@@ -1,4 +1,4 @@
--- The code's tables, and the layouts that they stand for. Assumes nothing: these are definitions.
+-- The code's tables, and the layouts that they stand for.
 use mathlib.Core.Path.{_≡_}
 use Prim.Native.Nat.{ℕ, suc, _+_, _-_, _≤_, _<_}
 use mathlib.Core.List.{List, [], _∷_}

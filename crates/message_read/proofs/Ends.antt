@@ -1,4 +1,4 @@
--- How a reading ends: what a walk's answer says of the outcome, and the laws of the tests before and after the fields. Assumes nothing.
+-- How a reading ends: what a walk's answer says of the outcome, and the laws of the tests before and after the fields.
 use mathlib.Core.Path.{_≡_, refl, ap, sym, _∙_}
 use mathlib.Core.Bool.{false}
 use mathlib.Core.List.{List, _++_}

@@ -1,4 +1,4 @@
--- The laws of one field at a position: numbers by their codes, content after a length, text. Assumes nothing.
+-- The laws of one field at a position: numbers by their codes, content after a length, text.
 use mathlib.Core.Path.{_≡_, refl, ap, sym, _∙_}
 use mathlib.Core.Bool.{Bool, true, false}
 use mathlib.Core.List.{List}

@@ -1,4 +1,4 @@
--- A reading that judges no content gives the same list as one that judged and accepted. Assumes nothing.
+-- A reading that judges no content gives the same list as one that judged and accepted.
 use mathlib.Core.Path.{_≡_, refl}
 use mathlib.Core.Bool.{Bool, true, false}
 use mathlib.Core.List.{List}
@@ -10,7 +10,8 @@ use Rattle.forms.specs.declared.FieldRead.{FieldRead}
 use Rattle.forms.specs.declared.FieldRead.the-variants.{Short, Barred, At}
 use Rattle.protocol.specs.Numbers.{pick, be}
 use Rattle.protocol.specs.Text.{wellFormed}
-use Rattle.protocol.specs.Messages.{Field, number, text, bytes, Layout, done, one, run, u16, permits, lengthened, textual, fieldAt, MessageRead, unread, read, readBefore, thenRead, fieldOutcome, timesRead, fieldsRead}
+use Rattle.protocol.specs.Messages.{Field, number, text, bytes, Layout, done, one, run, u16, permits, lengthened, textual, fieldAt}
+use Rattle.protocol.specs.Messages.{MessageRead, unread, read, readBefore, thenRead, fieldOutcome, timesRead, fieldsRead}
 
 -- what the first reads, the second reads too
 abbrev pub Keeps : MessageRead → MessageRead → Type 0

@@ -1,4 +1,4 @@
--- The laws of the walk over a table of codes: what is left of a layout leads to the same place. Assumes nothing.
+-- The laws of the walk over a table of codes: what is left of a layout leads to the same place.
 use mathlib.Core.Path.{_≡_, refl, _∙_}
 use mathlib.Core.Bool.{Bool}
 use mathlib.Core.List.{List}

@@ -1,4 +1,4 @@
--- What an accepted message is made of. Assumes nothing.
+-- What an accepted message is made of.
 use mathlib.Core.Path.{_≡_, refl, _∙_}
 use mathlib.Core.Bool.{Bool, true, false}
 use mathlib.Core.List.{List}

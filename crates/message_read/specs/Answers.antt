@@ -1,4 +1,4 @@
--- What the reader answers and leaves in the list, from the outcome that the definition gives. Assumes nothing: these are definitions.
+-- What the reader answers and leaves in the list, from the outcome that the definition gives.
 use mathlib.Core.Path.{_≡_}
 use Prim.Native.Nat.{ℕ}
 use mathlib.Core.List.{List}

@@ -1,5 +1,4 @@
 -- The reading as the code does it: the list by the number of its words so far. A refusal says nothing of the list.
--- Assumes nothing: these are definitions.
 use Prim.Native.Nat.{ℕ, _+_, _-_, _*_, _≤_, _<_}
 use mathlib.Core.Bool.{Bool}
 use mathlib.Core.List.{List}

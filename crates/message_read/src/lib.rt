@@ -163,7 +163,15 @@ fn item(
     let mut at = first;
     let mut k = w;
     while 0 < left {
-        let step = walk(m, table, (code - message_layout::RUN) as usize, judge, at, k, list);
+        let step = walk(
+            m,
+            table,
+            (code - message_layout::RUN) as usize,
+            judge,
+            at,
+            k,
+            list,
+        );
         let Step::Reached { at: a, words: w } = step else {
             return step;
         };

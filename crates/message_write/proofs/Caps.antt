@@ -1,4 +1,4 @@
--- The laws of a length that stops growing past the largest message. Assumes nothing.
+-- The laws of a length that stops growing past the largest message.
 use mathlib.Core.Path.{_≡_, sym, _∙_}
 use mathlib.Core.List.{List}
 use mathlib.Core.Logic.{⊎-elim}

@@ -1,4 +1,4 @@
--- The laws of a field's content: whether it fits, and how it is put out. Assumes nothing.
+-- The laws of a field's content: whether it fits, and how it is put out.
 use mathlib.Core.Path.{_≡_, refl, ap, sym, _∙_}
 use mathlib.Core.Bool.{Bool, true, false}
 use mathlib.Core.List.{List, [], _∷_, _++_, append-nil}

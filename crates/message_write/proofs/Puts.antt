@@ -1,4 +1,4 @@
--- How a writing ends: the laws of the last tests and of the whole output. Assumes nothing.
+-- How a writing ends: the laws of the last tests and of the whole output.
 use mathlib.Core.Path.{_≡_, refl, ap, sym, _∙_}
 use mathlib.Core.Bool.{false}
 use mathlib.Core.List.{List, [], _∷_, _++_, append-nil}
@@ -125,7 +125,9 @@ module _ (side t : ℕ) (ws src out : List ℕ) (r : ℕ) (e : r ≡ startOf sid
         unfolding messageWhole wroteOf outputAfter pick
         puts-long g =
             let k : 65535 < length (d .body) + 4 =
-            ⊎-elim (λ (l : 65535 < length (d .body) + 4). l) (λ (l : length (d .body) + 4 ≤ 65535). absurd (omega (arith, d .next, cap-small (5 + length (d .body)) (omega arith)))) (lt-or-ge 65535 (length (d .body) + 4)) in
+            ⊎-elim (λ (l : 65535 < length (d .body) + 4). l)
+            (λ (l : length (d .body) + 4 ≤ 65535). absurd (omega (arith, d .next, cap-small (5 + length (d .body)) (omega arith))))
+            (lt-or-ge 65535 (length (d .body) + 4)) in
             rw (all-is, lt-ltb 65535 (length (d .body) + 4) k) (record { answer = refl; output = refl })
 
         module _ (fit : at ≤ 65536) where

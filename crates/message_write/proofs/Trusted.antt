@@ -1,4 +1,4 @@
--- A writing that judges no content puts out the same bytes as one that judged and found no fault. Assumes nothing.
+-- A writing that judges no content puts out the same bytes as one that judged and found no fault.
 use mathlib.Core.Path.{_≡_, refl}
 use mathlib.Core.Bool.{Bool, true, false}
 use mathlib.Core.List.{List, [], _∷_}
@@ -8,7 +8,8 @@ use lib.ListN.{length, take, drop}
 use Rattle.message_layout.specs.Judged.{judged, unjudged}
 use Rattle.protocol.specs.Numbers.{pick, be}
 use Rattle.protocol.specs.Text.{wellFormed}
-use Rattle.protocol.specs.Messages.{Field, number, text, bytes, Layout, done, one, run, u16, permits, Written, unwritten, wrote, fitting, fieldBytes, nextField, putBefore, joined, timesWritten, fieldsWritten}
+use Rattle.protocol.specs.Messages.{Field, number, text, bytes, Layout, done, one, run, u16, permits, Written, unwritten, wrote, fitting}
+use Rattle.protocol.specs.Messages.{fieldBytes, nextField, putBefore, joined, timesWritten, fieldsWritten}
 
 -- what the first puts out, the second puts out too
 abbrev pub Keeps : Written → Written → Type 0
@@ -64,7 +65,9 @@ keeps-fields done src ws = refl
 keeps-fields (one f rest) src ws = keeps-joined _ _ _ _ (keeps-field src f ws) (λ b. keeps-fields rest src)
 keeps-fields (run items rest) src ws =
     keeps-joined _ _ _ _
-    (keeps-joined _ _ (λ b. timesWritten (be b) (fieldsWritten items src)) (λ b. timesWritten (be b) (fieldsWritten (unjudged items) src)) (keeps-same (nextField u16 src ws)) (λ b. keeps-times (fieldsWritten items src) (fieldsWritten (unjudged items) src) (keeps-fields items src) (be b)))
+    (keeps-joined _ _ (λ b. timesWritten (be b) (fieldsWritten items src)) (λ b. timesWritten (be b) (fieldsWritten (unjudged items) src))
+    (keeps-same (nextField u16 src ws))
+    (λ b. keeps-times (fieldsWritten items src) (fieldsWritten (unjudged items) src) (keeps-fields items src) (be b)))
     (λ b. keeps-fields rest src)
 
 pub unjudged-writes : (l : Layout) (src ws b us : List ℕ) → fieldsWritten l src ws ≡ wrote b us → fieldsWritten (unjudged l) src ws ≡ wrote b us

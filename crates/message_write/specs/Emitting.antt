@@ -1,5 +1,5 @@
 -- The writing as the code does it: the list by the next word's index, the output by the next byte's, which stops growing past the
--- largest message so that no sum can overflow. Assumes nothing: these are definitions.
+-- largest message so that no sum can overflow.
 use mathlib.Core.Path.{_≡_}
 use Prim.Native.Nat.{ℕ, _+_, _-_, _≤_}
 use mathlib.Core.Bool.{Bool}

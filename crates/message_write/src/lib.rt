@@ -160,7 +160,8 @@ fn emit_walk(
     out: &mut [u8],
 ) -> Emit
     requires { ⌜ (start < 51) × (first ≤ length (now list)) × (from ≤ 65537) × (length (now out) ≤ 65536) × (now table ≡ codes) ⌝ }
-    ensures { λ r. ⌜ standOf r (now (list .entry)) (now (out .exit)) ≡ put-at (fieldsWritten (judgedAll judge (layoutAt start)) (now (src .entry)) (drop first (now (list .entry)))) from (now (out .entry)) ⌝ }
+    ensures { λ r. ⌜ standOf r (now (list .entry)) (now (out .exit))
+        ≡ put-at (fieldsWritten (judgedAll judge (layoutAt start)) (now (src .entry)) (drop first (now (list .entry)))) from (now (out .entry)) ⌝ }
     ensures bounded { λ r. ⌜ Bounded (length (now (list .entry))) r ⌝ }
 {
     let mut p = start;

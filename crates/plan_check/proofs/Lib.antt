@@ -1,2 +1,2 @@
--- The laws of the check of a plan. Assumes nothing.
+-- The laws of the check of a plan.
 pub mod Scans

@@ -1,5 +1,4 @@
--- Reading a plan's nodes one by one, with their starts and heights kept in two lists: what is left of the reading leads to the same
--- end. Assumes nothing.
+-- Reading a plan's nodes one by one, with their starts and heights kept in two lists: what is left of the reading leads to the same end.
 use mathlib.Core.Path.{_≡_, refl, ap, sym, _∙_}
 use mathlib.Core.Logic.{⊎-elim}
 use mathlib.Core.Bool.{false}
@@ -50,7 +49,8 @@ module _ (f : ℕ) (p : List ℕ) (at : ℕ) (seen : List PlanNode) where
         unfolding thenNodes readNode next
         read-bad e = read-on ∙ ap next (pick-yes _ _ _ (le-leb _ _ w) ∙ pick-yes _ _ _ (eq-eqb _ _ e))
 
-        read-next : (h : ℕ) → h ≡ nodeHeight p at seen (getD p at 0) (getD p (at + 1) 0) → (h ≡ 0 → ⊥) → readNodes (suc f) p at seen ≡ readNodes f p (at + nodeSize (getD p at 0) (getD p (at + 1) 0)) (seen ++ (record { start = at; kind = getD p at 0; height = h } ∷ []))
+        read-next : (h : ℕ) → h ≡ nodeHeight p at seen (getD p at 0) (getD p (at + 1) 0) → (h ≡ 0 → ⊥)
+            → readNodes (suc f) p at seen ≡ readNodes f p (at + nodeSize (getD p at 0) (getD p (at + 1) 0)) (seen ++ (record { start = at; kind = getD p at 0; height = h } ∷ []))
         unfolding thenNodes readNode next
         read-next h e z =
             rw e (read-on ∙ ap next (pick-yes _ _ _ (le-leb _ _ w) ∙ pick-no _ _ _ (ne-eqb _ _ (λ q. z (e ∙ q)))))
@@ -66,7 +66,12 @@ known-same p s h t g (suc n) a b = rw (known-same p s h t g n (λ i l. a i (omeg
 known-next : (p s h : List ℕ) (n x y : ℕ) → n < length s → n < length h → knownOf p (set s n x) (set h n y) (n + 1) ≡ knownOf p s h n ++ (record { start = x; kind = getD p x 0; height = y } ∷ [])
 unfolding knownOf knownAt
 known-next p s h n x y l m =
-    rw (add-one, known-same p s h (set s n x) (set h n y) n (λ i v. getD-set-other s n i x 0 (λ e. omega arith)) (λ i v. getD-set-other h n i y 0 (λ e. omega arith)), getD-set-same s n x 0 l, getD-set-same h n y 0 m)
+    rw (
+      add-one,
+      known-same p s h (set s n x) (set h n y) n (λ i v. getD-set-other s n i x 0 (λ e. omega arith)) (λ i v. getD-set-other h n i y 0 (λ e. omega arith)),
+      getD-set-same s n x 0 l,
+      getD-set-same h n y 0 m,
+    )
 
 -- ---- the loop
 

@@ -1,4 +1,4 @@
--- What reading the nodes of a plan gives, and what it leaves in the two lists. Assumes nothing: these are definitions.
+-- What reading the nodes of a plan gives, and what it leaves in the two lists.
 use mathlib.Core.Path.{_≡_}
 use Prim.Native.Nat.{ℕ}
 use mathlib.Core.List.{List}

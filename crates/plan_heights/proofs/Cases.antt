@@ -1,4 +1,4 @@
--- The height of a node by its kind, as the check's branches have it. Assumes nothing.
+-- The height of a node by its kind, as the check's branches have it.
 use mathlib.Core.Path.{_≡_, sym, _∙_}
 use mathlib.Core.List.{List}
 use Prim.Native.Nat.{ℕ, _+_, _≤_, _<_}

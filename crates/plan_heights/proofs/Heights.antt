@@ -1,4 +1,4 @@
--- The height of a node after its references, one by one. Assumes nothing.
+-- The height of a node after its references, one by one.
 use mathlib.Core.Path.{_≡_, refl, ap, sym, _∙_}
 use mathlib.Core.Logic.{⊎-elim}
 use mathlib.Core.Bool.{Bool, true, false}

@@ -1,4 +1,4 @@
--- The laws of heights and of starts. Assumes nothing.
+-- The laws of heights and of starts.
 pub mod Starts
 pub mod Heights
 pub mod Cases

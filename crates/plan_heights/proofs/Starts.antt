@@ -1,4 +1,4 @@
--- A search among rising starts, and that it finds what reading a plan's nodes finds. Assumes nothing.
+-- A search among rising starts, and that it finds what reading a plan's nodes finds.
 use mathlib.Core.Path.{_≡_, refl, ap, sym, _∙_}
 use mathlib.Core.Logic.{⊎-elim}
 use mathlib.Core.Bool.{Bool, true, false}
@@ -74,7 +74,9 @@ module _ (p s h : List ℕ) where
   find-last [] x r e = refl
   find-last (y ∷ xs) x r e = go (eqb (y .start) r) e (find-last xs x r)
     where
-      go : (t : Bool) → pick t (some y) (placedAt xs r) ≡ none → (placedAt xs r ≡ none → placedAt (xs ++ (x ∷ [])) r ≡ pick (eqb (x .start) r) (some x) none) → pick t (some y) (placedAt (xs ++ (x ∷ [])) r) ≡ pick (eqb (x .start) r) (some x) none
+      go : (t : Bool) → pick t (some y) (placedAt xs r) ≡ none
+          → (placedAt xs r ≡ none → placedAt (xs ++ (x ∷ [])) r ≡ pick (eqb (x .start) r) (some x) none)
+          → pick t (some y) (placedAt (xs ++ (x ∷ [])) r) ≡ pick (eqb (x .start) r) (some x) none
       go true e f = let z : _≡_ {A = ℕ} 0 1 = cc (sym (pick-yes true (some y) (placedAt xs r) refl) ∙ e) in absurd (omega arith)
       go false e f = pick-no _ _ _ refl ∙ f (sym (pick-no _ _ _ refl) ∙ e)
 

@@ -1,5 +1,4 @@
--- The state of the check of a plan: the starts and the heights of the nodes read so far, as two lists of numbers. Assumes nothing:
--- these are definitions.
+-- The state of the check of a plan: the starts and the heights of the nodes read so far, as two lists of numbers.
 use mathlib.Core.Path.{_≡_}
 use Prim.Native.Nat.{ℕ, zero, suc, _+_, _≤_, _<_}
 use mathlib.Core.List.{List, [], _∷_, _++_}

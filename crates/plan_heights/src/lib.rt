@@ -140,7 +140,9 @@ fn pairs_height(
     count: usize,
 ) -> u8
     requires { ⌜ (Scanned (now plan) (now starts) (now heights) n at) × (at + 2 + 2 * count ≤ length (now plan)) ⌝ }
-    ensures { λ b. ⌜ b ≡ pick (allCardinalities (pairCard (now (plan .entry)) at) count) (referAll (knownOf (now (plan .entry)) (now (starts .entry)) (now (heights .entry)) n) kind (pairRef (now (plan .entry)) at) count) 0 ⌝ }
+    ensures { λ b. ⌜ b
+        ≡ pick (allCardinalities (pairCard (now (plan .entry)) at) count)
+        (referAll (knownOf (now (plan .entry)) (now (starts .entry)) (now (heights .entry)) n) kind (pairRef (now (plan .entry)) at) count) 0 ⌝ }
 {
     let mut h: u8 = 1;
     let mut k: usize = 0;
@@ -188,7 +190,8 @@ fn many_height(
 // The height of the node at a position, against those before it: 0 where it is not well formed.
 pub fn height_at(plan: &[u32], starts: &[u32], heights: &[u8], n: usize, at: usize) -> u8
     requires { ⌜ (Scanned (now plan) (now starts) (now heights) n at) × (at + nodeSize (getD (now plan) at 0) (getD (now plan) (at + 1) 0) ≤ length (now plan)) ⌝ }
-    ensures { λ b. ⌜ b ≡ nodeHeight (now (plan .entry)) at (knownOf (now (plan .entry)) (now (starts .entry)) (now (heights .entry)) n) (getD (now (plan .entry)) at 0) (getD (now (plan .entry)) (at + 1) 0) ⌝ }
+    ensures { λ b. ⌜ b
+        ≡ nodeHeight (now (plan .entry)) at (knownOf (now (plan .entry)) (now (starts .entry)) (now (heights .entry)) n) (getD (now (plan .entry)) at 0) (getD (now (plan .entry)) (at + 1) 0) ⌝ }
 {
     let kind = plan[at];
     if kind == 8 {

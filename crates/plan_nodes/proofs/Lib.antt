@@ -1,4 +1,4 @@
--- The laws of plans, which this crate's proofs cite, and other crates' too. Assumes nothing.
+-- The laws of plans, which this crate's proofs cite, and other crates' too.
 pub mod Looks
 pub mod Reading
 pub mod Nodes

@@ -1,4 +1,4 @@
--- The shape of a plan's node by its kind, and what its lists hold. Assumes nothing.
+-- The shape of a plan's node by its kind, and what its lists hold.
 use mathlib.Core.Path.{_≡_, refl, ap, sym, _∙_}
 use mathlib.Core.Logic.{_⊎_, ⊎-elim}
 use mathlib.Core.List.{List, [], _∷_}

@@ -1,4 +1,4 @@
--- The table of how many elements of the sparse objects are required: counting them, filling it, and reading a pair. Assumes nothing.
+-- The table of how many elements of the sparse objects are required: counting them, filling it, and reading a pair.
 use mathlib.Core.Path.{_≡_, refl, ap, sym, _∙_}
 use mathlib.Core.Bool.{true, false}
 use mathlib.Core.List.{List, [], _∷_, _++_}

@@ -1,5 +1,5 @@
--- What is known of a node that starts in a well-formed plan: its kind, its size, its counts, and that its references are the starts of
--- earlier nodes. Assumes nothing.
+-- What is known of a node that starts in a well-formed plan: its kind, its
+-- size, its counts, and that its references are the starts of earlier nodes.
 use mathlib.Core.Path.{_≡_, refl, ap, sym, _∙_}
 use mathlib.Core.Logic.{_⊎_, inl, inr, ⊎-elim}
 use mathlib.Core.Bool.{Bool, true, false}
@@ -19,7 +19,8 @@ use Rattle.plan_nodes.proofs.Reading.{find-append, Inside, size-positiv
 use Rattle.protocol.specs.Numbers.{pick, upTo}
 use Rattle.protocol.specs.Nodes.{Node, refAt}
 use Rattle.protocol.specs.Messages.{isCardinality}
-use Rattle.protocol.specs.Plans.{PlanNode, placedAt, isSome, pairRef, pairCard, refsAt, look, raised, refer, referAll, allCardinalities, nodeSize, nodeHeight, NodesRead, malformed, nodes, nodesOf, startsIn, noType, planFormed, manyHeight}
+use Rattle.protocol.specs.Plans.{PlanNode, placedAt, isSome, pairRef, pairCard, refsAt, look, raised, refer, referAll, allCardinalities}
+use Rattle.protocol.specs.Plans.{nodeSize, nodeHeight, NodesRead, malformed, nodes, nodesOf, startsIn, noType, planFormed, manyHeight}
 use Rattle.plan_nodes.specs.Readers.{At}
 
 -- ---- references that were found
@@ -50,7 +51,16 @@ height-other p k seen K n o =
     let other : (m : ℕ) → 1 ≤ m → m ≤ 8 → eqb K m ≡ false =
     λ m a b. ne-eqb K m (λ (e : K ≡ m). ⊎-elim (λ (z : K ≡ 0). omega arith) (λ (z : 8 < K). omega arith) o)
     in
-    rw (other 8 (omega arith) (omega arith), other 1 (omega arith) (omega arith), other 2 (omega arith) (omega arith), other 3 (omega arith) (omega arith), other 7 (omega arith) (omega arith), other 4 (omega arith) (omega arith), other 5 (omega arith) (omega arith), other 6 (omega arith) (omega arith))
+    rw (
+      other 8 (omega arith) (omega arith),
+      other 1 (omega arith) (omega arith),
+      other 2 (omega arith) (omega arith),
+      other 3 (omega arith) (omega arith),
+      other 7 (omega arith) (omega arith),
+      other 4 (omega arith) (omega arith),
+      other 5 (omega arith) (omega arith),
+      other 6 (omega arith) (omega arith),
+    )
     (pick-case (λ m. m ≡ 0) (ltb 512 n) 0 0 (λ _. refl) (λ _. refl))
 
 pub size-two : (kind n : ℕ) → (kind ≡ 8 → ⊥) → 2 ≤ nodeSize kind n

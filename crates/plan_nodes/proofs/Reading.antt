@@ -1,5 +1,5 @@
--- What reading a plan's nodes in order says of each of them: it is whole, it is well formed against those before it, and those start
--- before it. Assumes nothing.
+-- What reading a plan's nodes in order says of each of them: it is whole,
+-- it is well formed against those before it, and those start before it.
 use mathlib.Core.Path.{_≡_, refl, ap, sym, _∙_}
 use mathlib.Core.Logic.{_⊎_, inl, inr, ⊎-elim}
 use mathlib.Core.Bool.{Bool, true, false}
@@ -22,7 +22,8 @@ unfolding placedAt isSome pick
 find-append [] ys r = λ e. clash e
 find-append (x ∷ xs) ys r = go (find-append xs ys r) (eqb (x .start) r)
   where
-    go : (isSome (placedAt xs r) ≡ true → placedAt (xs ++ ys) r ≡ placedAt xs r) → (t : Bool) → isSome (pick t (some x) (placedAt xs r)) ≡ true → pick t (some x) (placedAt (xs ++ ys) r) ≡ pick t (some x) (placedAt xs r)
+    go : (isSome (placedAt xs r) ≡ true → placedAt (xs ++ ys) r ≡ placedAt xs r) → (t : Bool)
+        → isSome (pick t (some x) (placedAt xs r)) ≡ true → pick t (some x) (placedAt (xs ++ ys) r) ≡ pick t (some x) (placedAt xs r)
     go f true e = refl
     go f false e = f e
 
@@ -36,7 +37,8 @@ find-snoc [] x r = go (eqb (x .start) r) refl
     go false e h = clash h
 find-snoc (y ∷ xs) x r = go (find-snoc xs x r) (eqb (y .start) r)
   where
-    go : (isSome (placedAt (xs ++ (x ∷ [])) r) ≡ true → (isSome (placedAt xs r) ≡ true) ⊎ (x .start ≡ r)) → (t : Bool) → isSome (pick t (some y) (placedAt (xs ++ (x ∷ [])) r)) ≡ true → (isSome (pick t (some y) (placedAt xs r)) ≡ true) ⊎ (x .start ≡ r)
+    go : (isSome (placedAt (xs ++ (x ∷ [])) r) ≡ true → (isSome (placedAt xs r) ≡ true) ⊎ (x .start ≡ r)) → (t : Bool)
+        → isSome (pick t (some y) (placedAt (xs ++ (x ∷ [])) r)) ≡ true → (isSome (pick t (some y) (placedAt xs r)) ≡ true) ⊎ (x .start ≡ r)
     go f true h = inl refl
     go f false h = f h
 
@@ -154,6 +156,7 @@ all-read (suc f) p at seen all low ok e k h =
     next : ℕ
     next = at + nodeSize (getD p at 0) (getD p (at + 1) 0)
 
-    go : (t : NodesRead) → readNode p at seen ≡ t → thenNodes t (readNodes f p next) ≡ nodes all → ((s : List PlanNode) → Sound p next s → readNodes f p next s ≡ nodes all → Inside p all k) → Inside p all k
+    go : (t : NodesRead) → readNode p at seen ≡ t → thenNodes t (readNodes f p next) ≡ nodes all
+        → ((s : List PlanNode) → Sound p next s → readNodes f p next s ≡ nodes all → Inside p all k) → Inside p all k
     go malformed r e f = let z : _≡_ {A = ℕ} 0 1 = cc in absurd (omega arith)
     go (nodes s) r e f = f s (sound-next p at seen s low ok (next-read p at seen s r)) e

@@ -1,4 +1,4 @@
--- What the readers of a node's references need: that the word stands in the plan, and that it is the node's reference. Assumes nothing.
+-- What the readers of a node's references need: that the word stands in the plan, and that it is the node's reference.
 use mathlib.Core.Path.{_≡_, refl, ap, sym, _∙_}
 use mathlib.Core.Logic.{_⊎_, inl, inr, ⊎-elim}
 use mathlib.Core.List.{List}

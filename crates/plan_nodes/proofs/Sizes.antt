@@ -1,4 +1,4 @@
--- The size of a node, by its kind. Assumes nothing.
+-- The size of a node, by its kind.
 use mathlib.Core.Path.{_≡_, sym, _∙_}
 use mathlib.Core.Logic.{_⊎_, ⊎-elim}
 use Prim.Native.Nat.{ℕ, _+_, _*_, _≤_}

@@ -1,5 +1,4 @@
--- How many elements of a plan's sparse objects are required, and a table that keeps it: pairs of a node's start and its number. Assumes
--- nothing: these are definitions.
+-- How many elements of a plan's sparse objects are required, and a table that keeps it: pairs of a node's start and its number.
 use mathlib.Core.Path.{_≡_}
 use Prim.Native.Nat.{ℕ, zero, suc, _+_, _*_, _/_, _≤_, _<_}
 use mathlib.Core.Bool.{Bool}

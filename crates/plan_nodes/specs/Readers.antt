@@ -1,4 +1,4 @@
--- What the readers of a plan's nodes take and give. Assumes nothing: these are definitions.
+-- What the readers of a plan's nodes take and give.
 use mathlib.Core.Path.{_≡_}
 use Prim.Native.Nat.{ℕ, _≤_}
 use mathlib.Core.List.{List}

@@ -8,7 +8,9 @@ use Rattle.protocol.specs.Constants.{PLAN-ROOM, TAG-ARRAY, KIND-LEAF, KI
 use Rattle.protocol.specs.Numbers.{pick}
 use Rattle.protocol.specs.Answers.{Outcome, refused, accepted, over}
 use Rattle.protocol.specs.Nodes.{Node, leaf, enum, row, arrays, tuple, object, sparse, range, rename}
-use Rattle.protocol.specs.Descriptors.{OutputElement, InputElement, BlockKind, set-of, output-shape, scalar-of, tuple-of, named-tuple, array-of, enum-of, input-shape, range-of, object-type, compound-type, sql-record, Block, types, BlockForm, DescribedType, no-type, block-type, describe}
+use Rattle.protocol.specs.Descriptors.{OutputElement, InputElement, BlockKind, set-of, output-shape, scalar-of, tuple-of, named-tuple}
+use Rattle.protocol.specs.Descriptors.{array-of, enum-of, input-shape, range-of, object-type, compound-type, sql-record, Block, types}
+use Rattle.protocol.specs.Descriptors.{BlockForm, DescribedType, no-type, block-type, describe}
 
 -- The node of a block, with block indexes as references (R4.8); blocks without values have none.
 unfoldable pub blockNode : List Block → BlockKind → Option Node

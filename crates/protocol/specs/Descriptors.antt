@@ -6,7 +6,11 @@ use mathlib.Core.List.{List, [], _∷_, _++_, map}
 use mathlib.Core.Option.{Option, none, some, Option·map}
 use lib.Dec.{leb, ltb, eqb}
 use lib.ListN.{length, take, drop, getD, getElem?}
-use Rattle.protocol.specs.Constants.{BAD-CONTENT, BAD-ID, BAD-REFERENCE, DESCRIPTOR-END, DESCRIPTOR-SIZE, FORMAT-MEMORY, MOST-BLOCKS, MOST-DESCRIPTOR, MOST-HEIGHT, MOST-ITEMS, NAME-TWICE, NO-ROOT, TAG-ANNOTATION, TAG-ARRAY, TAG-COMPOUND-TYPE, TAG-ENUMERATION, TAG-INPUT-SHAPE, TAG-NAMED-TUPLE, TAG-OBJECT-TYPE, TAG-OUTPUT-SHAPE, TAG-RANGE, TAG-RECORD, TAG-SCALAR, TAG-SET, TAG-TUPLE, UNBOUNDED, UNKNOWN-TAG, WRONG-KIND}
+use Rattle.protocol.specs.Constants.{BAD-CONTENT, BAD-ID, BAD-REFERENCE, DESCRIPTOR-END, DESCRIPTOR-SIZE, FORMAT-MEMORY, MOST-BLOCKS}
+use Rattle.protocol.specs.Constants.{MOST-DESCRIPTOR, MOST-HEIGHT, MOST-ITEMS, NAME-TWICE, NO-ROOT, TAG-ANNOTATION, TAG-ARRAY}
+use Rattle.protocol.specs.Constants.{TAG-COMPOUND-TYPE, TAG-ENUMERATION, TAG-INPUT-SHAPE, TAG-NAMED-TUPLE, TAG-OBJECT-TYPE}
+use Rattle.protocol.specs.Constants.{TAG-OUTPUT-SHAPE, TAG-RANGE, TAG-RECORD, TAG-SCALAR, TAG-SET, TAG-TUPLE, UNBOUNDED, UNKNOWN-TAG}
+use Rattle.protocol.specs.Constants.{WRONG-KIND}
 use Rattle.protocol.specs.Numbers.{pick, be, any, sameBytes, atLeast}
 use Rattle.protocol.specs.Text.{wellFormed}
 use Rattle.protocol.specs.Answers.{Outcome, refused, accepted}
@@ -292,7 +296,9 @@ module _ (earlier : List Block) where
   unfoldable pub tagged : ℕ → Reader (Option Block)
   tagged tag =
       pick (eqb tag TAG-ANNOTATION) annotationBlock
-      (pick (not (any (eqb tag) (TAG-SET ∷ TAG-OUTPUT-SHAPE ∷ TAG-SCALAR ∷ TAG-TUPLE ∷ TAG-NAMED-TUPLE ∷ TAG-ARRAY ∷ TAG-ENUMERATION ∷ TAG-INPUT-SHAPE ∷ TAG-RANGE ∷ TAG-OBJECT-TYPE ∷ TAG-COMPOUND-TYPE ∷ TAG-RECORD ∷ []))) (refuse UNKNOWN-TAG)
+      (pick (not (any (eqb tag)
+      (TAG-SET ∷ TAG-OUTPUT-SHAPE ∷ TAG-SCALAR ∷ TAG-TUPLE ∷ TAG-NAMED-TUPLE ∷ TAG-ARRAY ∷ TAG-ENUMERATION ∷ TAG-INPUT-SHAPE ∷ TAG-RANGE ∷ TAG-OBJECT-TYPE ∷ TAG-COMPOUND-TYPE ∷ TAG-RECORD ∷ [])))
+      (refuse UNKNOWN-TAG)
       (pick (leb MOST-BLOCKS (length earlier)) (refuse DESCRIPTOR-SIZE) (indexedBlock tag)))
 
   -- a block in its bare form: tag and fields

@@ -5,7 +5,9 @@ use mathlib.Core.List.{List, [], _∷_, _++_}
 use mathlib.Core.Option.{Option, none, some}
 use lib.Dec.{leb, ltb, eqb}
 use lib.ListN.{length, take, drop, getD}
-use Rattle.protocol.specs.Constants.{MOST-LENGTH, NOT-WHOLE, BAD-LENGTH, UNKNOWN-TYPE, FIELD-PAST-END, BYTES-LEFT, BAD-FIELD, LIST-ROOM, OUTPUT-ROOM, CLIENT, SERVER, CARDINALITY-NONE, CARDINALITY-AT-MOST-ONE, CARDINALITY-ONE, CARDINALITY-MANY, CARDINALITY-AT-LEAST-ONE}
+use Rattle.protocol.specs.Constants.{MOST-LENGTH, NOT-WHOLE, BAD-LENGTH, UNKNOWN-TYPE, FIELD-PAST-END, BYTES-LEFT, BAD-FIELD}
+use Rattle.protocol.specs.Constants.{LIST-ROOM, OUTPUT-ROOM, CLIENT, SERVER, CARDINALITY-NONE, CARDINALITY-AT-MOST-ONE}
+use Rattle.protocol.specs.Constants.{CARDINALITY-ONE, CARDINALITY-MANY, CARDINALITY-AT-LEAST-ONE}
 use Rattle.protocol.specs.Numbers.{pick, be, bytesBe, oneOf}
 use Rattle.protocol.specs.Text.{wellFormed}
 use Rattle.protocol.specs.Answers.{over, Put, refusedPut, putOut}

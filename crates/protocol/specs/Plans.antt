@@ -5,7 +5,8 @@ use mathlib.Core.List.{List, [], _∷_, _++_}
 use mathlib.Core.Option.{Option, none, some}
 use lib.Dec.{leb, ltb, eqb}
 use lib.ListN.{length, take, drop, getD}
-use Rattle.protocol.specs.Constants.{MOST-BLOCKS, MOST-ITEMS, MOST-HEIGHT, FORMATS, KIND-LEAF, KIND-SET-OR-ARRAY, KIND-SET-OF-ARRAYS, KIND-TUPLE, KIND-OUTPUT-OBJECT, KIND-INPUT-OBJECT, KIND-RANGE, KIND-ENUMERATION}
+use Rattle.protocol.specs.Constants.{MOST-BLOCKS, MOST-ITEMS, MOST-HEIGHT, FORMATS, KIND-LEAF, KIND-SET-OR-ARRAY, KIND-SET-OF-ARRAYS}
+use Rattle.protocol.specs.Constants.{KIND-TUPLE, KIND-OUTPUT-OBJECT, KIND-INPUT-OBJECT, KIND-RANGE, KIND-ENUMERATION}
 use Rattle.protocol.specs.Numbers.{pick, upTo, atLeast}
 use Rattle.protocol.specs.Messages.{isCardinality}
 use Rattle.protocol.specs.Nodes.{Node, leaf, enum, row, arrays, tuple, object, sparse, range}

@@ -1,5 +1,5 @@
--- What is known of a block with values among those of an accepted descriptor: its references go to earlier blocks with values, and its
--- node stands in the plan. Assumes nothing.
+-- What is known of a block with values among those of an accepted descriptor: its
+-- references go to earlier blocks with values, and its node stands in the plan.
 use mathlib.Core.Path.{_≡_, refl, ap, sym, _∙_}
 use mathlib.Core.Bool.{true}
 use mathlib.Core.List.{List, [], _∷_, _++_}

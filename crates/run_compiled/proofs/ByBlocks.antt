@@ -1,5 +1,5 @@
--- Running the plan that a descriptor compiles to, by the code's own definitions of its blocks: it is well formed, and gives what the rules
--- read off those blocks give. Assumes nothing.
+-- Running the plan that a descriptor compiles to, by the code's own definitions of
+-- its blocks: it is well formed, and gives what the rules read off those blocks give.
 use mathlib.Core.Path.{_≡_, refl, ap, _∙_}
 use mathlib.Core.Bool.{true}
 use mathlib.Core.List.{List, [], _∷_}

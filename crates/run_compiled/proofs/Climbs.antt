@@ -1,4 +1,4 @@
--- The height that a plan's reading gives a node with references is the one that its block's elements give it. Assumes nothing.
+-- The height that a plan's reading gives a node with references is the one that its block's elements give it.
 use mathlib.Core.Path.{_≡_, refl, ap, sym, _∙_}
 use mathlib.Core.Bool.{true}
 use mathlib.Core.List.{List}

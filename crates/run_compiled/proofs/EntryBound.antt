@@ -1,5 +1,4 @@
 -- A list that the rules give, read off a descriptor or off a plan, has at most one entry and one more for every four bytes of the value.
--- Assumes nothing.
 use mathlib.Core.Path.{_≡_, refl}
 use mathlib.Core.List.{List}
 use Prim.Native.Nat.{ℕ, _+_, _*_, _≤_, zero-le}

@@ -1,5 +1,5 @@
 -- The plan of an accepted descriptor is well formed: its nodes, read in order, are those of the blocks with values, with the blocks' own
--- heights. And looking one up gives the block's node, with places in the plan for references. Assumes nothing.
+-- heights. And looking one up gives the block's node, with places in the plan for references.
 use mathlib.Core.Path.{_≡_, refl, ap, ap₂, sym, _∙_}
 use mathlib.Core.Bool.{Bool, true, false}
 use mathlib.Core.List.{List, [], _∷_, _++_, append-nil}
@@ -24,7 +24,8 @@ use Rattle.run_compiled.proofs.Renames.{map-at, rename-kind, rename-ref
 use Rattle.run_compiled.proofs.Climbs.{Reached, climb-all}
 use Rattle.run_compiled.proofs.Blocks.{shape-at, facts, earlier, refs-count, refs-at, renames-same, stands-block}
 use Rattle.protocol.specs.Nodes.{Node, rename}
-use Rattle.protocol.specs.Plans.{PlanNode as plan·PlanNode, placedAt, look, referAll, nodeSize, nodeHeight, NodesRead, nodes, readNode, thenNodes, readNodes, nodesOf, isSome, startsIn, noType, planFormed}
+use Rattle.protocol.specs.Plans.{PlanNode as plan·PlanNode, placedAt, look, referAll, nodeSize, nodeHeight, NodesRead, nodes, readNode}
+use Rattle.protocol.specs.Plans.{thenNodes, readNodes, nodesOf, isSome, startsIn, noType, planFormed}
 
 -- a node that is whole, with its kind and its height
 read-gives : (p : List ℕ) (at : ℕ) (seen : List plan·PlanNode) (k h : ℕ) → at + nodeSize (getD p at 0) (getD p (at + 1) 0) ≤ length p → getD p at 0 ≡ k

@@ -1,4 +1,4 @@
--- Demand 3: a compiled plan says what its descriptor says. Assumes nothing.
+-- Demand 3: a compiled plan says what its descriptor says.
 pub mod CaseTable
 pub mod Words
 pub mod Shapes

@@ -1,5 +1,5 @@
--- The numbers of the rules read off a descriptor: a refused descriptor's are its own, and an accepted one's are those of a run by a
--- well-formed plan. Assumes nothing.
+-- The numbers of the rules read off a descriptor: a refused descriptor's are
+-- its own, and an accepted one's are those of a run by a well-formed plan.
 use mathlib.Core.Path.{_≡_, refl}
 use mathlib.Core.List.{List}
 use Prim.Native.Nat.{ℕ}

@@ -1,4 +1,4 @@
--- Where the nodes of an accepted descriptor's blocks stand in its plan, and what finding them among the nodes read gives. Assumes nothing.
+-- Where the nodes of an accepted descriptor's blocks stand in its plan, and what finding them among the nodes read gives.
 use mathlib.Core.Path.{_≡_, refl, ap, sym, _∙_}
 use mathlib.Core.Logic.{⊎-elim}
 use mathlib.Core.Bool.{Bool, true, false}

@@ -1,4 +1,4 @@
--- How large a compiled plan is: at most 1,050,626 words, each below 2^32, and so is the place of each node. Assumes nothing.
+-- How large a compiled plan is: at most 1,050,626 words, each below 2^32, and so is the place of each node.
 use mathlib.Core.Path.{_≡_, refl, ap, _∙_}
 use mathlib.Core.Bool.{Bool, true, false}
 use mathlib.Core.List.{List, [], _∷_, _++_, map}

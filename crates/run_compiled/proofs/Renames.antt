@@ -1,4 +1,4 @@
--- A node with its references renamed: its kind, its references, and that it obeys the rules of plans. Assumes nothing.
+-- A node with its references renamed: its kind, its references, and that it obeys the rules of plans.
 use mathlib.Core.Path.{_≡_, refl, ap, ap₂}
 use mathlib.Core.List.{List, [], _∷_, map}
 use mathlib.Core.Option.{some}

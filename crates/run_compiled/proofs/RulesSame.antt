@@ -1,4 +1,4 @@
--- The rules read off protocol's blocks give what the rules read off the code's own blocks give. Assumes nothing.
+-- The rules read off protocol's blocks give what the rules read off the code's own blocks give.
 use mathlib.Core.Path.{_≡_, refl, ap, sym, _∙_}
 use mathlib.Core.Bool.{true}
 use mathlib.Core.List.{List, [], _∷_}
@@ -30,7 +30,8 @@ use Rattle.protocol.specs.Running.{listRoomed}
 use Rattle.protocol.specs.Plans.{look}
 
 -- a block with values has one node by both
-shape-same : (all : List Block) (os : List OldBlock) (bs : List Block) → Shapes all os bs → (k : ℕ) → k < length os → valued (getD os k missing .tag) ≡ true → nodeOfBlock all (getElem? bs k) ≡ blockAt os k
+shape-same : (all : List Block) (os : List OldBlock) (bs : List Block) → Shapes all os bs → (k : ℕ) → k < length os
+    → valued (getD os k missing .tag) ≡ true → nodeOfBlock all (getElem? bs k) ≡ blockAt os k
 unfolding nodeOfBlock nodeOrAny blockAt
 shape-same all [] bs s k h v = absurd (omega arith)
 shape-same all (o ∷ os) [] s k h v = absurd s

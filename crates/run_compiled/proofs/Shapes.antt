@@ -1,5 +1,5 @@
--- The node of a sound block: its references are those of the block's elements, it obeys the rules of plans, and its references go to nodes
--- of kinds that they may go to. Assumes nothing.
+-- The node of a sound block: its references are those of the block's elements, it obeys
+-- the rules of plans, and its references go to nodes of kinds that they may go to.
 use mathlib.Core.Path.{_≡_, refl, ap, _∙_}
 use mathlib.Core.Logic.{⊎-elim}
 use mathlib.Core.Bool.{Bool, true, not}

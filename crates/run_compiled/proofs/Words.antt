@@ -1,5 +1,5 @@
 -- A node's words in a plan, whatever stands before and after them: looking the node up gives it back, its size is their number, and its
--- height is the one that its references give it. One law over the kind of node for each. Assumes nothing.
+-- height is the one that its references give it. One law over the kind of node for each.
 use mathlib.Core.Path.{_≡_, refl, ap, ap₂, sym, _∙_}
 use mathlib.Core.Bool.{true}
 use mathlib.Core.List.{List, [], _∷_, _++_}

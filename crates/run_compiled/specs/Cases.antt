@@ -1,4 +1,4 @@
--- The eleven cases of document 01, 'Values at the edges', as one table about the definitions. Assumes nothing: these are definitions.
+-- The eleven cases of document 01, 'Values at the edges', as one table about the definitions.
 use Prim.Native.Nat.{ℕ}
 use mathlib.Core.List.{List, [], _∷_, _++_}
 use lib.ListN.{replicate, take}

@@ -1,4 +1,4 @@
--- What compiling and then running does (R4.14). Assumes nothing: these are definitions.
+-- What compiling and then running does (R4.14).
 use mathlib.Core.Path.{_≡_}
 use Prim.Native.Nat.{ℕ}
 use mathlib.Core.List.{List}

@@ -1,5 +1,5 @@
 -- Nobody has to believe these definitions: they are the rules read off the code's own blocks, by which the plan's are proved; that they
--- give what protocol's give is proved too (proofs/RulesSame). Assumes nothing.
+-- give what protocol's give is proved too (proofs/RulesSame).
 use Prim.Native.Nat.{ℕ, zero, suc}
 use mathlib.Core.List.{List, [], _∷_}
 use lib.Dec.{ltb}

@@ -12,7 +12,10 @@ pub fn compile_and_run(
     ensures { λ r. ⌜ Follows (now (d .entry)) (now (root .entry)) (now (value .entry)) r (now (plan .entry)) (now (plan .exit)) (now (list .entry)) (now (list .exit)) ⌝ }
 {
     match descriptor_compile::compile(d, root, plan) {
-        descriptor_compile::Answer::Refused { no, place } => run_plan::Answer::Refused { no, place },
+        descriptor_compile::Answer::Refused { no, place } => run_plan::Answer::Refused {
+            no,
+            place,
+        },
         descriptor_compile::Answer::Words { words } => {
             let n = words as usize;
             run_plan::run(&plan[..n], value, list)

@@ -1,4 +1,4 @@
--- The laws of a run: the plan's root, the tests in their order, and what an answer says of the outcome. Assumes nothing.
+-- The laws of a run: the plan's root, the tests in their order, and what an answer says of the outcome.
 use mathlib.Core.Path.{_≡_, refl, ap, sym, _∙_}
 use mathlib.Core.Bool.{Bool, true, false}
 use mathlib.Core.List.{List, _++_}
@@ -40,7 +40,9 @@ module _ (p : List ℕ) (f : planFormed p ≡ true) where
   unfolding planFormed pick
   words-of = go (noType p) refl f
     where
-      go : (b : Bool) → noType p ≡ b → pick b true (pick (leb 2 (length p)) (pick (eqb (getD p 0 0) (length p)) (startsIn (nodesOf p) (getD p 1 0)) false) false) ≡ true → (length p ≡ 2) ⊎ ((2 ≤ length p) × (getD p 0 0 ≡ length p))
+      go : (b : Bool) → noType p ≡ b
+          → pick b true (pick (leb 2 (length p)) (pick (eqb (getD p 0 0) (length p)) (startsIn (nodesOf p) (getD p 1 0)) false) false) ≡ true
+          → (length p ≡ 2) ⊎ ((2 ≤ length p) × (getD p 0 0 ≡ length p))
       go true e g = inl (none-two p e .0)
       go false e g =
           let h = both (leb 2 (length p)) (pick (eqb (getD p 0 0) (length p)) (startsIn (nodesOf p) (getD p 1 0)) false) g in

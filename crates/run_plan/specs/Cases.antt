@@ -1,6 +1,5 @@
--- The plans and bytes of document 01, 'Values at the edges', and what a run gives as number and place or words. The table of its cases is
--- compile's.
--- Assumes nothing: these are definitions.
+-- The plans and bytes of document 01, 'Values at the edges', and what a run
+-- gives as number and place or words. The table of its cases is compile's.
 use Prim.Native.Nat.{ℕ}
 use mathlib.Core.List.{List, [], _∷_, _++_}
 use lib.ListN.{replicate}

@@ -1,4 +1,4 @@
--- What running a plan over a value gives: "Run: 33, 28, value faults, 31." Assumes nothing: these are definitions.
+-- What running a plan over a value gives: "Run: 33, 28, value faults, 31."
 use mathlib.Core.Path.{_≡_}
 use Prim.Native.Nat.{ℕ, _*_, _+_, _≤_}
 use mathlib.Core.List.{List}

@@ -38,7 +38,8 @@ fn build_leaf(
     at: usize,
 ) -> Built
     requires { ⌜ (At (now plan) node) × (kind ≡ getD (now plan) node 0) × (leafKind kind ≡ true) × (at ≤ 65551) ⌝ }
-    ensures { λ r. ⌜ ((ws : List ℕ) → standOf r ws (now (out .exit)) ≡ put-at (leafMade (leafGood (look (now (plan .entry)) node)) (now (src .entry)) (claim entry) (drop word ws)) at (now (out .entry))) ⌝ }
+    ensures { λ r. ⌜ ((ws : List ℕ)
+        → standOf r ws (now (out .exit)) ≡ put-at (leafMade (leafGood (look (now (plan .entry)) node)) (now (src .entry)) (claim entry) (drop word ws)) at (now (out .entry))) ⌝ }
 {
     if entry.count != 0 {
         return Built::Failed;
@@ -117,8 +118,10 @@ pub fn build_value(
     out: &mut [u8],
     at: usize,
 ) -> Built
-    requires { ⌜ (At (now plan) node) × (nextOf (drop word (now list)) ≡ next (claim entry) (drop (word + 5) (now list))) × (entry .size ≡ ABSENT → ⊥) × (word + 5 ≤ length (now list)) × (at ≤ 65551) × (Memo (now plan) (now needs)) ⌝ }
-    ensures { λ r. ⌜ standOf r (now (list .entry)) (now (out .exit)) ≡ put-at (buildOf (now (src .entry)) (look (now (plan .entry))) node (entry .index) (drop word (now (list .entry)))) at (now (out .entry)) ⌝ }
+    requires { ⌜ (At (now plan) node) × (nextOf (drop word (now list)) ≡ next (claim entry) (drop (word + 5) (now list)))
+        × (entry .size ≡ ABSENT → ⊥) × (word + 5 ≤ length (now list)) × (at ≤ 65551) × (Memo (now plan) (now needs)) ⌝ }
+    ensures { λ r. ⌜ standOf r (now (list .entry)) (now (out .exit))
+        ≡ put-at (buildOf (now (src .entry)) (look (now (plan .entry))) node (entry .index) (drop word (now (list .entry)))) at (now (out .entry)) ⌝ }
 {
     if entry.node as usize != node {
         return Built::Failed;
@@ -157,7 +160,8 @@ fn build_row(
     at: usize,
 ) -> Built
     requires { ⌜ (At (now plan) node) × (Holds (look (now plan) node) (first + count)) × (first + count < 2 ^ 33) × (at ≤ 65535) × (Memo (now plan) (now needs)) ⌝ }
-    ensures { λ r. ⌜ standOf r (now (list .entry)) (now (out .exit)) ≡ put-at (elementsMade rowOrder (buildOf (now (src .entry)) (look (now (plan .entry)))) (look (now (plan .entry)) node) count first (drop word (now (list .entry)))) at (now (out .entry)) ⌝ }
+    ensures { λ r. ⌜ standOf r (now (list .entry)) (now (out .exit))
+        ≡ put-at (elementsMade rowOrder (buildOf (now (src .entry)) (look (now (plan .entry)))) (look (now (plan .entry)) node) count first (drop word (now (list .entry)))) at (now (out .entry)) ⌝ }
 {
     let kind = plan_nodes::node::kind_at(plan, node);
     let end = first + count;
@@ -194,7 +198,10 @@ fn build_sparse(
     out: &mut [u8],
 ) -> Built
     requires { ⌜ (At (now plan) node) × (getD (now plan) node 0 ≡ 6) × (run .at ≤ 65535) × (Memo (now plan) (now needs)) × (Counted (now plan) node (run .seen .marks) (run .given)) ⌝ }
-    ensures { λ r. ⌜ standOf r (now (list .entry)) (now (out .exit)) ≡ put-at (elementsMade (sparseOrder (cardsAt (now (plan .entry)) node)) (buildOf (now (src .entry)) (look (now (plan .entry)))) (look (now (plan .entry)) node) (run .left) (run .seen .marks) (drop (run .word) (now (list .entry)))) (run .at) (now (out .entry)) ⌝ }
+    ensures { λ r. ⌜ standOf r (now (list .entry)) (now (out .exit))
+        ≡ put-at (elementsMade (sparseOrder (cardsAt (now (plan .entry)) node)) (buildOf (now (src .entry)) (look (now (plan .entry))))
+        (look (now (plan .entry)) node) (run .left) (run .seen .marks) (drop (run .word) (now (list .entry))))
+        (run .at) (now (out .entry)) ⌝ }
 {
     let n = plan_nodes::node::second_at(plan, node);
     let mut seen = run.seen;
@@ -237,8 +244,14 @@ fn build_member(
     out: &mut [u8],
     at: usize,
 ) -> Built
-    requires { ⌜ (At (now plan) node) × (Refers (look (now plan) node) (entry .index)) × (nextOf (drop word (now list)) ≡ next (claim entry) (drop (word + 5) (now list))) × (word + 5 ≤ length (now list)) × (at ≤ 65535) × (Memo (now plan) (now needs)) ⌝ }
-    ensures { λ r. ⌜ standOf r (now (list .entry)) (now (out .exit)) ≡ put-at (partMade (buildOf (now (src .entry)) (look (now (plan .entry)))) (look (now (plan .entry)) node) (refAt (look (now (plan .entry)) node) (entry .index)) (claim entry) (drop (word + 5) (now (list .entry))) (drop word (now (list .entry)))) at (now (out .entry)) ⌝ }
+    requires { ⌜ (At (now plan) node) × (Refers (look (now plan) node) (entry .index))
+        × (nextOf (drop word (now list)) ≡ next (claim entry) (drop (word + 5) (now list))) × (word + 5 ≤ length (now list)) × (at ≤ 65535)
+        × (Memo (now plan) (now needs)) ⌝ }
+    ensures { λ r. ⌜ standOf r (now (list .entry)) (now (out .exit))
+        ≡ put-at (partMade (buildOf (now (src .entry)) (look (now (plan .entry)))) (look (now (plan .entry)) node)
+        (refAt (look (now (plan .entry)) node) (entry .index)) (claim entry) (drop (word + 5) (now (list .entry)))
+        (drop word (now (list .entry)))) at
+        (now (out .entry)) ⌝ }
 {
     let kind = plan_nodes::node::kind_at(plan, node);
     let child = plan_nodes::node::ref_of(plan, node, entry.index as usize);

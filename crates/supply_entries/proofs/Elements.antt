@@ -1,4 +1,4 @@
--- The laws of a container's elements, one after the other. Assumes nothing.
+-- The laws of a container's elements, one after the other.
 use mathlib.Core.Path.{_≡_, refl, ap, sym, _∙_}
 use mathlib.Core.Bool.{Bool, true, false}
 use mathlib.Core.List.{List, [], _∷_}

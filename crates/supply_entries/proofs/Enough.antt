@@ -1,4 +1,4 @@
--- A builder is only asked of the keys that a node refers to, so constant fuel is enough for every key. Assumes nothing.
+-- A builder is only asked of the keys that a node refers to, so constant fuel is enough for every key.
 use mathlib.Core.Path.{_≡_, refl}
 use mathlib.Core.List.{List}
 use mathlib.Core.Option.{Option, none, some}
@@ -7,7 +7,8 @@ use native.Mathlib.Omega.{arith}
 use Rattle.protocol.specs.Nodes.{Node, leaf, enum, row, arrays, tuple, object, sparse, range, refAt}
 use Rattle.protocol.specs.Values.{fuel}
 use Rattle.protocol.specs.Supplies.{Claim, Next, short, next, nextOf}
-use Rattle.protocol.specs.Building.{Made, wrong, made, thenMade, Builder, Front, noFront, front, Order, rowOrder, sparseOrder, partMade, memberMade, stateAfter, elementsMade, rowMade, sparseMade, nodeMade, entryMade, build, buildOf}
+use Rattle.protocol.specs.Building.{Made, wrong, made, thenMade, Builder, Front, noFront, front, Order, rowOrder, sparseOrder, partMade}
+use Rattle.protocol.specs.Building.{memberMade, stateAfter, elementsMade, rowMade, sparseMade, nodeMade, entryMade, build, buildOf}
 
 -- two builders that agree on what a node refers to
 abbrev Alike : Node → Builder → Builder → Type 0

@@ -1,4 +1,4 @@
--- The laws of the next entry of a list. Assumes nothing.
+-- The laws of the next entry of a list.
 use mathlib.Core.Path.{_≡_, refl, ap, sym, _∙_}
 use mathlib.Core.Bool.{Bool, true, false}
 use mathlib.Core.List.{List}

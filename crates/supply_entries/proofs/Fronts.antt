@@ -1,4 +1,4 @@
--- The laws of a container's head. Assumes nothing.
+-- The laws of a container's head.
 use mathlib.Core.Path.{_≡_, refl, ap, sym, _∙_}
 use mathlib.Core.Bool.{Bool, true, false}
 use mathlib.Core.List.{List, [], _∷_, _++_}
@@ -153,7 +153,9 @@ module _ (src : List ℕ) (c : Claim) (at : ℕ) (out : List ℕ) where
   unfolding rangeFront pick
   range-first b first e =
       elim (decLt (c .start) (length src)) [
-        | yes h ↦ first-bound _ b first (rangeOpening (take (c .start + 1 - c .start) (drop (c .start) src))) (λ n i from f. omega (arith, range-opened (take (c .start + 1 - c .start) (drop (c .start) src)) n i from f .0)) (sym (by-opening h _ refl) ∙ e)
+        | yes h ↦ first-bound _ b first (rangeOpening (take (c .start + 1 - c .start) (drop (c .start) src)))
+            (λ n i from f. omega (arith, range-opened (take (c .start + 1 - c .start) (drop (c .start) src)) n i from f .0))
+            (sym (by-opening h _ refl) ∙ e)
         | no h ↦ let f = rw (le-ltb (c .start) (length src) (omega arith)) at e in let z : _≡_ {A = ℕ} 0 1 = cc in absurd (omega arith)
       ]
 

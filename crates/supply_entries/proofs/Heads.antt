@@ -1,4 +1,4 @@
--- The laws of an element's head, by the kind of its container. Assumes nothing.
+-- The laws of an element's head, by the kind of its container.
 use mathlib.Core.Path.{_≡_, refl}
 use mathlib.Core.Bool.{Bool, true, false, not}
 use mathlib.Core.List.{List, _++_}

@@ -1,4 +1,4 @@
--- The laws of a leaf that is put out with its head at once. Assumes nothing.
+-- The laws of a leaf that is put out with its head at once.
 use mathlib.Core.Path.{_≡_, refl, ap, sym, _∙_}
 use mathlib.Core.Bool.{Bool, true, false}
 use mathlib.Core.List.{List}
@@ -42,7 +42,8 @@ fits-size p k kind is one f ef size fixed z src s e low high =
 
 -- ---- its head and its bytes
 
-module _ (src p : List ℕ) (k kind : ℕ) (is : Container p k kind) (c : Claim) (r : ℕ) (er : refAt (look p k) (c .index) ≡ some r) (a : At p r) (en : c .node ≡ r) (z : c .count ≡ 0) (at : ℕ) (out : List ℕ) where
+module _ (src p : List ℕ) (k kind : ℕ) (is : Container p k kind) (c : Claim) (r : ℕ) (er : refAt (look p k) (c .index) ≡ some r)
+    (a : At p r) (en : c .node ≡ r) (z : c .count ≡ 0) (at : ℕ) (out : List ℕ) where
   pub leaf-put : (h : ℕ) → h ≡ headSize kind → at + h + (c .start + c .size - c .start) ≤ 65535 → c .start + c .size ≤ length src
       → (b : Bool) → b ≡ leafGood (look p r) (take (c .start + c .size - c .start) (drop (c .start) src)) → b ≡ true
       → (out₁ : List ℕ) → out₁ ≡ sets out (at + h) (take (c .start + c .size - c .start) (drop (c .start) src))

@@ -1,4 +1,4 @@
--- The laws of supplies. Assumes nothing.
+-- The laws of supplies.
 pub mod Stores
 pub mod Entries
 pub mod Heads

@@ -1,4 +1,4 @@
--- The laws of a leaf, of an absent element and of an element that is there. Assumes nothing.
+-- The laws of a leaf, of an absent element and of an element that is there.
 use mathlib.Core.Path.{_≡_, refl, ap, sym, _∙_}
 use mathlib.Core.Bool.{Bool, true, false}
 use mathlib.Core.List.{List}

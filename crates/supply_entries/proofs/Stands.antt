@@ -1,4 +1,4 @@
--- The laws of a building that goes on from where it stands. Assumes nothing.
+-- The laws of a building that goes on from where it stands.
 use mathlib.Core.Path.{_≡_, refl, ap, sym, _∙_}
 use mathlib.Core.Bool.{Bool, true, false}
 use mathlib.Core.List.{List, _++_}

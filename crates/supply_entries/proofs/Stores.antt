@@ -1,4 +1,4 @@
--- The laws of stores that come before others in the output and after them in time. Assumes nothing.
+-- The laws of stores that come before others in the output and after them in time.
 use mathlib.Core.Path.{_≡_, refl, ap, sym, _∙_}
 use mathlib.Core.List.{List, [], _∷_, _++_, append-nil, append-assoc}
 use Prim.Native.Nat.{ℕ, suc, _+_, _<_}

@@ -1,4 +1,4 @@
--- The laws of a value by its node. Assumes nothing.
+-- The laws of a value by its node.
 use mathlib.Core.Path.{_≡_, refl, ap, sym, _∙_}
 use mathlib.Core.Bool.{Bool, true, false}
 use mathlib.Core.List.{List, []}

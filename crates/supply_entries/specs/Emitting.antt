@@ -1,5 +1,5 @@
 -- The building as the code does it: the list by the next word's index, the output by the next byte's. What would pass 65,535 bytes stops
--- at once, so that a supply costs no more than its own words and the bytes of the largest value. Assumes nothing: these are definitions.
+-- at once, so that a supply costs no more than its own words and the bytes of the largest value.
 use mathlib.Core.Path.{_≡_}
 use Prim.Native.Nat.{ℕ, _+_, _≤_}
 use mathlib.Core.Bool.{Bool, true, false}
@@ -24,7 +24,9 @@ use Rattle.protocol.specs.Nodes.{refAt}
 use Rattle.protocol.specs.Values.{noMarks}
 use Rattle.protocol.specs.Plans.{look, cardsAt}
 use Rattle.protocol.specs.Supplies.{zeros, Claim, Next, short, next, nextOf}
-use Rattle.protocol.specs.Building.{noFront as Spec·noFront, elementsMade as Spec·elementsMade, front as Spec·front, partMade as Spec·partMade, wrong as Spec·wrong, sparseOrder as Spec·sparseOrder, buildOf as Spec·buildOf, Made as Spec·Made, made as Spec·made, Front as Spec·Front}
+use Rattle.protocol.specs.Building.{noFront as Spec·noFront, elementsMade as Spec·elementsMade, front as Spec·front}
+use Rattle.protocol.specs.Building.{partMade as Spec·partMade, wrong as Spec·wrong, sparseOrder as Spec·sparseOrder}
+use Rattle.protocol.specs.Building.{buildOf as Spec·buildOf, Made as Spec·Made, made as Spec·made, Front as Spec·Front}
 
 -- ---- entries
 

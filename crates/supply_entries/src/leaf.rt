@@ -28,7 +28,9 @@ fn leaf_fits(plan: &[u32], node: usize, src: &[u8], s: usize, e: usize) -> bool
 {
     let kind = plan_nodes::node::kind_at(plan, node);
     if kind == 1 {
-        let size = value_scalars::format::fixed_size(plan_nodes::node::second_at(plan, node) as u32);
+        let size = value_scalars::format::fixed_size(
+            plan_nodes::node::second_at(plan, node) as u32,
+        );
         if 0 < size {
             return e - s == size;
         }
@@ -103,7 +105,11 @@ pub fn put_leaves(
     mut at: usize,
 ) -> Place
     requires { ⌜ (At (now plan) node) × (KindAt (now plan) node kind) × (Holds (look (now plan) node) end) × (first ≤ end) × (end < 2 ^ 34) × (at ≤ 65535) ⌝ }
-    ensures { λ r. ⌜ (first ≤ r .index) × (r .index ≤ end) × (r .at ≤ 65535) × (put-at (elementsMade rowOrder (buildOf (now (src .entry)) (look (now (plan .entry)))) (look (now (plan .entry)) node) (end - first) first (drop word (now (list .entry)))) at (now (out .entry)) ≡ put-at (elementsMade rowOrder (buildOf (now (src .entry)) (look (now (plan .entry)))) (look (now (plan .entry)) node) (end - r .index) (r .index) (drop (r .word) (now (list .entry)))) (r .at) (now (out .exit))) ⌝ }
+    ensures { λ r. ⌜ (first ≤ r .index) × (r .index ≤ end) × (r .at ≤ 65535)
+        × (put-at (elementsMade rowOrder (buildOf (now (src .entry)) (look (now (plan .entry)))) (look (now (plan .entry)) node) (end - first) first (drop word (now (list .entry)))) at
+        (now (out .entry))
+        ≡ put-at (elementsMade rowOrder (buildOf (now (src .entry)) (look (now (plan .entry)))) (look (now (plan .entry)) node) (end - r .index) (r .index) (drop (r .word) (now (list .entry))))
+        (r .at) (now (out .exit))) ⌝ }
 {
     let mut index = first;
     while index < end {
@@ -138,7 +144,8 @@ pub fn put_given(
     mut at: usize,
 ) -> Gathered
     requires { ⌜ (At (now plan) node) × (getD (now plan) node 0 ≡ 6) × (at ≤ 65535) × (word ≤ length (now list)) ⌝ }
-    ensures { λ r. ⌜ GathersNew (now (src .entry)) (now (plan .entry)) node count (drop word (now (list .entry))) at (now (out .entry)) (r .seen .marks) (r .seen .twice) (r .given) (r .left) (drop (r .word) (now (list .entry))) (r .at) (now (out .exit)) ⌝ }
+    ensures { λ r. ⌜ GathersNew (now (src .entry)) (now (plan .entry)) node count (drop word (now (list .entry))) at (now (out .entry))
+        (r .seen .marks) (r .seen .twice) (r .given) (r .left) (drop (r .word) (now (list .entry))) (r .at) (now (out .exit)) ⌝ }
 {
     let known = plan_nodes::node::second_at(plan, node);
     let most = wire::copy::least(count, MOST);

@@ -1,5 +1,5 @@
 -- Completeness: where an accepted value has the supply, what is put out is that value with the reserved fields of its containers zero. So no
--- two accepted values with the supply differ but in those fields, and 34 is given only where no accepted value has it. Assumes nothing.
+-- two accepted values with the supply differ but in those fields, and 34 is given only where no accepted value has it.
 use mathlib.Core.Path.{_≡_, refl, sym, _∙_}
 use mathlib.Core.Bool.{true, false}
 use mathlib.Core.List.{List, [], _∷_}

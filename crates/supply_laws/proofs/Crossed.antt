@@ -1,4 +1,4 @@
--- 34 exactly, as the C host meets it: a list that does not cross is 34 too, in its turn. Assumes nothing.
+-- 34 exactly, as the C host meets it: a list that does not cross is 34 too, in its turn.
 use mathlib.Core.Path.{_≡_, refl}
 use mathlib.Core.Bool.{Bool, true, false}
 use mathlib.Core.List.{List, [], _∷_}

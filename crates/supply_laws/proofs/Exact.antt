@@ -1,5 +1,5 @@
 -- The numbers of writing a value are given exactly where document 01's table says: 33, 34 and 32. A value, a source and a list are as lent:
--- the first two are bytes, and the list's are words. Assumes nothing.
+-- the first two are bytes, and the list's are words.
 use mathlib.Core.Path.{_≡_, refl, sym, _∙_}
 use mathlib.Core.Bool.{Bool, true, false}
 use mathlib.Core.List.{List, [], _∷_}

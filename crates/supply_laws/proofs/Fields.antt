@@ -1,4 +1,4 @@
--- The bytes of heads: what is made of a head that was read is that head with its reserved fields zero. Assumes nothing.
+-- The bytes of heads: what is made of a head that was read is that head with its reserved fields zero.
 use mathlib.Core.Path.{_≡_, refl, ap, sym, _∙_}
 use mathlib.Core.Bool.{Bool, true, false}
 use mathlib.Core.List.{List, [], _∷_, _++_, append-assoc}
@@ -19,7 +19,8 @@ use Rattle.forms.specs.declared.Head.the-variants.{Present, Absent, Fault}
 use Rattle.value_heads.proofs.Cases.{sized-cases, plain-cases, index-cases}
 use Rattle.value_laws.proofs.Parts.{Stands}
 use Rattle.protocol.specs.Numbers.{pick, bytesBe}
-use Rattle.protocol.specs.Heads.{word, setOpening, countOpening, sparseOpening, rangeFlags, bounds, rangeOpening, optional, plainHead, objectHead, envelopeHead, requires, sparseRest, sparseHead, indexOf, dimension}
+use Rattle.protocol.specs.Heads.{word, setOpening, countOpening, sparseOpening, rangeFlags, bounds, rangeOpening, optional, plainHead}
+use Rattle.protocol.specs.Heads.{objectHead, envelopeHead, requires, sparseRest, sparseHead, indexOf, dimension}
 use Rattle.protocol.specs.Constants.{ABSENT}
 use Rattle.protocol.specs.Nodes.{Node, leaf, enum, row, arrays, tuple, object, sparse, range}
 use Rattle.protocol.specs.Values.{Form, rowHead, rowForm, sparseForm, openingOf}

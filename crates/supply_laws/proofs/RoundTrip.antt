@@ -1,5 +1,5 @@
 -- The round trip: an accepted value has its own list and bytes for a supply, so that writing it again gives the same bytes but for the
--- containers' reserved fields, which are zero. Assumes nothing.
+-- containers' reserved fields, which are zero.
 use mathlib.Core.Path.{_≡_, refl, _∙_}
 use mathlib.Core.Bool.{Bool, true, false}
 use mathlib.Core.List.{List, [], _∷_, _++_, append-nil, append-assoc}
@@ -22,7 +22,8 @@ use Rattle.protocol.specs.Numbers.{pick}
 use Rattle.protocol.specs.Constants.{ABSENT}
 use Rattle.protocol.specs.Nodes.{Node, leaf, enum, row, arrays, tuple, object, sparse, range, refAt}
 use Rattle.protocol.specs.Lists.{Entry, Forest, empty, tree, append, width, words, entryOf}
-use Rattle.protocol.specs.Values.{ValueOutcome, then, under, Rule, absent, present, elementOutcome, Form, containerEnd, elements, rowForm, sparseForm, noMarks, leafRule, rowRule, sparseRule, byNode, value, valueOf, fuel}
+use Rattle.protocol.specs.Values.{ValueOutcome, then, under, Rule, absent, present, elementOutcome, Form, containerEnd, elements, rowForm}
+use Rattle.protocol.specs.Values.{sparseForm, noMarks, leafRule, rowRule, sparseRule, byNode, value, valueOf, fuel}
 use Rattle.protocol.specs.Answers.{refused, accepted, putOut, outputRoomed}
 use Rattle.protocol.specs.Plans.{look}
 use Rattle.protocol.specs.Running.{nothingIn, valueBy, checked}

@@ -1,4 +1,4 @@
--- What is written is accepted by the rules, has the supply, and its containers' reserved fields are zero. Assumes nothing.
+-- What is written is accepted by the rules, has the supply, and its containers' reserved fields are zero.
 use mathlib.Core.Path.{_≡_, refl, ap, sym, _∙_}
 use mathlib.Core.Logic.{⊎-elim}
 use mathlib.Core.Bool.{Bool, true, false}
@@ -23,7 +23,9 @@ use Rattle.protocol.specs.Values.{under, Rule, Form, elements, rowForm, sparseF
 use Rattle.protocol.specs.Plans.{look, noType, planFormed}
 use Rattle.protocol.specs.Running.{nothingIn, valueBy, checked}
 use Rattle.protocol.specs.Supplies.{Claim, Next, short, next, nextOf, SameLeaf, SameBytes, Agrees, HasSupply, zeroOpening, zeroElements, zeroRow, zeroSparse, zeroNode, zeroValue, zeroed}
-use Rattle.protocol.specs.Building.{Made, wrong, made, Builder, Front, noFront, front, frontOf, headBytes, Order, rowOrder, sparseOrder, mayLack, elementsMade, leafMade, rowMade, sparseMade, nodeMade, entryMade, build, buildOf, madeBy, suppliedBy, writeOf}
+use Rattle.protocol.specs.Building.{Made, wrong, made, Builder, Front, noFront, front, frontOf, headBytes, Order, rowOrder, sparseOrder}
+use Rattle.protocol.specs.Building.{mayLack, elementsMade, leafMade, rowMade, sparseMade, nodeMade, entryMade, build, buildOf, madeBy}
+use Rattle.protocol.specs.Building.{suppliedBy, writeOf}
 
 -- ---- both orders
 

@@ -1,5 +1,5 @@
--- The heads that are written, of a container and of its elements, are read back as what they were written from, and their reserved fields
--- are zero. Assumes nothing.
+-- The heads that are written, of a container and of its elements, are read
+-- back as what they were written from, and their reserved fields are zero.
 use mathlib.Core.Path.{_≡_, refl, ap, sym, _∙_}
 use mathlib.Core.Option.{some}
 use mathlib.Core.Logic.{⊎-elim}
@@ -21,7 +21,8 @@ use Rattle.forms.specs.declared.Head.the-variants.{Present, Absent}
 use Rattle.value_heads.proofs.Cases.{sparse-known}
 use Rattle.value_parts.specs.Walk.{IsRow}
 use Rattle.protocol.specs.Numbers.{pick, be, beFrom, bytesBe}
-use Rattle.protocol.specs.Heads.{word, negative, setOpening, countOpening, sparseOpening, rangeFlags, bounds, rangeOpening, elementIn, optional, plainHead, objectHead, envelopeHead, sparseIndex, requires, sparseHead, dimension}
+use Rattle.protocol.specs.Heads.{word, negative, setOpening, countOpening, sparseOpening, rangeFlags, bounds, rangeOpening, elementIn}
+use Rattle.protocol.specs.Heads.{optional, plainHead, objectHead, envelopeHead, sparseIndex, requires, sparseHead, dimension}
 use Rattle.protocol.specs.Constants.{ABSENT}
 use Rattle.protocol.specs.Nodes.{Node, leaf, enum, row, arrays, tuple, object, sparse, range, refAt}
 use Rattle.protocol.specs.Values.{rowHead, openingOf}

@@ -1,5 +1,4 @@
 -- What was made of a supply's words reads back: laws of one thing after the other, and of a container's elements whatever their order.
--- Assumes nothing.
 use mathlib.Core.Path.{_≡_, refl, ap, sym, _∙_}
 use mathlib.Core.Logic.{⊎-elim}
 use mathlib.Core.Bool.{Bool, true, false}

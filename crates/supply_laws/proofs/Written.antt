@@ -1,5 +1,5 @@
--- What is made of a source that is bytes is bytes: each part of it is a number's bytes, zeros, or bytes of the source. By induction over
--- the building. Assumes nothing.
+-- What is made of a source that is bytes is bytes: each part of it is a number's
+-- bytes, zeros, or bytes of the source. By induction over the building.
 use mathlib.Core.Path.{_≡_}
 use mathlib.Core.Bool.{Bool}
 use mathlib.Core.List.{List, [], _∷_, _++_}
@@ -18,7 +18,10 @@ use Rattle.protocol.specs.Heads.{bounds}
 use Rattle.protocol.specs.Nodes.{Node, leaf, enum, row, arrays, tuple, object, sparse, range, refAt}
 use Rattle.protocol.specs.Values.{noMarks}
 use Rattle.protocol.specs.Supplies.{zeros, Claim, Next, short, next, nextOf}
-use Rattle.protocol.specs.Building.{Made, wrong, made, madeBefore, thenMade, Builder, Front, noFront, front, setBytes, boundsFront, rangeFront, countFront, frontOf, headBytes, Order, rowOrder, sparseOrder, absentMade, headed, partMade, memberMade, stateAfter, elementsMade, leafMade, rowMade, sparseMade, nodeMade, entryMade, build, buildOf, madeBy, suppliedBy}
+use Rattle.protocol.specs.Building.{Made, wrong, made, madeBefore, thenMade, Builder, Front, noFront, front, setBytes, boundsFront}
+use Rattle.protocol.specs.Building.{rangeFront, countFront, frontOf, headBytes, Order, rowOrder, sparseOrder, absentMade, headed, partMade}
+use Rattle.protocol.specs.Building.{memberMade, stateAfter, elementsMade, leafMade, rowMade, sparseMade, nodeMade, entryMade, build}
+use Rattle.protocol.specs.Building.{buildOf, madeBy, suppliedBy}
 use Rattle.protocol.specs.Answers.{Put, refusedPut, putOut}
 
 -- ---- heads

@@ -1,5 +1,5 @@
 -- An accepted value with its containers' reserved fields zero is as long as the value, and is what is made of every supply that agrees
--- with the value's entries. By induction over the rules, and over the elements whatever the container's form. Assumes nothing.
+-- with the value's entries. By induction over the rules, and over the elements whatever the container's form.
 use mathlib.Core.Path.{_≡_, refl, ap, sym, _∙_}
 use mathlib.Core.Bool.{Bool, true, false}
 use mathlib.Core.List.{List, [], _++_}
@@ -25,10 +25,14 @@ use Rattle.protocol.specs.Constants.{ABSENT}
 use Rattle.protocol.specs.Heads.{endOf}
 use Rattle.protocol.specs.Nodes.{Node, leaf, enum, row, arrays, tuple, object, sparse, range, refAt}
 use Rattle.protocol.specs.Lists.{Entry, Forest, empty, tree, append, width, entryOf}
-use Rattle.protocol.specs.Values.{ValueOutcome, then, under, Rule, absent, present, elementOutcome, Form, containerEnd, elements, rowForm, sparseForm, noMarks, leafRule, rowRule, sparseRule, byNode, value}
+use Rattle.protocol.specs.Values.{ValueOutcome, then, under, Rule, absent, present, elementOutcome, Form, containerEnd, elements, rowForm}
+use Rattle.protocol.specs.Values.{sparseForm, noMarks, leafRule, rowRule, sparseRule, byNode, value}
 use Rattle.protocol.specs.Answers.{refused, accepted}
-use Rattle.protocol.specs.Supplies.{Claim, Next, next, nextOf, SameLeaf, SameBytes, SamePart, Agree, AgreeNext, Agrees, zeroOpening, zeroHead, between, zeroPart, zeroMember, zeroElements, zeroRow, zeroSparse, zeroNode, zeroValue}
-use Rattle.protocol.specs.Building.{Made, made, madeBefore, thenMade, Builder, front, frontOf, Order, rowOrder, sparseOrder, mayLack, absentMade, headed, partMade, memberMade, stateAfter, elementsMade, leafMade, rowMade, sparseMade, nodeMade, entryMade, build}
+use Rattle.protocol.specs.Supplies.{Claim, Next, next, nextOf, SameLeaf, SameBytes, SamePart, Agree, AgreeNext, Agrees, zeroOpening}
+use Rattle.protocol.specs.Supplies.{zeroHead, between, zeroPart, zeroMember, zeroElements, zeroRow, zeroSparse, zeroNode, zeroValue}
+use Rattle.protocol.specs.Building.{Made, made, madeBefore, thenMade, Builder, front, frontOf, Order, rowOrder, sparseOrder, mayLack}
+use Rattle.protocol.specs.Building.{absentMade, headed, partMade, memberMade, stateAfter, elementsMade, leafMade, rowMade, sparseMade}
+use Rattle.protocol.specs.Building.{nodeMade, entryMade, build}
 
 -- ---- the entries of a supply
 

@@ -1,4 +1,4 @@
--- How a writing ends: the laws of the top value, of the last tests and of the whole output. Assumes nothing.
+-- How a writing ends: the laws of the top value, of the last tests and of the whole output.
 use mathlib.Core.Path.{_≡_, refl, ap, sym, _∙_}
 use mathlib.Core.Bool.{true, false}
 use mathlib.Core.List.{List, [], _∷_, _++_}

@@ -1,4 +1,4 @@
--- What the writer answers and leaves in the output, from what the definition puts out. Assumes nothing: these are definitions.
+-- What the writer answers and leaves in the output, from what the definition puts out.
 use mathlib.Core.Path.{_≡_}
 use Prim.Native.Nat.{ℕ}
 use mathlib.Core.List.{List}

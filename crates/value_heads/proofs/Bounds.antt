@@ -1,5 +1,4 @@
 -- Where the heads lead: inside the container's bytes and onwards, at least as far as a head is long; and which element they are of.
--- Assumes nothing.
 use mathlib.Core.Path.{_≡_, refl}
 use mathlib.Core.Bool.{Bool, false}
 use mathlib.Core.Logic.{_⊎_, inl, inr}

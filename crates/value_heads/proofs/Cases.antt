@@ -1,5 +1,5 @@
--- What a container's and an element's head can be, with what the tests on the way say: one law each, with the predicate a variable, from
--- which the bounds follow. Assumes nothing.
+-- What a container's and an element's head can be, with what the tests on the way
+-- say: one law each, with the predicate a variable, from which the bounds follow.
 use mathlib.Core.Path.{_≡_, ap}
 use mathlib.Core.Bool.{Bool, true, false}
 use mathlib.Core.List.{List, []}
@@ -16,7 +16,8 @@ use Rattle.forms.specs.declared.Head.the-variants.{Present, Absent, Fault}
 use Rattle.forms.specs.declared.Index.{Index}
 use Rattle.forms.specs.declared.Index.the-variants.{Known, Bad}
 use Rattle.protocol.specs.Numbers.{pick}
-use Rattle.protocol.specs.Heads.{word, negative, bounds, dimension, setOpening, countOpening, sparseOpening, rangeOpening, elementIn, optional, plainHead, objectHead, envelopeHead, sparseIndex, requires, sparseRest, sparseHead}
+use Rattle.protocol.specs.Heads.{word, negative, bounds, dimension, setOpening, countOpening, sparseOpening, rangeOpening, elementIn}
+use Rattle.protocol.specs.Heads.{optional, plainHead, objectHead, envelopeHead, sparseIndex, requires, sparseRest, sparseHead}
 
 -- ---- a container's head
 

@@ -1,4 +1,4 @@
--- The required elements of a sparse object, counted: some is lacking where fewer were given than are needed. Assumes nothing.
+-- The required elements of a sparse object, counted: some is lacking where fewer were given than are needed.
 use mathlib.Core.Path.{_≡_, refl, sym}
 use mathlib.Core.Bool.{Bool, true, false, not}
 use mathlib.Core.List.{List}

@@ -1,4 +1,4 @@
--- The marks of a sparse object's indexes, one index after the other. Assumes nothing.
+-- The marks of a sparse object's indexes, one index after the other.
 use mathlib.Core.Path.{_≡_, refl, ap, sym, _∙_}
 use mathlib.Core.Bool.{Bool, true, false}
 use mathlib.Core.List.{List, [], _∷_, _++_}

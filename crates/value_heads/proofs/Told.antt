@@ -1,4 +1,4 @@
--- What a head is where let-else took one of its cases out: one of the two others. Assumes nothing.
+-- What a head is where let-else took one of its cases out: one of the two others.
 use mathlib.Core.Path.{_≡_}
 use mathlib.Core.List.{[], _∷_}
 use mathlib.Core.Logic.{⊎-elim}

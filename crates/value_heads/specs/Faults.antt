@@ -1,4 +1,4 @@
--- The number of a refusal in what a head's read answers, and 0 where there is none. Assumes nothing: these are definitions.
+-- The number of a refusal in what a head's read answers, and 0 where there is none.
 use Prim.Native.Nat.{ℕ}
 use Rattle.forms.specs.declared.Opening.{Opening}
 use Rattle.forms.specs.declared.Opening.the-variants.{Elements, Wrong}

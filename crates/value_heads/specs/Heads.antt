@@ -1,5 +1,5 @@
 -- What the heads of containers and of their elements say (document 01, 'Values'), in a container's own bytes s. Numbers are those of
--- the refusals; the place is the container's, and its user's to give. Assumes nothing: these are definitions.
+-- the refusals; the place is the container's, and its user's to give.
 use Prim.Native.Nat.{ℕ, zero, suc, _+_, _<_, _≤_}
 use mathlib.Core.Bool.{Bool, false}
 use mathlib.Core.List.{List}

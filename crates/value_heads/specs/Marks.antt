@@ -1,5 +1,4 @@
--- The marks of a sparse object's indexes, as the code sets them: those of a stretch of elements one after the other. Assumes nothing: these are
--- definitions.
+-- The marks of a sparse object's indexes, as the code sets them: those of a stretch of elements one after the other.
 use Prim.Native.Nat.{ℕ, zero, suc, _+_}
 use mathlib.Core.Bool.{Bool, true, false}
 use mathlib.Core.List.{List, [], _∷_}

@@ -2,4 +2,3 @@
 pub mod element;
 pub mod parts;
 pub mod sparse;
-

@@ -1,7 +1,7 @@
 // The indexes of a sparse object's elements, which the wire gives.
+use crate::element::sparse_length;
 use forms::Head;
 use forms::Index;
-use crate::element::sparse_length;
 ghost use mathlib.Core.Path.{_≡_};
 ghost use mathlib.Core.Bool.{true, false};
 ghost use mathlib.Core.List.{[]};

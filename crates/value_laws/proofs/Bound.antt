@@ -1,4 +1,4 @@
--- A value of L bytes has at most 1 + L / 4 entries: each element's head takes four bytes. Assumes nothing.
+-- A value of L bytes has at most 1 + L / 4 entries: each element's head takes four bytes.
 use mathlib.Core.Path.{_≡_}
 use mathlib.Core.Bool.{Bool}
 use mathlib.Core.List.{List}
@@ -17,7 +17,8 @@ use Rattle.value_laws.proofs.HeadSizes.{Spaced, sparse-spaced, row-spac
 use Rattle.protocol.specs.Heads.{endOf}
 use Rattle.protocol.specs.Nodes.{Node, leaf, enum, row, arrays, tuple, object, sparse, range, refAt}
 use Rattle.protocol.specs.Lists.{Entry, Forest, count, entryOf}
-use Rattle.protocol.specs.Values.{ValueOutcome, then, under, Rule, absent, present, elementOutcome, Form, containerEnd, elements, rowForm, sparseForm, noMarks, leafRule, rowRule, sparseRule, byNode, value}
+use Rattle.protocol.specs.Values.{ValueOutcome, then, under, Rule, absent, present, elementOutcome, Form, containerEnd, elements, rowForm}
+use Rattle.protocol.specs.Values.{sparseForm, noMarks, leafRule, rowRule, sparseRule, byNode, value}
 use Rattle.protocol.specs.Answers.{refused, accepted}
 
 -- no more entries than n bytes have room for

@@ -1,5 +1,5 @@
 -- A value of a node whose references all lead to nodes is listed, or refused with a number from 20 to 27 at a place in it: never with 33,
--- which stands in the rules where a node is missing. By induction over the rules. Assumes nothing.
+-- which stands in the rules where a node is missing. By induction over the rules.
 use mathlib.Core.Path.{_≡_, refl}
 use mathlib.Core.Bool.{Bool}
 use mathlib.Core.List.{List, [], _∷_}
@@ -16,10 +16,12 @@ use Rattle.forms.specs.declared.Head.{Head}
 use Rattle.forms.specs.declared.Head.the-variants.{Present, Absent, Fault}
 use Rattle.forms.specs.declared.Index.{Index}
 use Rattle.value_laws.proofs.HeadSizes.{Spaced, row-spaced, sparse-spaced}
-use Rattle.protocol.specs.Heads.{word, bounds, setOpening, countOpening, sparseOpening, rangeOpening, elementIn, optional, plainHead, objectHead, envelopeHead, sparseIndex, requires, sparseRest, sparseHead, dimension}
+use Rattle.protocol.specs.Heads.{word, bounds, setOpening, countOpening, sparseOpening, rangeOpening, elementIn, optional, plainHead}
+use Rattle.protocol.specs.Heads.{objectHead, envelopeHead, sparseIndex, requires, sparseRest, sparseHead, dimension}
 use Rattle.protocol.specs.Nodes.{Node, leaf, enum, row, arrays, tuple, object, sparse, range, refAt}
 use Rattle.protocol.specs.Lists.{Entry}
-use Rattle.protocol.specs.Values.{ValueOutcome, then, under, Rule, absent, present, elementOutcome, Form, containerEnd, elements, rowHead, rowForm, sparseForm, noMarks, openingOf, leafRule, rowRule, sparseRule, byNode, value}
+use Rattle.protocol.specs.Values.{ValueOutcome, then, under, Rule, absent, present, elementOutcome, Form, containerEnd, elements, rowHead}
+use Rattle.protocol.specs.Values.{rowForm, sparseForm, noMarks, openingOf, leafRule, rowRule, sparseRule, byNode, value}
 use Rattle.protocol.specs.Answers.{refused, accepted}
 
 -- the numbers of a value's faults

@@ -1,4 +1,4 @@
--- The laws of forests: what stands side by side adds up, and so do the words. Assumes nothing.
+-- The laws of forests: what stands side by side adds up, and so do the words.
 use mathlib.Core.Path.{_≡_, refl}
 use mathlib.Core.List.{_++_, append-assoc as list-assoc}
 use Prim.Native.Nat.{_+_, _*_}

@@ -1,5 +1,5 @@
--- A rule is only asked of the keys that a node refers to, so constant fuel is enough for every key. It follows from a renaming that leaves
--- each key as it is. Assumes nothing.
+-- A rule is only asked of the keys that a node refers to, so constant fuel is
+-- enough for every key. It follows from a renaming that leaves each key as it is.
 use mathlib.Core.Path.{_≡_, refl, sym, ap, _∙_}
 use mathlib.Core.List.{List, map-id}
 use mathlib.Core.Option.{some}

@@ -1,5 +1,5 @@
--- Of every node: the head of an element takes at least four bytes, and it and the container's own head lead to a place in the bytes that
--- they were read from. Assumes nothing.
+-- Of every node: the head of an element takes at least four bytes, and it and the
+-- container's own head lead to a place in the bytes that they were read from.
 use mathlib.Core.Bool.{Bool}
 use mathlib.Core.List.{List}
 use Prim.Native.Nat.{ℕ, _+_, _≤_}

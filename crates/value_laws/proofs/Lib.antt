@@ -1,4 +1,4 @@
--- The laws of the rules of values, over any description of nodes. Assumes nothing.
+-- The laws of the rules of values, over any description of nodes.
 pub mod Forests
 pub mod Outcomes
 pub mod Loops

@@ -1,4 +1,4 @@
--- The elements of a container one at a time, whatever its form: the next one, and the end. Assumes nothing.
+-- The elements of a container one at a time, whatever its form: the next one, and the end.
 use mathlib.Core.Path.{_≡_, _∙_}
 use mathlib.Core.Bool.{true, false}
 use mathlib.Core.List.{List}

@@ -1,4 +1,4 @@
--- The laws of outcomes: one after the other, and one below an entry. Assumes nothing.
+-- The laws of outcomes: one after the other, and one below an entry.
 use mathlib.Core.Path.{_≡_, refl, ap}
 use mathlib.Core.List.{List, [], _++_, append-nil}
 use Prim.Native.Nat.{ℕ, _+_, _≤_, zero-le}

@@ -1,4 +1,4 @@
--- A part of some bytes, at a position in them. Assumes nothing.
+-- A part of some bytes, at a position in them.
 use mathlib.Core.Path.{_≡_, sym}
 use mathlib.Core.List.{List, [], _++_, append-assoc, append-nil}
 use Prim.Native.Nat.{ℕ, _+_, _≤_}

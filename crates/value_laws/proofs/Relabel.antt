@@ -1,4 +1,4 @@
--- Rules over two descriptions that agree up to a renaming of keys have outcomes that agree up to that renaming. Assumes nothing.
+-- Rules over two descriptions that agree up to a renaming of keys have outcomes that agree up to that renaming.
 use mathlib.Core.Path.{_≡_, refl, sym, ap, ap₂}
 use mathlib.Core.Bool.{Bool, true, false}
 use mathlib.Core.List.{List, [], _∷_, map}
@@ -14,7 +14,9 @@ use Rattle.protocol.specs.Numbers.{pick}
 use Rattle.protocol.specs.Heads.{endOf}
 use Rattle.protocol.specs.Nodes.{Node, leaf, enum, row, arrays, tuple, object, sparse, range, refAt, rename}
 use Rattle.protocol.specs.Lists.{Forest, empty, tree, append, entryOf, renamedForest}
-use Rattle.protocol.specs.Values.{ValueOutcome, then, under, Rule, absent, present, elementOutcome, Form, containerEnd, elements, rowHead, rowForm, sparseForm, noMarks, openingOf, leafRule, rowRule, sparseRule, byNode, value, valueOf, fuel, renamed}
+use Rattle.protocol.specs.Values.{ValueOutcome, then, under, Rule, absent, present, elementOutcome, Form, containerEnd, elements, rowHead}
+use Rattle.protocol.specs.Values.{rowForm, sparseForm, noMarks, openingOf, leafRule, rowRule, sparseRule, byNode, value, valueOf, fuel}
+use Rattle.protocol.specs.Values.{renamed}
 use Rattle.protocol.specs.Answers.{refused, accepted}
 
 module _ (ρ : ℕ → ℕ) where

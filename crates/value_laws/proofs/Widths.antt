@@ -1,4 +1,4 @@
--- A value that is accepted is one tree, and a container has as many entries directly below it as elements. Assumes nothing.
+-- A value that is accepted is one tree, and a container has as many entries directly below it as elements.
 use mathlib.Core.Path.{_≡_, refl}
 use mathlib.Core.Bool.{Bool}
 use mathlib.Core.List.{List}

@@ -1,5 +1,5 @@
 -- The laws of the leaves that a sparse object starts with: each of them is an element that the walk would list, with its index marked, or the
--- object is refused since an index was given twice. Assumes nothing.
+-- object is refused since an index was given twice.
 use mathlib.Core.Path.{_≡_, refl, ap, sym, _∙_}
 use mathlib.Core.Bool.{Bool, true, false}
 use mathlib.Core.List.{List, [], _∷_}

@@ -1,5 +1,4 @@
--- The laws of one leaf in hand: how large it is, what its head says, and that what the code reads is what the definitions give. Assumes
--- nothing.
+-- The laws of one leaf in hand: how large it is, what its head says, and that what the code reads is what the definitions give.
 use mathlib.Core.Path.{_≡_, refl, ap, sym, _∙_}
 use mathlib.Core.Bool.{Bool, true, false}
 use mathlib.Core.List.{List, [], _∷_}
@@ -93,7 +92,8 @@ module _ (p : List ℕ) (k : ℕ) (s : List ℕ) (start size : ℕ) (fits : star
   pub fixed-good : FixedAt p k size → 0 < size → leafGood (look p k) (take size (drop start s)) ≡ true
   fixed-good f z = sym (fixed-is size f z) ∙ eq-eqb size size refl
 
-pub part-good : (p : List ℕ) (k : ℕ) (s : List ℕ) (start size : ℕ) (b : Bool) → b ≡ leafGood (look p k) (take (start + size - start) (drop start s)) → b ≡ leafGood (look p k) (take size (drop start s))
+pub part-good : (p : List ℕ) (k : ℕ) (s : List ℕ) (start size : ℕ) (b : Bool)
+    → b ≡ leafGood (look p k) (take (start + size - start) (drop start s)) → b ≡ leafGood (look p k) (take size (drop start s))
 part-good p k s start size b e = rw add-sub-cancel-left at e
 
 -- ---- a leaf of a fixed size

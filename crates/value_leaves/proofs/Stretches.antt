@@ -1,5 +1,5 @@
--- The laws of a stretch of leaves in a container whose elements come in order: each of them is an element that the walk would list, and what is
--- left leads to the same place. Assumes nothing.
+-- The laws of a stretch of leaves in a container whose elements come in order: each of
+-- them is an element that the walk would list, and what is left leads to the same place.
 use mathlib.Core.Path.{_≡_, refl, ap, sym, _∙_}
 use mathlib.Core.Bool.{true}
 use mathlib.Core.List.{List}

@@ -1,4 +1,4 @@
--- What a stretch of leaves leaves to the walk. Assumes nothing: these are definitions.
+-- What a stretch of leaves leaves to the walk.
 use mathlib.Core.Path.{_≡_}
 use mathlib.Core.Bool.{Bool, true, false}
 use mathlib.Core.List.{List, []}

@@ -88,7 +88,8 @@ fn same_leaves(
     list: &mut [u32],
     at: usize,
 ) -> Stretch
-    requires { ⌜ (At (now plan) node) × (getD (now plan) node 0 ≡ 2) × (first + count < 2 ^ 32) × (base + length (now part) ≤ 65535) × (from ≤ length (now part)) × (4 * at ≤ 5 * (base + from) + 20) ⌝ }
+    requires { ⌜ (At (now plan) node) × (getD (now plan) node 0 ≡ 2) × (first + count < 2 ^ 32) × (base + length (now part) ≤ 65535)
+        × (from ≤ length (now part)) × (4 * at ≤ 5 * (base + from) + 20) ⌝ }
     ensures { λ r. ⌜ Stretched (now (plan .entry)) node base (now (part .entry)) (first + count) count first from at (now (list .entry)) (r .left) (r .pos) (r .at) (now (list .exit)) ⌝ }
 {
     let child = plan_nodes::node::ref_of(plan, node, first);
@@ -174,7 +175,8 @@ fn other_leaves(
     list: &mut [u32],
     at: usize,
 ) -> Stretch
-    requires { ⌜ (Ordered (now plan) node) × (getD (now plan) node 0 ≡ 3 → ⊥) × (Holds (look (now plan) node) (first + count)) × (first + count < 2 ^ 32) × (base + length (now part) ≤ 65535) × (from ≤ length (now part)) × (4 * at ≤ 5 * (base + from) + 20) ⌝ }
+    requires { ⌜ (Ordered (now plan) node) × (getD (now plan) node 0 ≡ 3 → ⊥) × (Holds (look (now plan) node) (first + count))
+        × (first + count < 2 ^ 32) × (base + length (now part) ≤ 65535) × (from ≤ length (now part)) × (4 * at ≤ 5 * (base + from) + 20) ⌝ }
     ensures { λ r. ⌜ Stretched (now (plan .entry)) node base (now (part .entry)) (first + count) count first from at (now (list .entry)) (r .left) (r .pos) (r .at) (now (list .exit)) ⌝ }
 {
     let gap = gap_of(plan_nodes::node::kind_at(plan, node));
@@ -209,7 +211,8 @@ pub fn walk_leaves(
     list: &mut [u32],
     at: usize,
 ) -> Stretch
-    requires { ⌜ (Ordered (now plan) node) × (Holds (look (now plan) node) (first + count)) × (first + count < 2 ^ 32) × (base + length (now part) ≤ 65535) × (from ≤ length (now part)) × (4 * at ≤ 5 * (base + from) + 20) ⌝ }
+    requires { ⌜ (Ordered (now plan) node) × (Holds (look (now plan) node) (first + count)) × (first + count < 2 ^ 32)
+        × (base + length (now part) ≤ 65535) × (from ≤ length (now part)) × (4 * at ≤ 5 * (base + from) + 20) ⌝ }
     ensures { λ r. ⌜ Stretched (now (plan .entry)) node base (now (part .entry)) (first + count) count first from at (now (list .entry)) (r .left) (r .pos) (r .at) (now (list .exit)) ⌝ }
 {
     let kind = plan_nodes::node::kind_at(plan, node);
@@ -277,7 +280,8 @@ pub fn sparse_leaves(
     at: usize,
 ) -> Gathered
     requires { ⌜ (At (now plan) node) × (getD (now plan) node 0 ≡ 6) × (base + length (now part) ≤ 65535) × (from ≤ length (now part)) × (4 * at ≤ 5 * (base + from) + 20) ⌝ }
-    ensures { λ r. ⌜ Gathers (now (plan .entry)) node base (now (part .entry)) count from at (now (list .entry)) (r .seen .marks) (r .seen .twice) (r .given) (r .left) (r .pos) (r .at) (now (list .exit)) ⌝ }
+    ensures { λ r. ⌜ Gathers (now (plan .entry)) node base (now (part .entry)) count from at (now (list .entry)) (r .seen .marks)
+        (r .seen .twice) (r .given) (r .left) (r .pos) (r .at) (now (list .exit)) ⌝ }
 {
     let most = wire::copy::least(count, MOST);
     let mut n: usize = 0;

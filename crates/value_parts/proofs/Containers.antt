@@ -1,4 +1,4 @@
--- What holds of a container is shown for each of its kinds. Assumes nothing.
+-- What holds of a container is shown for each of its kinds.
 use mathlib.Core.Path.{_≡_, refl, sym, _∙_}
 use mathlib.Core.Bool.{Bool, true, false}
 use mathlib.Core.List.{List}

@@ -1,5 +1,4 @@
--- How many required elements of a sparse object were given so far, beside its marks: at the end it tells whether one is lacking. Assumes
--- nothing.
+-- How many required elements of a sparse object were given so far, beside its marks: at the end it tells whether one is lacking.
 use mathlib.Core.Path.{_≡_, ap, sym, _∙_}
 use mathlib.Core.Bool.{Bool, true, false}
 use mathlib.Core.List.{List}

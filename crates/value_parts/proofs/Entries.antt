@@ -1,4 +1,4 @@
--- The words of an entry, stored one after the other. Assumes nothing.
+-- The words of an entry, stored one after the other.
 use mathlib.Core.Path.{_≡_}
 use mathlib.Core.List.{List, [], _∷_}
 use Prim.Native.Nat.{ℕ, _+_}

@@ -1,4 +1,4 @@
--- What holds of the heads that a walk reads, and the laws of a value by its node. Assumes nothing.
+-- What holds of the heads that a walk reads, and the laws of a value by its node.
 use mathlib.Core.Path.{_≡_, refl, sym, _∙_}
 use mathlib.Core.Bool.{Bool, true, false}
 use mathlib.Core.List.{List, [], _∷_}
@@ -23,7 +23,10 @@ use Rattle.forms.specs.declared.Opening.{Opening}
 use Rattle.forms.specs.declared.Opening.the-variants.{Elements, Wrong}
 use Rattle.forms.proofs.Head.{the-type}
 use Rattle.value_heads.proofs.Told.{is-fault}
-use Rattle.value_heads.proofs.Bounds.{known-new, optional-index, set-opened, count-opened, range-opened, sparse-opened, inside-end, plain-inside, plain-from, plain-index, object-inside, object-from, object-index, envelope-inside, envelope-from, envelope-index, sparse-inside, sparse-from, sparse-index-below, plain-refuses, object-refuses, envelope-refuses, sparse-refuses}
+use Rattle.value_heads.proofs.Bounds.{known-new, optional-index, set-opened, count-opened, range-opened, sparse-opened, inside-end}
+use Rattle.value_heads.proofs.Bounds.{plain-inside, plain-from, plain-index, object-inside, object-from, object-index, envelope-inside}
+use Rattle.value_heads.proofs.Bounds.{envelope-from, envelope-index, sparse-inside, sparse-from, sparse-index-below, plain-refuses}
+use Rattle.value_heads.proofs.Bounds.{object-refuses, envelope-refuses, sparse-refuses}
 use Rattle.value_laws.proofs.Fuel.{value-step}
 use Rattle.plan_nodes.specs.Readers.{Refers, KindAt, At}
 use Rattle.plan_nodes.proofs.Looks.{elem-at, elem-in, refs-length, cards-length, look-leaf, look-row, look-arrays, look-tuple, look-object, look-sparse, look-range, look-enum, tuple-length}

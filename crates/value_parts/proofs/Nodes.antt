@@ -1,4 +1,4 @@
--- The laws of a node's heads, by the node's kind in a plan. Assumes nothing.
+-- The laws of a node's heads, by the node's kind in a plan.
 use mathlib.Core.Path.{_≡_, ap, sym, _∙_}
 use mathlib.Core.Bool.{Bool, true, false}
 use mathlib.Core.List.{List, []}

@@ -1,4 +1,4 @@
--- The laws of a walk: what is left of a value leads to the same place. Assumes nothing.
+-- The laws of a walk: what is left of a value leads to the same place.
 use mathlib.Core.Path.{_≡_, refl, ap, sym, _∙_}
 use mathlib.Core.Bool.{Bool, true, false}
 use mathlib.Core.List.{List, [], _++_, append-assoc, append-nil}

@@ -1,4 +1,4 @@
--- What the walk over a sparse object keeps of the indexes it met. Assumes nothing: this is a definition.
+-- What the walk over a sparse object keeps of the indexes it met.
 use mathlib.Core.Path.{_≡_}
 use mathlib.Core.Bool.{Bool}
 use mathlib.Core.List.{List}

@@ -1,5 +1,4 @@
 -- The rules of values as the code goes by them: the list by the number of its words so far. A refusal says nothing of the list.
--- Assumes nothing: these are definitions.
 use mathlib.Core.Path.{_≡_}
 use Prim.Native.Nat.{ℕ, _+_, _*_, _^_, _<_, _≤_}
 use mathlib.Core.Bool.{Bool, true, false}

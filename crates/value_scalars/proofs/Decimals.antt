@@ -1,4 +1,4 @@
--- The laws of decimals and bigints. Assumes nothing.
+-- The laws of decimals and bigints.
 use mathlib.Core.Path.{_≡_, sym, _∙_}
 use mathlib.Core.Bool.{Bool, true, false}
 use mathlib.Core.List.{List}

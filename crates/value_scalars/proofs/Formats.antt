@@ -1,4 +1,4 @@
--- The laws of a scalar's rule by its format: the fixed sizes by one law over the size, and the formats that are not there. Assumes nothing.
+-- The laws of a scalar's rule by its format: the fixed sizes by one law over the size, and the formats that are not there.
 use mathlib.Core.Path.{_≡_, refl, sym, _∙_}
 use mathlib.Core.Bool.{Bool, true, false}
 use mathlib.Core.List.{List}

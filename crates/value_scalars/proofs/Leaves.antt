@@ -1,4 +1,4 @@
--- The laws of the formats with a short rule of their own: bool, duration, json. Assumes nothing.
+-- The laws of the formats with a short rule of their own: bool, duration, json.
 use mathlib.Core.Path.{_≡_, refl, ap, _∙_}
 use mathlib.Core.Bool.{false}
 use mathlib.Core.List.{List, [], _∷_}

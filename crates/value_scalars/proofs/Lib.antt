@@ -1,4 +1,4 @@
--- The laws that this crate's proofs cite, and other crates' too. Assumes nothing.
+-- The laws that this crate's proofs cite, and other crates' too.
 pub mod Matches
 pub mod Parts
 pub mod Formats

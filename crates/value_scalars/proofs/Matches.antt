@@ -1,4 +1,4 @@
--- What a `match` on a number says in its arms, as tests that antt computes. Assumes nothing.
+-- What a `match` on a number says in its arms, as tests that antt computes.
 use mathlib.Core.Path.{_≡_, refl, sym, subst}
 use mathlib.Core.Bool.{Bool, true, false}
 use mathlib.Core.List.{List, [], _∷_}

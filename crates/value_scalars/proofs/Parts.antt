@@ -1,4 +1,4 @@
--- A part of a value, from a position to its end, as code lends it. Assumes nothing.
+-- A part of a value, from a position to its end, as code lends it.
 use mathlib.Core.Path.{_≡_}
 use mathlib.Core.List.{List}
 use Prim.Native.Nat.{ℕ, _-_}

@@ -1,2 +1,2 @@
--- The definitions: Scalars is document 01's rules, Sizes what src/format.rt says of the formats of a fixed size. Assumes nothing.
+-- The definitions: Scalars is document 01's rules, Sizes what src/format.rt says of the formats of a fixed size.
 pub mod Sizes

@@ -1,4 +1,4 @@
--- The formats whose rule is a size alone, by which a run of such values is judged at once. Assumes nothing: these are definitions.
+-- The formats whose rule is a size alone, by which a run of such values is judged at once.
 use mathlib.Core.Path.{_≡_}
 use mathlib.Core.List.{List}
 use Prim.Native.Nat.{ℕ, _≤_, _<_}

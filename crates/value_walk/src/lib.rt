@@ -59,7 +59,8 @@ fn walk_leaf(
     at: usize,
 ) -> Step
     requires { ⌜ (At (now plan) node) × (kind ≡ getD (now plan) node 0) × (leafKind kind ≡ true) × (index < 2 ^ 32) × (base + length (now part) ≤ 65535) × (4 * at ≤ 5 * base) ⌝ }
-    ensures { λ r. ⌜ (walkOf r (now (list .exit)) ≡ led (valueOf (look (now (plan .entry))) node index base (now (part .entry))) at (now (list .entry))) × (Within (base + length (now (part .entry))) r) ⌝ }
+    ensures { λ r. ⌜ (walkOf r (now (list .exit)) ≡ led (valueOf (look (now (plan .entry))) node index base (now (part .entry))) at (now (list .entry)))
+        × (Within (base + length (now (part .entry))) r) ⌝ }
 {
     if node::leaf_ok(plan, node, kind, part) {
         entry::put_entry(list, at, node, index, base, part.len(), 0);
@@ -95,7 +96,8 @@ pub fn walk_value(
     at: usize,
 ) -> Step
     requires { ⌜ (At (now plan) node) × (index < 2 ^ 32) × (base + length (now part) ≤ 65535) × (4 * at ≤ 5 * base) × (Memo (now plan) (now needs)) ⌝ }
-    ensures { λ r. ⌜ (walkOf r (now (list .exit)) ≡ led (valueOf (look (now (plan .entry))) node index base (now (part .entry))) at (now (list .entry))) × (Within (base + length (now (part .entry))) r) ⌝ }
+    ensures { λ r. ⌜ (walkOf r (now (list .exit)) ≡ led (valueOf (look (now (plan .entry))) node index base (now (part .entry))) at (now (list .entry)))
+        × (Within (base + length (now (part .entry))) r) ⌝ }
 {
     let kind = plan_nodes::node::kind_at(plan, node);
     if node::is_leaf(kind) {
@@ -118,7 +120,8 @@ fn walk_container(
     at: usize,
 ) -> Step
     requires { ⌜ (At (now plan) node) × (index < 2 ^ 32) × (base + length (now part) ≤ 65535) × (4 * at ≤ 5 * base) × (Memo (now plan) (now needs)) × (Container (now plan) node kind) ⌝ }
-    ensures { λ r. ⌜ (walkOf r (now (list .exit)) ≡ led (valueOf (look (now (plan .entry))) node index base (now (part .entry))) at (now (list .entry))) × (Within (base + length (now (part .entry))) r) ⌝ }
+    ensures { λ r. ⌜ (walkOf r (now (list .exit)) ≡ led (valueOf (look (now (plan .entry))) node index base (now (part .entry))) at (now (list .entry)))
+        × (Within (base + length (now (part .entry))) r) ⌝ }
 {
     let opening = node::open_node(plan, node, kind, part);
     let Opening::Elements {
@@ -154,8 +157,14 @@ fn walk_row(
     list: &mut [u32],
     at: usize,
 ) -> Step
-    requires { ⌜ (At (now plan) node) × (Container (now plan) node (getD (now plan) node 0)) × (getD (now plan) node 0 ≡ 6 → ⊥) × (Holds (look (now plan) node) (first + count)) × (first + count < 2 ^ 32) × (base + length (now part) ≤ 65535) × (from ≤ length (now part)) × (4 * at ≤ 5 * (base + from) + 20) × (Memo (now plan) (now needs)) ⌝ }
-    ensures { λ r. ⌜ (walkOf r (now (list .exit)) ≡ led (elements (rowForm (look (now (plan .entry)) node) (now (part .entry))) (valueOf (look (now (plan .entry)))) (refAt (look (now (plan .entry)) node)) base (now (part .entry)) count first from) at (now (list .entry))) × (Within (base + length (now (part .entry))) r) ⌝ }
+    requires { ⌜ (At (now plan) node) × (Container (now plan) node (getD (now plan) node 0)) × (getD (now plan) node 0 ≡ 6 → ⊥)
+        × (Holds (look (now plan) node) (first + count)) × (first + count < 2 ^ 32) × (base + length (now part) ≤ 65535)
+        × (from ≤ length (now part)) × (4 * at ≤ 5 * (base + from) + 20) × (Memo (now plan) (now needs)) ⌝ }
+    ensures { λ r. ⌜ (walkOf r (now (list .exit))
+        ≡ led (elements (rowForm (look (now (plan .entry)) node) (now (part .entry))) (valueOf (look (now (plan .entry))))
+        (refAt (look (now (plan .entry)) node)) base (now (part .entry)) count first from) at
+        (now (list .entry)))
+        × (Within (base + length (now (part .entry))) r) ⌝ }
 {
     let kind = plan_nodes::node::kind_at(plan, node);
     let end = first + count;
@@ -172,7 +181,17 @@ fn walk_row(
         };
         let after = value_heads::parts::end_of(head);
         let word = next as usize;
-        let more = value_leaves::walk_leaves(plan, node, left - 1, i + 1, base, after, part, list, word);
+        let more = value_leaves::walk_leaves(
+            plan,
+            node,
+            left - 1,
+            i + 1,
+            base,
+            after,
+            part,
+            list,
+            word,
+        );
         left = more.left;
         pos = more.pos;
         to = more.at;
@@ -191,8 +210,14 @@ fn walk_sparse(
     run: Gathered,
     list: &mut [u32],
 ) -> Step
-    requires { ⌜ (At (now plan) node) × (getD (now plan) node 0 ≡ 6) × (base + length (now part) ≤ 65535) × (run .pos ≤ length (now part)) × (4 * run .at ≤ 5 * (base + run .pos) + 20) × (Memo (now plan) (now needs)) × (Counted (now plan) node (run .seen .marks) (run .given)) ⌝ }
-    ensures { λ r. ⌜ (walkOf r (now (list .exit)) ≡ led (elements (sparseForm (cardsAt (now (plan .entry)) node) (now (part .entry))) (valueOf (look (now (plan .entry)))) (refAt (look (now (plan .entry)) node)) base (now (part .entry)) (run .left) (run .seen .marks) (run .pos)) (run .at) (now (list .entry))) × (Within (base + length (now (part .entry))) r) ⌝ }
+    requires { ⌜ (At (now plan) node) × (getD (now plan) node 0 ≡ 6) × (base + length (now part) ≤ 65535) × (run .pos ≤ length (now part))
+        × (4 * run .at ≤ 5 * (base + run .pos) + 20) × (Memo (now plan) (now needs))
+        × (Counted (now plan) node (run .seen .marks) (run .given)) ⌝ }
+    ensures { λ r. ⌜ (walkOf r (now (list .exit))
+        ≡ led (elements (sparseForm (cardsAt (now (plan .entry)) node) (now (part .entry))) (valueOf (look (now (plan .entry))))
+        (refAt (look (now (plan .entry)) node)) base (now (part .entry)) (run .left) (run .seen .marks) (run .pos))
+        (run .at) (now (list .entry)))
+        × (Within (base + length (now (part .entry))) r) ⌝ }
 {
     let mut seen = run.seen;
     let mut given = run.given;
@@ -234,8 +259,11 @@ fn walk_member(
     list: &mut [u32],
     at: usize,
 ) -> Step
-    requires { ⌜ (At (now plan) node) × (base + length (now part) ≤ 65535) × (HeadIn (look (now plan) node) (length (now part)) pos head) × (4 * at ≤ 5 * (base + pos) + 20) × (Memo (now plan) (now needs)) ⌝ }
-    ensures { λ r. ⌜ (walkOf r (now (list .exit)) ≡ led (elementOutcome (valueOf (look (now (plan .entry)))) (refAt (look (now (plan .entry)) node)) base (now (part .entry)) head) at (now (list .entry))) × (WithinHead base head r) ⌝ }
+    requires { ⌜ (At (now plan) node) × (base + length (now part) ≤ 65535) × (HeadIn (look (now plan) node) (length (now part)) pos head)
+        × (4 * at ≤ 5 * (base + pos) + 20) × (Memo (now plan) (now needs)) ⌝ }
+    ensures { λ r. ⌜ (walkOf r (now (list .exit))
+        ≡ led (elementOutcome (valueOf (look (now (plan .entry)))) (refAt (look (now (plan .entry)) node)) base (now (part .entry)) head) at (now (list .entry)))
+        × (WithinHead base head r) ⌝ }
 {
     let Head::Present { index, start, size } = head else {
         let Head::Absent {

@@ -1,4 +1,4 @@
--- The laws of big-endian numbers, over the width. Assumes nothing.
+-- The laws of big-endian numbers, over the width.
 use mathlib.Core.Path.{_≡_, refl, ap, sym, _∙_}
 use mathlib.Core.List.{List, [], _∷_, _++_}
 use Prim.Native.Nat.{ℕ, zero, suc, _+_, _*_, _/_, _%_, _^_, _<_, _≤_}

@@ -1,4 +1,4 @@
--- The laws of a choice by a test. Assumes nothing.
+-- The laws of a choice by a test.
 use mathlib.Core.Path.{_≡_, refl}
 use mathlib.Core.Logic.{_⊎_, inl, inr}
 use mathlib.Core.Bool.{Bool, true, false}

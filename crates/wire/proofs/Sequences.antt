@@ -1,4 +1,4 @@
--- The laws of well-formed UTF-8: a first byte by the table, a sequence a byte at a time, and runs of plain bytes. Assumes nothing.
+-- The laws of well-formed UTF-8: a first byte by the table, a sequence a byte at a time, and runs of plain bytes.
 use mathlib.Core.Path.{_≡_, refl, ap, ap₂, sym, _∙_}
 use mathlib.Core.Bool.{Bool, true, false}
 use mathlib.Core.List.{List, [], _∷_}

@@ -1,4 +1,4 @@
--- A test that passes at each number of a range, which antt computes, and so passes at any of them. Assumes nothing.
+-- A test that passes at each number of a range, which antt computes, and so passes at any of them.
 use mathlib.Core.Path.{_≡_, subst}
 use mathlib.Core.Bool.{Bool, true, false}
 use mathlib.Core.Logic.{⊎-elim}

@@ -1,5 +1,4 @@
 -- What the functions of src/text.rt say to each other of a scan of text: forms of Utf8's definitions that no other crate needs.
--- Assumes nothing: these are definitions.
 use mathlib.Core.Path.{_≡_}
 use mathlib.Core.Bool.{Bool, true, false}
 use mathlib.Core.List.{List, [], _∷_}

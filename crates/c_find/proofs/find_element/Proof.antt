@@ -1,4 +1,4 @@
--- `c_find::find_element` meets its contract. Assumes nothing.
+-- `c_find::find_element` meets its contract.
 use mathlib.Core.Path.{sym, _∙_}
 use native.Mathlib.Omega.{arith}
 use borrow.Author.Tests.{not-true, not-false, leb-true}
@@ -8,18 +8,9 @@ use borrow.Author.Needs.{needs}
 use Rattle.c_find.proofs.find_element.Statement.{statement}
 use Rattle.c_find.proofs.find_element.Tie as tie
 
-whole-words-requires : tie.Need-whole-words-requires
-whole-words-requires c κs = search needs
-
-refused-requires : tie.Need-refused-requires
-refused-requires c κs = search needs
-
 returns : tie.Need-returns
 returns c =
     c .refused .ensures ∙ find-uncrossed _ _ _ (sym (c .before .before .whole-words .ensures) ∙ not-true _ (c .before .if1 .taken))
-
-whole-words-requires-2 : tie.Need-whole-words-requires-2
-whole-words-requires-2 c κs = search needs
 
 find-lost-requires : tie.Need-find-lost-requires
 find-lost-requires c κs =
@@ -27,45 +18,36 @@ find-lost-requires c κs =
 
 returns-2 : tie.Need-returns-2
 returns-2 c =
-    find-lost _ _ _ (sym (c .before .before .before .before .whole-words .ensures) ∙ not-false _ (c .before .before .before .if1 .left)) (sym (c .before .before .whole-words2 .ensures) ∙ not-true _ (c .before .if2 .taken)) _ (c .find-lost .ensures)
-
-few-words-requires : tie.Need-few-words-requires
-few-words-requires c κs = search needs
-
-slice-aggregate-find-in : tie.Need-slice-aggregate-find-in
-slice-aggregate-find-in c = search needs
+    find-lost _ _ _ (sym (c .before .before .before .before .whole-words .ensures) ∙ not-false _ (c .before .before .before .if1 .left))
+    (sym (c .before .before .whole-words2 .ensures) ∙ not-true _ (c .before .if2 .taken)) _ (c .find-lost .ensures)
 
 find-in-requires : tie.Need-find-in-requires
-find-in-requires c κs =
-    (sym (c .before .before .before .before .before .before .whole-words .ensures) ∙ not-false _ (c .before .before .before .before .before .if1 .left), sym (c .before .before .before .before .whole-words2 .ensures) ∙ not-false _ (c .before .before .before .if2 .left), leb-true _ _ (sym (c .before .before .few-words .ensures) ∙ c .before .if3 .taken))
-
-returns-3 : tie.Need-returns-3
-returns-3 c = search needs
-
-slice-aggregate-find-in-2 : tie.Need-slice-aggregate-find-in-2
-slice-aggregate-find-in-2 c = search needs
+find-in-requires c κs = (
+  sym (c .before .before .before .before .before .before .whole-words .ensures) ∙ not-false _ (c .before .before .before .before .before .if1 .left),
+  sym (c .before .before .before .before .whole-words2 .ensures) ∙ not-false _ (c .before .before .before .if2 .left),
+  leb-true _ _ (sym (c .before .before .few-words .ensures) ∙ c .before .if3 .taken),
+)
 
 find-in-requires-2 : tie.Need-find-in-requires-2
 find-in-requires-2 c κs =
-    let a = sym (c .before .before .before .before .before .before .whole-words .ensures) ∙ not-false _ (c .before .before .before .before .before .if1 .left) in let b = sym (c .before .before .before .before .whole-words2 .ensures) ∙ not-false _ (c .before .before .before .if2 .left) in (a, b, omega (arith, crosses-most _ a, crosses-most _ b))
-
-returns-4 : tie.Need-returns-4
-returns-4 c = search needs
+    let a = sym (c .before .before .before .before .before .before .whole-words .ensures) ∙ not-false _ (c .before .before .before .before .before .if1 .left) in
+    let b = sym (c .before .before .before .before .whole-words2 .ensures) ∙ not-false _ (c .before .before .before .if2 .left) in
+    (a, b, omega (arith, crosses-most _ a, crosses-most _ b))
 
 pub find-element-spec : {M : Type 1} → statement M
 find-element-spec =
     tie.close
     (tie.spec
-    whole-words-requires
-    refused-requires
+    (λ c κs. search needs)
+    (λ c κs. search needs)
     returns
-    whole-words-requires-2
+    (λ c κs. search needs)
     find-lost-requires
     returns-2
-    few-words-requires
-    slice-aggregate-find-in
+    (λ c κs. search needs)
+    (λ c. search needs)
     find-in-requires
-    returns-3
-    slice-aggregate-find-in-2
+    (λ c. search needs)
+    (λ c. search needs)
     find-in-requires-2
-    returns-4)
+    (λ c. search needs))

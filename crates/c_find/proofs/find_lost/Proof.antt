@@ -1,4 +1,4 @@
--- `c_find::find_lost` meets its contract. Assumes nothing.
+-- `c_find::find_lost` meets its contract.
 use mathlib.Core.Path.{sym}
 use native.Mathlib.Omega.{arith}
 use Prim.Native.Nat.{_/_}
@@ -8,9 +8,6 @@ use Rattle.c_find.proofs.Findings.{lost-words}
 use borrow.Author.Needs.{needs}
 use Rattle.c_find.proofs.find_lost.Statement.{statement}
 use Rattle.c_find.proofs.find_lost.Tie as tie
-
-slice-aggregate-take-words : tie.Need-slice-aggregate-take-words
-slice-aggregate-take-words c = search needs
 
 take-words-requires : tie.Need-take-words-requires
 take-words-requires c κs = omega (arith, crosses-most _ (c .before .before .before .pre))
@@ -22,20 +19,22 @@ slice-aggregate-find-none : tie.Need-slice-aggregate-find-none
 slice-aggregate-find-none c =
     simp length-take (omega (arith, c .before .before .take-words .kept .1 .0, crosses-most _ (c .before .before .before .before .before .before .pre)))
 
-find-none-requires : tie.Need-find-none-requires
-find-none-requires c κs = search needs
-
 returns : tie.Need-returns
 returns c =
-    lost-words (c .before .before .before .before .before .before .before .args .plan .now) _ _ _ (filled-words _ _ _ (length (c .before .before .before .before .before .before .before .args .plan .now) / 4) (c .before .before .before .take-words .ensures) (sym (length-in (c .before .before .before .before .before .before .before .args .plan .now))) (omega (arith, crosses-most _ (c .before .before .before .before .before .before .before .pre)))) (c .find-none .ensures)
+    lost-words (c .before .before .before .before .before .before .before .args .plan .now) _ _ _
+    (filled-words _ _ _ (length (c .before .before .before .before .before .before .before .args .plan .now) / 4)
+    (c .before .before .before .take-words .ensures)
+    (sym (length-in (c .before .before .before .before .before .before .before .args .plan .now)))
+    (omega (arith, crosses-most _ (c .before .before .before .before .before .before .before .pre))))
+    (c .find-none .ensures)
 
 pub find-lost-spec : {M : Type 1} → statement M
 find-lost-spec =
     tie.close
     (tie.spec
-    slice-aggregate-take-words
+    (λ c. search needs)
     take-words-requires
     array-share-prefix-words
     slice-aggregate-find-none
-    find-none-requires
+    (λ c κs. search needs)
     returns)

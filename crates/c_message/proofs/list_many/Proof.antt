@@ -8,14 +8,8 @@ use Rattle.c_message.proofs.list_many.Statement.{statement}
 use Rattle.c_message.proofs.list_many.Tie as tie
 use Rattle.protocol.specs.Crossing.{bytesOut}
 
-slice-aggregate-fill : tie.Need-slice-aggregate-fill
-slice-aggregate-fill c = search needs
-
 fill-requires : tie.Need-fill-requires
 fill-requires c κs = c .before .before .before .pre .accepted
-
-array-share-prefix-words : tie.Need-array-share-prefix-words
-array-share-prefix-words c = search needs
 
 slice-aggregate-put-words : tie.Need-slice-aggregate-put-words
 slice-aggregate-put-words c =
@@ -25,21 +19,22 @@ put-words-requires : tie.Need-put-words-requires
 put-words-requires c κs =
     simp length-take (omega (arith, c .before .before .before .before .before .before .before .pre .room))
 
-same-length : tie.Need-same-length
-same-length c = search needs
-
 returns : tie.Need-returns
 returns c =
-    c .before .before .put-words .ensures ∙ ap (λ ws. sets (c .before .before .before .before .before .before .before .before .before .before .args .list .now) 0 (bytesOut ws)) (filled-words _ _ _ _ (c .before .before .before .before .before .before .fill .ensures) (c .before .before .before .before .before .before .before .before .before .before .pre .count) (c .before .before .before .before .before .before .before .before .before .before .pre .most))
+    c .before .before .put-words .ensures
+    ∙ ap (λ ws. sets (c .before .before .before .before .before .before .before .before .before .before .args .list .now) 0 (bytesOut ws))
+    (filled-words _ _ _ _ (c .before .before .before .before .before .before .fill .ensures)
+    (c .before .before .before .before .before .before .before .before .before .before .pre .count)
+    (c .before .before .before .before .before .before .before .before .before .before .pre .most))
 
 pub list-many-spec : {M : Type 1} → statement M
 list-many-spec =
     tie.close
     (tie.spec
-    slice-aggregate-fill
+    (λ c. search needs)
     fill-requires
-    array-share-prefix-words
+    (λ c. search needs)
     slice-aggregate-put-words
     put-words-requires
-    same-length
+    (λ c. search needs)
     returns)

@@ -9,36 +9,10 @@ use Rattle.c_message.proofs.read_message.Statement.{statement}
 use Rattle.c_message.proofs.read_message.Tie as tie
 use Rattle.protocol.specs.Crossing.{bytesOut}
 
-slice-aggregate-check : tie.Need-slice-aggregate-check
-slice-aggregate-check c = search needs
-
-check-requires : tie.Need-check-requires
-check-requires c κs = search needs
-
-enum-known-no : tie.Need-enum-known-no
-enum-known-no c = search needs
-
-refused-requires : tie.Need-refused-requires
-refused-requires c κs = search needs
-
-enum-known-used : tie.Need-enum-known-used
-enum-known-used c = search needs
-
-cast-n : tie.Need-cast-n
-cast-n c = search needs
-
-word-room-requires : tie.Need-word-room-requires
-word-room-requires c κs = search needs
-
-refused-requires-2 : tie.Need-refused-requires-2
-refused-requires-2 c κs = search needs
-
 returns : tie.Need-returns
 returns c =
-    rw (c .refused2 .ensures) (reads-full _ _ _ _ _ (c .before .before .before .before .before .before .before .check .ensures) _ _ (c .before .before .before .before .used .given .1) _ (rw (c .before .before .word-room .ensures) at (c .before .if1 .taken)))
-
-array-share-prefix-few : tie.Need-array-share-prefix-few
-array-share-prefix-few c = search needs
+    rw (c .refused2 .ensures) (reads-full _ _ _ _ _ (c .before .before .before .before .before .before .before .check .ensures) _ _
+    (c .before .before .before .before .used .given .1) _ (rw (c .before .before .word-room .ensures) at (c .before .if1 .taken)))
 
 slice-aggregate-put-words : tie.Need-slice-aggregate-put-words
 slice-aggregate-put-words c =
@@ -46,49 +20,62 @@ slice-aggregate-put-words c =
 
 put-words-requires : tie.Need-put-words-requires
 put-words-requires c κs =
-    simp length-take (omega (arith, c .before .before .before .if1 .left, c .before .before .before .before .word-room .ensures, room-most (length (c .before .before .before .before .before .before .before .before .before .before .before .before .before .args .list .now)) .1))
+    simp length-take (omega (
+      arith,
+      c .before .before .before .if1 .left,
+      c .before .before .before .before .word-room .ensures,
+      room-most (length (c .before .before .before .before .before .before .before .before .before .before .before .before .before .args .list .now)) .1,
+    ))
 
 list-many-requires : tie.Need-list-many-requires
 list-many-requires c κs =
-    listable _ _ _ _ _ (c .before .before .before .before .before .before .before .before .check .ensures) _ _ (c .before .before .before .before .before .used .given .1) _ (rw (c .before .before .before .word-room .ensures) at (c .before .before .if1 .left))
+    listable _ _ _ _ _ (c .before .before .before .before .before .before .before .before .check .ensures) _ _
+    (c .before .before .before .before .before .used .given .1) _
+    (rw (c .before .before .before .word-room .ensures) at (c .before .before .if1 .left))
 
 returns-2 : tie.Need-returns-2
 returns-2 c =
     rw (c .refused .ensures) (reads-refused _ _ _ _ _ (c .before .before .before .before .before .check .ensures) _ _ _ (c .before .before .no .given .1))
 
-same-length : tie.Need-same-length
-same-length c = search needs
-
 returns-3 : tie.Need-returns-3
 returns-3 c =
-    reads-listed _ _ _ _ _ (c .before .before .before .before .before .before .before .before .before .before .before .before .check .ensures) _ _ (c .before .before .before .before .before .before .before .before .before .used .given .1) _ (rw (c .before .before .before .before .before .before .before .word-room .ensures) at (c .before .before .before .before .before .before .if1 .left)) _ (c .before .before .put-words .ensures ∙ ap (λ ws. sets (c .before .before .before .before .before .before .before .before .before .before .before .before .before .before .before .before .args .list .now) 0 (bytesOut ws)) (few-words _ _ _ _ _ (c .before .before .before .before .before .before .before .before .before .before .before .before .check .ensures) _ _ (c .before .before .before .before .before .before .before .before .before .used .given .1) (c .before .before .before .before .before .if2 .taken)))
-
-same-length-2 : tie.Need-same-length-2
-same-length-2 c = search needs
+    reads-listed _ _ _ _ _
+    (c .before .before .before .before .before .before .before .before .before .before .before .before .check .ensures) _ _
+    (c .before .before .before .before .before .before .before .before .before .used .given .1) _
+    (rw (c .before .before .before .before .before .before .before .word-room .ensures) at (c .before .before .before .before .before .before .if1 .left)) _
+    (c .before .before .put-words .ensures
+    ∙ ap (λ ws. sets (c .before .before .before .before .before .before .before .before .before .before .before .before .before .before .before .before .args .list .now) 0 (bytesOut ws))
+    (few-words _ _ _ _ _
+    (c .before .before .before .before .before .before .before .before .before .before .before .before .check .ensures) _ _
+    (c .before .before .before .before .before .before .before .before .before .used .given .1)
+    (c .before .before .before .before .before .if2 .taken)))
 
 returns-4 : tie.Need-returns-4
 returns-4 c =
-    reads-listed _ _ _ _ _ (c .before .before .before .before .before .before .before .before .before .before .before .check .ensures) _ _ (c .before .before .before .before .before .before .before .before .used .given .1) _ (rw (c .before .before .before .before .before .before .word-room .ensures) at (c .before .before .before .before .before .if1 .left)) _ (c .before .before .list-many .ensures)
+    reads-listed _ _ _ _ _ (c .before .before .before .before .before .before .before .before .before .before .before .check .ensures) _ _
+    (c .before .before .before .before .before .before .before .before .used .given .1) _
+    (rw (c .before .before .before .before .before .before .word-room .ensures) at (c .before .before .before .before .before .if1 .left)) _
+    (c .before .before .list-many .ensures)
 
 pub read-message-spec : {M : Type 1} → statement M
 read-message-spec =
     tie.close
     (tie.spec
-    slice-aggregate-check
-    check-requires
-    enum-known-no
-    refused-requires
-    enum-known-used
-    cast-n
-    word-room-requires
-    refused-requires-2
+    (λ c. search needs)
+    (λ c κs. search needs)
+    (λ c. search needs)
+    (λ c κs. search needs)
+    (λ c. search needs)
+    (λ c. search needs)
+    (λ c κs. search needs)
+    (λ c κs. search needs)
     returns
-    array-share-prefix-few
+    (λ c. search needs)
     slice-aggregate-put-words
     put-words-requires
     list-many-requires
     returns-2
-    same-length
+    (λ c. search needs)
     returns-3
-    same-length-2
+    (λ c. search needs)
     returns-4)

@@ -4,18 +4,9 @@ use borrow.Author.Needs.{needs}
 use Rattle.c_message.proofs.uncrossed_list.Statement.{statement}
 use Rattle.c_message.proofs.uncrossed_list.Tie as tie
 
-start-of-requires : tie.Need-start-of-requires
-start-of-requires c κs = search needs
-
-refused-requires : tie.Need-refused-requires
-refused-requires c κs = search needs
-
 returns : tie.Need-returns
 returns c =
     c .refused .ensures ∙ uncrossed-unknown _ _ _ (c .before .before .start-of .ensures) (c .before .if1 .taken)
-
-refused-requires-2 : tie.Need-refused-requires-2
-refused-requires-2 c κs = search needs
 
 returns-2 : tie.Need-returns-2
 returns-2 c =
@@ -23,4 +14,4 @@ returns-2 c =
 
 pub uncrossed-list-spec : {M : Type 1} → statement M
 uncrossed-list-spec =
-    tie.close (tie.spec start-of-requires refused-requires returns refused-requires-2 returns-2)
+    tie.close (tie.spec (λ c κs. search needs) (λ c κs. search needs) returns (λ c κs. search needs) returns-2)

@@ -9,64 +9,50 @@ use borrow.Author.Needs.{needs}
 use Rattle.c_message.proofs.write_by.Statement.{statement}
 use Rattle.c_message.proofs.write_by.Tie as tie
 
-take-words-requires : tie.Need-take-words-requires
-take-words-requires c κs = search needs
-
-slice-reshare-prefix-write : tie.Need-slice-reshare-prefix-write
-slice-reshare-prefix-write c = search needs
-
 slice-aggregate-write : tie.Need-slice-aggregate-write
 slice-aggregate-write c =
     simp length-take (omega (arith, c .before .before .before .take-words .kept .1 .0, c .before .before .before .before .before .before .before .before .before .pre .1))
 
-write-requires : tie.Need-write-requires
-write-requires c κs = search needs
-
-enum-known-no : tie.Need-enum-known-no
-enum-known-no c = search needs
-
-refused-requires : tie.Need-refused-requires
-refused-requires c κs = search needs
-
-enum-known-len : tie.Need-enum-known-len
-enum-known-len c = search needs
-
-same-length : tie.Need-same-length
-same-length c = search needs
-
-same-length-2 : tie.Need-same-length-2
-same-length-2 c = search needs
-
 returns : tie.Need-returns
 returns c =
-    let w = filled-words (c .before .before .before .before .before .before .before .before .before .before .before .before .before .before .before .before .before .args .words .now) _ _ (length (c .before .before .before .before .before .before .before .before .before .before .before .before .before .before .before .before .before .args .list .now) / 4) (c .before .before .before .before .before .before .before .before .before .before .before .take-words .ensures) (sym (length-in (c .before .before .before .before .before .before .before .before .before .before .before .before .before .before .before .before .before .args .list .now))) (omega (arith, c .before .before .before .before .before .before .before .before .before .before .before .before .before .before .before .before .before .pre .1)) in
-    rw (c .refused .ensures) (writes-refused _ _ _ _ _ (c .before .before .before .before .before .before .before .before .before .before .before .before .before .before .before .before .before .pre .0) _ _ (rw w at (c .before .before .before .before .before .before .write .ensures)) _ (c .before .before .no .given .1))
-
-same-length-3 : tie.Need-same-length-3
-same-length-3 c = search needs
-
-same-length-4 : tie.Need-same-length-4
-same-length-4 c = search needs
+    let w =
+    filled-words (c .before .before .before .before .before .before .before .before .before .before .before .before .before .before .before .before .before .args .words .now) _ _
+    (length (c .before .before .before .before .before .before .before .before .before .before .before .before .before .before .before .before .before .args .list .now) / 4)
+    (c .before .before .before .before .before .before .before .before .before .before .before .take-words .ensures)
+    (sym (length-in (c .before .before .before .before .before .before .before .before .before .before .before .before .before .before .before .before .before .args .list .now)))
+    (omega (arith, c .before .before .before .before .before .before .before .before .before .before .before .before .before .before .before .before .before .pre .1))
+    in
+    rw (c .refused .ensures) (writes-refused _ _ _ _ _
+    (c .before .before .before .before .before .before .before .before .before .before .before .before .before .before .before .before .before .pre .0) _ _
+    (rw w at (c .before .before .before .before .before .before .write .ensures)) _ (c .before .before .no .given .1))
 
 returns-2 : tie.Need-returns-2
 returns-2 c =
-    let w = filled-words (c .before .before .before .before .before .before .before .before .before .before .before .before .before .before .before .before .args .words .now) _ _ (length (c .before .before .before .before .before .before .before .before .before .before .before .before .before .before .before .before .args .list .now) / 4) (c .before .before .before .before .before .before .before .before .before .before .take-words .ensures) (sym (length-in (c .before .before .before .before .before .before .before .before .before .before .before .before .before .before .before .before .args .list .now))) (omega (arith, c .before .before .before .before .before .before .before .before .before .before .before .before .before .before .before .before .pre .1)) in
-    writes-whole _ _ _ _ _ (c .before .before .before .before .before .before .before .before .before .before .before .before .before .before .before .before .pre .0) _ _ (rw w at (c .before .before .before .before .before .write .ensures)) _ (c .before .len .given .1)
+    let w =
+    filled-words (c .before .before .before .before .before .before .before .before .before .before .before .before .before .before .before .before .args .words .now) _ _
+    (length (c .before .before .before .before .before .before .before .before .before .before .before .before .before .before .before .before .args .list .now) / 4)
+    (c .before .before .before .before .before .before .before .before .before .before .take-words .ensures)
+    (sym (length-in (c .before .before .before .before .before .before .before .before .before .before .before .before .before .before .before .before .args .list .now)))
+    (omega (arith, c .before .before .before .before .before .before .before .before .before .before .before .before .before .before .before .before .pre .1))
+    in
+    writes-whole _ _ _ _ _
+    (c .before .before .before .before .before .before .before .before .before .before .before .before .before .before .before .before .pre .0) _ _
+    (rw w at (c .before .before .before .before .before .write .ensures)) _ (c .before .len .given .1)
 
 pub write-by-spec : {M : Type 1} → statement M
 write-by-spec =
     tie.close
     (tie.spec
-    take-words-requires
-    slice-reshare-prefix-write
+    (λ c κs. search needs)
+    (λ c. search needs)
     slice-aggregate-write
-    write-requires
-    enum-known-no
-    refused-requires
-    enum-known-len
-    same-length
-    same-length-2
+    (λ c κs. search needs)
+    (λ c. search needs)
+    (λ c κs. search needs)
+    (λ c. search needs)
+    (λ c. search needs)
+    (λ c. search needs)
     returns
-    same-length-3
-    same-length-4
+    (λ c. search needs)
+    (λ c. search needs)
     returns-2)

@@ -4,20 +4,8 @@ use borrow.Author.Needs.{needs}
 use Rattle.c_message.proofs.write_message.Statement.{statement}
 use Rattle.c_message.proofs.write_message.Tie as tie
 
-whole-words-requires : tie.Need-whole-words-requires
-whole-words-requires c κs = search needs
-
 write-crossed-requires : tie.Need-write-crossed-requires
 write-crossed-requires c κs = sym (c .before .before .whole-words .ensures) ∙ c .before .if1 .taken
-
-same-length : tie.Need-same-length
-same-length c = search needs
-
-returns : tie.Need-returns
-returns c = search needs
-
-uncrossed-list-requires : tie.Need-uncrossed-list-requires
-uncrossed-list-requires c κs = search needs
 
 returns-2 : tie.Need-returns-2
 returns-2 c =
@@ -27,9 +15,9 @@ pub write-message-spec : {M : Type 1} → statement M
 write-message-spec =
     tie.close
     (tie.spec
-    whole-words-requires
+    (λ c κs. search needs)
     write-crossed-requires
-    same-length
-    returns
-    uncrossed-list-requires
+    (λ c. search needs)
+    (λ c. search needs)
+    (λ c κs. search needs)
     returns-2)

@@ -1,4 +1,4 @@
--- `c_number::known` meets its contract. Assumes nothing.
+-- `c_number::known` meets its contract.
 use mathlib.Core.Path.{refl}
 use Rattle.c_number.proofs.known.Statement.{statement}
 use Rattle.c_number.proofs.known.Tie as tie

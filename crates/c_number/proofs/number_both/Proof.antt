@@ -1,4 +1,4 @@
--- `c_number::number_both` meets its contract. Assumes nothing.
+-- `c_number::number_both` meets its contract.
 use lib.ListN.{length-take}
 use native.Mathlib.Omega.{arith}
 use mathlib.Core.Path.{_∙_, ap}
@@ -11,21 +11,6 @@ slice-aggregate-find-number : tie.Need-slice-aggregate-find-number
 slice-aggregate-find-number c =
     simp length-take (omega (arith, c .before .before .before .pre .0, c .before .before .before .pre .1))
 
-mul-find-number : tie.Need-mul-find-number
-mul-find-number c = search needs
-
-sub-find-number : tie.Need-sub-find-number
-sub-find-number c = search needs
-
-part-find-number-start : tie.Need-part-find-number-start
-part-find-number-start c = search needs
-
-part-find-number-end : tie.Need-part-find-number-end
-part-find-number-end c = search needs
-
-find-number-requires : tie.Need-find-number-requires
-find-number-requires c κs = search needs
-
 number-answer-requires : tie.Need-number-answer-requires
 number-answer-requires c κs = c .find-number .ensures .proper
 
@@ -37,10 +22,10 @@ number-both-spec =
     tie.close
     (tie.spec
     slice-aggregate-find-number
-    mul-find-number
-    sub-find-number
-    part-find-number-start
-    part-find-number-end
-    find-number-requires
+    (λ c. search needs)
+    (λ c. search needs)
+    (λ c. search needs)
+    (λ c. search needs)
+    (λ c κs. search needs)
     number-answer-requires
     returns)

@@ -1,4 +1,4 @@
--- `c_number::number_refused` meets its contract. Assumes nothing.
+-- `c_number::number_refused` meets its contract.
 use mathlib.Core.Path.{refl}
 use Rattle.c_number.proofs.number_refused.Statement.{statement}
 use Rattle.c_number.proofs.number_refused.Tie as tie

@@ -8,37 +8,29 @@ use borrow.Author.Needs.{needs}
 use Rattle.c_run.proofs.run_few.Statement.{statement}
 use Rattle.c_run.proofs.run_few.Tie as tie
 
-slice-aggregate-take-words : tie.Need-slice-aggregate-take-words
-slice-aggregate-take-words c = search needs
-
-take-words-requires : tie.Need-take-words-requires
-take-words-requires c κs = search needs
-
-array-share-prefix-words : tie.Need-array-share-prefix-words
-array-share-prefix-words c = search needs
-
 slice-aggregate-run-words : tie.Need-slice-aggregate-run-words
 slice-aggregate-run-words c =
     simp length-take (omega (arith, c .before .before .take-words .kept .1 .0, c .before .before .before .before .before .before .before .pre .1))
 
-run-words-requires : tie.Need-run-words-requires
-run-words-requires c κs = search needs
-
-same-length : tie.Need-same-length
-same-length c = search needs
-
 returns : tie.Need-returns
 returns c =
-    crossed-plan (c .before .before .before .before .before .before .before .before .before .before .before .args .plan .now) _ _ _ _ (c .before .before .before .before .before .before .before .before .before .before .before .pre .0) _ (filled-words _ _ _ (length (c .before .before .before .before .before .before .before .before .before .before .before .args .plan .now) / 4) (c .before .before .before .before .before .before .take-words .ensures) (sym (length-in (c .before .before .before .before .before .before .before .before .before .before .before .args .plan .now))) (omega (arith, c .before .before .before .before .before .before .before .before .before .before .before .pre .1))) (c .before .before .run-words .ensures)
+    crossed-plan (c .before .before .before .before .before .before .before .before .before .before .before .args .plan .now) _ _ _ _
+    (c .before .before .before .before .before .before .before .before .before .before .before .pre .0) _
+    (filled-words _ _ _
+    (length (c .before .before .before .before .before .before .before .before .before .before .before .args .plan .now) / 4)
+    (c .before .before .before .before .before .before .take-words .ensures)
+    (sym (length-in (c .before .before .before .before .before .before .before .before .before .before .before .args .plan .now)))
+    (omega (arith, c .before .before .before .before .before .before .before .before .before .before .before .pre .1)))
+    (c .before .before .run-words .ensures)
 
 pub run-few-spec : {M : Type 1} → statement M
 run-few-spec =
     tie.close
     (tie.spec
-    slice-aggregate-take-words
-    take-words-requires
-    array-share-prefix-words
+    (λ c. search needs)
+    (λ c κs. search needs)
+    (λ c. search needs)
     slice-aggregate-run-words
-    run-words-requires
-    same-length
+    (λ c κs. search needs)
+    (λ c. search needs)
     returns)

@@ -8,9 +8,6 @@ use borrow.Author.Needs.{needs}
 use Rattle.c_run.proofs.run_many.Statement.{statement}
 use Rattle.c_run.proofs.run_many.Tie as tie
 
-slice-aggregate-take-words : tie.Need-slice-aggregate-take-words
-slice-aggregate-take-words c = search needs
-
 take-words-requires : tie.Need-take-words-requires
 take-words-requires c κs = crosses-most _ (c .before .before .before .before .pre)
 
@@ -22,24 +19,26 @@ slice-aggregate-run-words : tie.Need-slice-aggregate-run-words
 slice-aggregate-run-words c =
     simp length-take (omega (arith, c .before .before .take-words .kept .1 .0, crosses-most _ (c .before .before .before .before .before .before .before .pre)))
 
-run-words-requires : tie.Need-run-words-requires
-run-words-requires c κs = search needs
-
-same-length : tie.Need-same-length
-same-length c = search needs
-
 returns : tie.Need-returns
 returns c =
-    let m = crosses-most _ (c .before .before .before .before .before .before .before .before .before .before .before .pre) in crossed-plan (c .before .before .before .before .before .before .before .before .before .before .before .args .plan .now) _ _ _ _ (c .before .before .before .before .before .before .before .before .before .before .before .pre) _ (filled-words _ _ _ (length (c .before .before .before .before .before .before .before .before .before .before .before .args .plan .now) / 4) (c .before .before .before .before .before .before .take-words .ensures) (sym (length-in (c .before .before .before .before .before .before .before .before .before .before .before .args .plan .now))) (omega (arith, m))) (c .before .before .run-words .ensures)
+    let m = crosses-most _ (c .before .before .before .before .before .before .before .before .before .before .before .pre) in
+    crossed-plan (c .before .before .before .before .before .before .before .before .before .before .before .args .plan .now) _ _ _ _
+    (c .before .before .before .before .before .before .before .before .before .before .before .pre) _
+    (filled-words _ _ _
+    (length (c .before .before .before .before .before .before .before .before .before .before .before .args .plan .now) / 4)
+    (c .before .before .before .before .before .before .take-words .ensures)
+    (sym (length-in (c .before .before .before .before .before .before .before .before .before .before .before .args .plan .now)))
+    (omega (arith, m)))
+    (c .before .before .run-words .ensures)
 
 pub run-many-spec : {M : Type 1} → statement M
 run-many-spec =
     tie.close
     (tie.spec
-    slice-aggregate-take-words
+    (λ c. search needs)
     take-words-requires
     array-share-prefix-words
     slice-aggregate-run-words
-    run-words-requires
-    same-length
+    (λ c κs. search needs)
+    (λ c. search needs)
     returns)

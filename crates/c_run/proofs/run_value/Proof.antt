@@ -4,33 +4,12 @@ use borrow.Author.Needs.{needs}
 use Rattle.c_run.proofs.run_value.Statement.{statement}
 use Rattle.c_run.proofs.run_value.Tie as tie
 
-whole-words-requires : tie.Need-whole-words-requires
-whole-words-requires c κs = search needs
-
-mul-if2 : tie.Need-mul-if2
-mul-if2 c = search needs
-
 run-few-requires : tie.Need-run-few-requires
 run-few-requires c κs =
     (sym (c .before .before .before .whole-words .ensures) ∙ c .before .before .if1 .taken, c .before .if2 .taken)
 
-same-length : tie.Need-same-length
-same-length c = search needs
-
-returns : tie.Need-returns
-returns c = search needs
-
 run-many-requires : tie.Need-run-many-requires
 run-many-requires c κs = sym (c .before .before .before .whole-words .ensures) ∙ c .before .before .if1 .taken
-
-same-length-2 : tie.Need-same-length-2
-same-length-2 c = search needs
-
-returns-2 : tie.Need-returns-2
-returns-2 c = search needs
-
-refused-requires : tie.Need-refused-requires
-refused-requires c κs = search needs
 
 returns-3 : tie.Need-returns-3
 returns-3 c =
@@ -40,13 +19,13 @@ pub run-value-spec : {M : Type 1} → statement M
 run-value-spec =
     tie.close
     (tie.spec
-    whole-words-requires
-    mul-if2
+    (λ c κs. search needs)
+    (λ c. search needs)
     run-few-requires
-    same-length
-    returns
+    (λ c. search needs)
+    (λ c. search needs)
     run-many-requires
-    same-length-2
-    returns-2
-    refused-requires
+    (λ c. search needs)
+    (λ c. search needs)
+    (λ c κs. search needs)
     returns-3)

@@ -8,9 +8,6 @@ use borrow.Author.Needs.{needs}
 use Rattle.c_supply.proofs.uncrossed_list.Statement.{statement}
 use Rattle.c_supply.proofs.uncrossed_list.Tie as tie
 
-slice-aggregate-take-words : tie.Need-slice-aggregate-take-words
-slice-aggregate-take-words c = search needs
-
 take-words-requires : tie.Need-take-words-requires
 take-words-requires c κs = crosses-most _ (c .before .before .pre)
 
@@ -22,33 +19,36 @@ slice-aggregate-plan-ok : tie.Need-slice-aggregate-plan-ok
 slice-aggregate-plan-ok c =
     simp length-take (omega (arith, c .before .before .take-words .kept .1 .0, crosses-most _ (c .before .before .before .before .before .pre)))
 
-plan-ok-requires : tie.Need-plan-ok-requires
-plan-ok-requires c κs = search needs
-
-refused-requires : tie.Need-refused-requires
-refused-requires c κs = search needs
-
 returns : tie.Need-returns
 returns c =
-    let m = crosses-most _ (c .before .before .before .before .before .before .before .before .pre) in c .refused .ensures ∙ uncrossed-formed _ _ (filled-words _ _ _ (length (c .before .before .before .before .before .before .before .before .args .plan .now) / 4) (c .before .before .before .before .before .take-words .ensures) (sym (length-in (c .before .before .before .before .before .before .before .before .args .plan .now))) (omega (arith, m))) _ (c .before .before .plan-ok .ensures) (c .before .if1 .taken)
-
-refused-requires-2 : tie.Need-refused-requires-2
-refused-requires-2 c κs = search needs
+    let m = crosses-most _ (c .before .before .before .before .before .before .before .before .pre) in
+    c .refused .ensures
+    ∙ uncrossed-formed _ _
+    (filled-words _ _ _ (length (c .before .before .before .before .before .before .before .before .args .plan .now) / 4)
+    (c .before .before .before .before .before .take-words .ensures)
+    (sym (length-in (c .before .before .before .before .before .before .before .before .args .plan .now))) (omega (arith, m))) _
+    (c .before .before .plan-ok .ensures) (c .before .if1 .taken)
 
 returns-2 : tie.Need-returns-2
 returns-2 c =
-    let m = crosses-most _ (c .before .before .before .before .before .before .before .before .pre) in c .refused2 .ensures ∙ uncrossed-unformed _ _ (filled-words _ _ _ (length (c .before .before .before .before .before .before .before .before .args .plan .now) / 4) (c .before .before .before .before .before .take-words .ensures) (sym (length-in (c .before .before .before .before .before .before .before .before .args .plan .now))) (omega (arith, m))) _ (c .before .before .plan-ok .ensures) (c .before .if1 .left)
+    let m = crosses-most _ (c .before .before .before .before .before .before .before .before .pre) in
+    c .refused2 .ensures
+    ∙ uncrossed-unformed _ _
+    (filled-words _ _ _ (length (c .before .before .before .before .before .before .before .before .args .plan .now) / 4)
+    (c .before .before .before .before .before .take-words .ensures)
+    (sym (length-in (c .before .before .before .before .before .before .before .before .args .plan .now))) (omega (arith, m))) _
+    (c .before .before .plan-ok .ensures) (c .before .if1 .left)
 
 pub uncrossed-list-spec : {M : Type 1} → statement M
 uncrossed-list-spec =
     tie.close
     (tie.spec
-    slice-aggregate-take-words
+    (λ c. search needs)
     take-words-requires
     array-share-prefix-words
     slice-aggregate-plan-ok
-    plan-ok-requires
-    refused-requires
+    (λ c κs. search needs)
+    (λ c κs. search needs)
     returns
-    refused-requires-2
+    (λ c κs. search needs)
     returns-2)

@@ -9,8 +9,14 @@ write-by-requires c κs =
     (c .before .before .before .before .before .before .before .before .pre, few-fit _ _ _ (c .before .before .before .few-words .ensures) (c .before .before .if1 .taken))
 
 write-by-requires-2 : tie.Need-write-by-requires-2
-write-by-requires-2 c κs =
-    (c .before .before .before .before .before .before .before .before .pre, omega (arith, crosses-most _ (c .before .before .before .before .before .before .before .before .pre .plan-crosses), crosses-most _ (c .before .before .before .before .before .before .before .before .pre .list-crosses)))
+write-by-requires-2 c κs = (
+  c .before .before .before .before .before .before .before .before .pre,
+  omega (
+    arith,
+    crosses-most _ (c .before .before .before .before .before .before .before .before .pre .plan-crosses),
+    crosses-most _ (c .before .before .before .before .before .before .before .before .pre .list-crosses),
+  ),
+)
 
 pub write-crossed-spec : {M : Type 1} → statement M
 write-crossed-spec =

@@ -4,31 +4,20 @@ use borrow.Author.Needs.{needs}
 use Rattle.c_supply.proofs.write_value.Statement.{statement}
 use Rattle.c_supply.proofs.write_value.Tie as tie
 
-whole-words-requires : tie.Need-whole-words-requires
-whole-words-requires c κs = search needs
-
-whole-words-requires-2 : tie.Need-whole-words-requires-2
-whole-words-requires-2 c κs = search needs
-
 write-crossed-requires : tie.Need-write-crossed-requires
 write-crossed-requires c κs =
-    record { plan-crosses = sym (c .before .before .before .before .whole-words .ensures) ∙ c .before .before .before .if1 .taken; list-crosses = sym (c .before .before .whole-words2 .ensures) ∙ c .before .if2 .taken }
-
-same-length : tie.Need-same-length
-same-length c = search needs
-
-returns : tie.Need-returns
-returns c = search needs
+    record {
+      plan-crosses = sym (c .before .before .before .before .whole-words .ensures) ∙ c .before .before .before .if1 .taken;
+      list-crosses = sym (c .before .before .whole-words2 .ensures) ∙ c .before .if2 .taken;
+    }
 
 uncrossed-list-requires : tie.Need-uncrossed-list-requires
 uncrossed-list-requires c κs = sym (c .before .before .before .whole-words .ensures) ∙ c .before .before .if1 .taken
 
 returns-2 : tie.Need-returns-2
 returns-2 c =
-    list-uncrossed _ _ _ _ (sym (c .before .before .before .before .whole-words .ensures) ∙ c .before .before .before .if1 .taken) (sym (c .before .before .whole-words2 .ensures) ∙ c .before .if2 .left) _ (c .uncrossed-list .ensures)
-
-refused-requires : tie.Need-refused-requires
-refused-requires c κs = search needs
+    list-uncrossed _ _ _ _ (sym (c .before .before .before .before .whole-words .ensures) ∙ c .before .before .before .if1 .taken)
+    (sym (c .before .before .whole-words2 .ensures) ∙ c .before .if2 .left) _ (c .uncrossed-list .ensures)
 
 returns-3 : tie.Need-returns-3
 returns-3 c =
@@ -38,12 +27,12 @@ pub write-value-spec : {M : Type 1} → statement M
 write-value-spec =
     tie.close
     (tie.spec
-    whole-words-requires
-    whole-words-requires-2
+    (λ c κs. search needs)
+    (λ c κs. search needs)
     write-crossed-requires
-    same-length
-    returns
+    (λ c. search needs)
+    (λ c. search needs)
     uncrossed-list-requires
     returns-2
-    refused-requires
+    (λ c κs. search needs)
     returns-3)

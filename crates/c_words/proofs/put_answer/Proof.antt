@@ -1,4 +1,4 @@
--- `c_words::put_answer` meets its contract. Assumes nothing.
+-- `c_words::put_answer` meets its contract.
 use native.Mathlib.Omega.{arith}
 use lib.ListN.{length, length-take}
 use Rattle.c_words.proofs.Words.{room-most, out-full, out-put}
@@ -16,11 +16,13 @@ slice-aggregate-put-words c =
 
 put-words-requires : tie.Need-put-words-requires
 put-words-requires c κs =
-    let h = rw (c .before .before .before .word-room .ensures) at (c .before .before .if1 .left) in simp length-take (omega (arith, h, room-most (length (c .before .before .before .before .before .before .args .out .now)) .1))
+    let h = rw (c .before .before .before .word-room .ensures) at (c .before .before .if1 .left) in
+    simp length-take (omega (arith, h, room-most (length (c .before .before .before .before .before .before .args .out .now)) .1))
 
 returns-2 : tie.Need-returns-2
 returns-2 c =
-    let h = rw (c .before .before .before .before .before .before .word-room .ensures) at (c .before .before .before .before .before .if1 .left) in out-put _ _ _ _ h (c .before .before .before .before .before .before .before .before .before .pre h) _ (c .before .before .put-words .ensures)
+    let h = rw (c .before .before .before .before .before .before .word-room .ensures) at (c .before .before .before .before .before .if1 .left) in
+    out-put _ _ _ _ h (c .before .before .before .before .before .before .before .before .before .pre h) _ (c .before .before .put-words .ensures)
 
 pub put-answer-spec : {M : Type 1} → statement M
 put-answer-spec =

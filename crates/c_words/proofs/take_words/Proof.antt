@@ -19,27 +19,12 @@ abbrev μ-loop : tie.MeasureT-loop
 loop-holds : tie.Need-loop-holds Inv-loop μ-loop
 loop-holds c = (omega arith, refl, refl)
 
-mul-u32-at : tie.Need-mul-u32-at Inv-loop μ-loop
-mul-u32-at c = search needs
-
-u32-at-requires : tie.Need-u32-at-requires Inv-loop μ-loop
-u32-at-requires c κs = search needs
-
-mul-words : tie.Need-mul-words Inv-loop μ-loop
-mul-words c = search needs
-
-slice-write-words : tie.Need-slice-write-words Inv-loop μ-loop
-slice-write-words c = search needs
-
-add-i : tie.Need-add-i Inv-loop μ-loop
-add-i c = search needs
-
-loop-less : tie.Need-loop-less Inv-loop μ-loop
-loop-less c = search needs
-
 loop-again : tie.Need-loop-again Inv-loop μ-loop
-loop-again c =
-    (omega arith, simp length-set (c .before .before .loop .inv .1), c .before .before .loop .inv .2 ∙ take-next (c .before .before .before .before .before .args .bytes .now) _ (c .before .before .loop .i) _ (omega arith) (c .u32-at .ensures))
+loop-again c = (
+  omega arith,
+  simp length-set (c .before .before .loop .inv .1),
+  c .before .before .loop .inv .2 ∙ take-next (c .before .before .before .before .before .args .bytes .now) _ (c .before .before .loop .i) _ (omega arith) (c .u32-at .ensures),
+)
 
 same-length : tie.Need-same-length Inv-loop μ-loop
 same-length c = c .before .loop .inv .1
@@ -54,12 +39,12 @@ take-words-spec =
     Inv-loop
     μ-loop
     loop-holds
-    mul-u32-at
-    u32-at-requires
-    mul-words
-    slice-write-words
-    add-i
-    loop-less
+    (λ c. search needs)
+    (λ c κs. search needs)
+    (λ c. search needs)
+    (λ c. search needs)
+    (λ c. search needs)
+    (λ c. search needs)
     loop-again
     same-length
     returns)

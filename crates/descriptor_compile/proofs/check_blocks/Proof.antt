@@ -1,4 +1,4 @@
--- `descriptor_compile::check_blocks` meets its contract. Assumes nothing.
+-- `descriptor_compile::check_blocks` meets its contract.
 use mathlib.Core.Path.{sym, _∙_}
 use native.Mathlib.Omega.{arith}
 use Rattle.descriptor_fields.specs.Fields.{idAt}
@@ -9,113 +9,131 @@ use Rattle.descriptor_compile.proofs.check_blocks.Statement.{statement}
 use Rattle.descriptor_compile.proofs.check_blocks.Tie as tie
 
 read-requires : tie.Need-read-requires
-read-requires c κs =
-    (c .before .before .before .before .before .before .before .before .pre .0, c .before .before .before .before .before .before .before .before .pre .1, c .before .before .before .before .before .before .before .before .pre .2)
-
-enum-known-scan : tie.Need-enum-known-scan
-enum-known-scan c = search needs
-
-enum-told : tie.Need-enum-told
-enum-told c = search needs
-
-refusal-of-requires : tie.Need-refusal-of-requires
-refusal-of-requires c κs = search needs
-
-same-length : tie.Need-same-length
-same-length c = search needs
-
-same-length-2 : tie.Need-same-length-2
-same-length-2 c = search needs
-
-same-length-3 : tie.Need-same-length-3
-same-length-3 c = search needs
+read-requires c κs = (
+  c .before .before .before .before .before .before .before .before .pre .0,
+  c .before .before .before .before .before .before .before .before .pre .1,
+  c .before .before .before .before .before .before .before .before .pre .2,
+)
 
 returns : tie.Need-returns
 returns c =
-    blocks-refused _ (idAt (c .before .before .before .before .before .before .before .before .before .before .before .before .before .before .before .before .before .before .args .root .now) 0) _ _ _ _ (c .before .before .before .before .before .before .before .before .before .read .ensures) _ _ (c .before .enum-told .given .1) _ (c .refusal-of .ensures) _
+    blocks-refused _
+    (idAt (c .before .before .before .before .before .before .before .before .before .before .before .before .before .before .before .before .before .before .args .root .now) 0) _ _ _ _
+    (c .before .before .before .before .before .before .before .before .before .read .ensures) _ _ (c .before .enum-told .given .1) _
+    (c .refusal-of .ensures) _
 
 find-requires : tie.Need-find-requires
-find-requires c κs =
-    (ended _ (idAt (c .before .before .before .before .before .before .before .before .before .before .before .before .before .before .before .before .before .before .before .args .root .now) 0) _ _ _ _ (c .before .before .before .before .before .before .before .before .before .before .read .ensures) _ _ (c .before .before .scan .given .1) .kept .told, c .before .before .before .before .before .before .before .before .before .before .before .before .before .before .before .before .before .before .before .pre .3)
+find-requires c κs = (
+  ended _
+      (idAt (c .before .before .before .before .before .before .before .before .before .before .before .before .before .before .before .before .before .before .before .args .root .now) 0) _ _ _ _
+      (c .before .before .before .before .before .before .before .before .before .before .read .ensures) _ _
+      (c .before .before .scan .given .1) .kept .told,
+  c .before .before .before .before .before .before .before .before .before .before .before .before .before .before .before .before .before .before .before .pre .3,
+)
 
 has-node-requires : tie.Need-has-node-requires
 has-node-requires c κs =
-    ended _ (idAt (c .before .before .before .before .before .before .before .before .before .before .before .before .before .before .before .before .before .before .before .before .before .args .root .now) 0) _ _ _ _ (c .before .before .before .before .before .before .before .before .before .before .before .before .read .ensures) _ _ (c .before .before .before .before .scan .given .1) .kept .told
+    ended _
+    (idAt
+    (c .before .before .before .before .before .before .before .before .before .before .before .before .before .before .before .before .before .before .before .before .before .args .root .now) 0)
+    _ _ _ _ (c .before .before .before .before .before .before .before .before .before .before .before .before .read .ensures) _ _
+    (c .before .before .before .before .scan .given .1) .kept .told
 
 cast-node-at : tie.Need-cast-node-at
 cast-node-at c =
-    let k = ended _ (idAt (c .before .before .before .before .before .before .before .before .before .before .before .before .before .before .before .before .before .before .before .before .before .before .before .before .args .root .now) 0) _ _ _ _ (c .before .before .before .before .before .before .before .before .before .before .before .before .before .before .before .read .ensures) _ _ (c .before .before .before .before .before .before .before .scan .given .1) .kept .told .few in omega (arith, found-most _ _ _ _ _ (c .before .before .before .before .find .ensures), k)
+    let k =
+    ended _
+    (idAt (c .before .before .before .before .before .before .before .before .before .before .before .before .before .before .before
+    .before .before .before .before .before .before .before .before .before .args .root .now) 0) _ _ _ _
+    (c .before .before .before .before .before .before .before .before .before .before .before .before .before .before .before .read .ensures) _ _
+    (c .before .before .before .before .before .before .before .scan .given .1) .kept .told .few
+    in
+    omega (arith, found-most _ _ _ _ _ (c .before .before .before .before .find .ensures), k)
 
 node-at-requires : tie.Need-node-at-requires
 node-at-requires c κs =
-    ended _ (idAt (c .before .before .before .before .before .before .before .before .before .before .before .before .before .before .before .before .before .before .before .before .before .before .before .before .args .root .now) 0) _ _ _ _ (c .before .before .before .before .before .before .before .before .before .before .before .before .before .before .before .read .ensures) _ _ (c .before .before .before .before .before .before .before .scan .given .1) .kept .told
+    ended _
+    (idAt (c .before .before .before .before .before .before .before .before .before .before .before .before .before .before .before
+    .before .before .before .before .before .before .before .before .before .args .root .now) 0) _ _ _ _
+    (c .before .before .before .before .before .before .before .before .before .before .before .before .before .before .before .read .ensures) _ _
+    (c .before .before .before .before .before .before .before .scan .given .1) .kept .told
 
 cast-put-two : tie.Need-cast-put-two
 cast-put-two c =
-    let k = ended _ (idAt (c .before .before .before .before .before .before .before .before .before .before .before .before .before .before .before .before .before .before .before .before .before .before .before .before .before .before .args .root .now) 0) _ _ _ _ (c .before .before .before .before .before .before .before .before .before .before .before .before .before .before .before .before .before .read .ensures) _ _ (c .before .before .before .before .before .before .before .before .before .scan .given .1) .kept in omega (arith, k .most, k .told .few)
-
-put-two-requires : tie.Need-put-two-requires
-put-two-requires c κs = search needs
+    let k =
+    ended _
+    (idAt (c .before .before .before .before .before .before .before .before .before .before .before .before .before .before .before
+    .before .before .before .before .before .before .before .before .before .before .before .args .root .now) 0) _ _ _ _
+    (c .before .before .before .before .before .before .before .before .before .before .before .before .before .before .before .before .before .read .ensures) _ _
+    (c .before .before .before .before .before .before .before .before .before .scan .given .1) .kept
+    in
+    omega (arith, k .most, k .told .few)
 
 cast-t24 : tie.Need-cast-t24
 cast-t24 c =
-    let k = ended _ (idAt (c .before .before .before .before .before .before .before .before .before .before .before .before .before .before .before .before .before .before .before .before .before .before .before .before .before .before .before .before .before .args .root .now) 0) _ _ _ _ (c .before .before .before .before .before .before .before .before .before .before .before .before .before .before .before .before .before .before .before .before .read .ensures) _ _ (c .before .before .before .before .before .before .before .before .before .before .before .before .scan .given .1) .kept in omega (arith, k .most, k .told .few)
-
-same-length-4 : tie.Need-same-length-4
-same-length-4 c = search needs
-
-same-length-5 : tie.Need-same-length-5
-same-length-5 c = search needs
-
-same-length-6 : tie.Need-same-length-6
-same-length-6 c = search needs
+    let k =
+    ended _
+    (idAt (c .before .before .before .before .before .before .before .before .before .before .before .before .before .before .before
+    .before .before .before .before .before .before .before .before .before .before .before .before .before .before .args .root .now) 0)
+    _ _ _ _
+    (c .before .before .before .before .before .before .before .before .before .before .before .before .before .before .before .before .before .before .before .before .read .ensures) _ _
+    (c .before .before .before .before .before .before .before .before .before .before .before .before .scan .given .1) .kept
+    in
+    omega (arith, k .most, k .told .few)
 
 returns-2 : tie.Need-returns-2
 returns-2 c =
-    blocks-planned _ (idAt (c .before .before .before .before .before .before .before .before .before .before .before .before .before .before .before .before .before .before .before .before .before .before .before .before .before .before .before .before .before .args .root .now) 0) _ _ _ _ (c .before .before .before .before .before .before .before .before .before .before .before .before .before .before .before .before .before .before .before .before .read .ensures) _ _ (c .before .before .before .before .before .before .before .before .before .before .before .before .scan .given .1) _ (c .before .before .before .before .before .before .before .before .before .find .ensures) (sym (c .before .before .before .before .before .before .before .has-node .ensures) ∙ c .before .before .before .before .before .before .if1 .taken) _ (c .before .before .before .before .node-at .ensures) _ (c .before .before .put-two .ensures)
+    blocks-planned _
+    (idAt (c .before .before .before .before .before .before .before .before .before .before .before .before .before .before .before
+    .before .before .before .before .before .before .before .before .before .before .before .before .before .before .args .root .now) 0)
+    _ _ _ _
+    (c .before .before .before .before .before .before .before .before .before .before .before .before .before .before .before .before .before .before .before .before .read .ensures) _ _
+    (c .before .before .before .before .before .before .before .before .before .before .before .before .scan .given .1) _
+    (c .before .before .before .before .before .before .before .before .before .find .ensures)
+    (sym (c .before .before .before .before .before .before .before .has-node .ensures) ∙ c .before .before .before .before .before .before .if1 .taken) _
+    (c .before .before .before .before .node-at .ensures) _ (c .before .before .put-two .ensures)
 
 cast-t29 : tie.Need-cast-t29
 cast-t29 c =
-    omega (arith, c .before .before .before .before .before .before .before .before .before .before .before .before .before .before .before .before .before .before .before .before .before .before .before .pre .0)
-
-same-length-7 : tie.Need-same-length-7
-same-length-7 c = search needs
-
-same-length-8 : tie.Need-same-length-8
-same-length-8 c = search needs
-
-same-length-9 : tie.Need-same-length-9
-same-length-9 c = search needs
+    omega (
+      arith,
+      c .before .before .before .before .before .before .before .before .before .before .before .before .before .before .before .before .before .before .before .before .before .before .before .pre .0,
+    )
 
 returns-3 : tie.Need-returns-3
 returns-3 c =
-    blocks-rootless _ (idAt (c .before .before .before .before .before .before .before .before .before .before .before .before .before .before .before .before .before .before .before .before .before .before .before .args .root .now) 0) _ _ _ _ (c .before .before .before .before .before .before .before .before .before .before .before .before .before .before .read .ensures) _ _ (c .before .before .before .before .before .before .scan .given .1) _ (c .before .before .before .find .ensures) (sym (c .before .has-node .ensures) ∙ c .if1 .left)
+    blocks-rootless _
+    (idAt (c .before .before .before .before .before .before .before .before .before .before .before .before .before .before .before
+    .before .before .before .before .before .before .before .before .args .root .now) 0) _ _ _ _
+    (c .before .before .before .before .before .before .before .before .before .before .before .before .before .before .read .ensures) _ _
+    (c .before .before .before .before .before .before .scan .given .1) _ (c .before .before .before .find .ensures)
+    (sym (c .before .has-node .ensures) ∙ c .if1 .left)
 
 pub check-blocks-spec : {M : Type 1} → statement M
 check-blocks-spec =
     tie.close
     (tie.spec
     read-requires
-    enum-known-scan
-    enum-told
-    refusal-of-requires
-    same-length
-    same-length-2
-    same-length-3
+    (λ c. search needs)
+    (λ c. search needs)
+    (λ c κs. search needs)
+    (λ c. search needs)
+    (λ c. search needs)
+    (λ c. search needs)
     returns
     find-requires
     has-node-requires
     cast-node-at
     node-at-requires
     cast-put-two
-    put-two-requires
+    (λ c κs. search needs)
     cast-t24
-    same-length-4
-    same-length-5
-    same-length-6
+    (λ c. search needs)
+    (λ c. search needs)
+    (λ c. search needs)
     returns-2
     cast-t29
-    same-length-7
-    same-length-8
-    same-length-9
+    (λ c. search needs)
+    (λ c. search needs)
+    (λ c. search needs)
     returns-3)

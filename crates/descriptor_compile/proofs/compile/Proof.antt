@@ -1,4 +1,4 @@
--- `descriptor_compile::compile` meets its contract: a law for each return. Assumes nothing.
+-- `descriptor_compile::compile` meets its contract: a law for each return.
 use Rattle.descriptor_compile.proofs.Compiles.{gives-refused, gives-full, gives-planned}
 use borrow.Author.Needs.{needs}
 use Rattle.descriptor_compile.proofs.compile.Statement.{statement}
@@ -14,7 +14,9 @@ returns-2 c =
 
 returns-3 : tie.Need-returns-3
 returns-3 c =
-    gives-planned _ _ _ _ _ (c .before .before .before .before .before .before .before .before .before .check .ensures) _ _ (c .before .before .before .before .before .before .answer .given .1) (c .before .before .before .before .if1 .left) _ _ (c .before .before .check2 .ensures)
+    gives-planned _ _ _ _ _ (c .before .before .before .before .before .before .before .before .before .check .ensures) _ _
+    (c .before .before .before .before .before .before .answer .given .1) (c .before .before .before .before .if1 .left) _ _
+    (c .before .before .check2 .ensures)
 
 pub compile-spec : {M : Type 1} → statement M
 compile-spec =

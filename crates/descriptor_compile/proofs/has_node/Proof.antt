@@ -1,4 +1,4 @@
--- `descriptor_compile::has_node` meets its contract. Assumes nothing.
+-- `descriptor_compile::has_node` meets its contract.
 use mathlib.Core.Path.{sym, ap, _∙_}
 use Rattle.wire.proofs.Picks.{pick-yes, pick-no}
 use Rattle.descriptor_fields.specs.Layouts.{valued}
@@ -12,17 +12,16 @@ use Rattle.descriptor_compile.proofs.has_node.Tie as tie
 tag-of-requires : tie.Need-tag-of-requires
 tag-of-requires c κs = (c .before .before .before .pre, c .if1 .taken)
 
-has-values-requires : tie.Need-has-values-requires
-has-values-requires c κs = search needs
-
 returns : tie.Need-returns
 unfolding hasNode
 returns c =
-    c .has-values .ensures ∙ ap valued (c .before .tag-of .ensures ∙ ap (λ (k : Known). k .tag) (sym (known-get _ _ _ _ (c .before .before .if1 .taken)))) ∙ sym (pick-yes _ _ _ (known-in _ _ _ _ (c .before .before .if1 .taken)))
+    c .has-values .ensures
+    ∙ ap valued (c .before .tag-of .ensures ∙ ap (λ (k : Known). k .tag) (sym (known-get _ _ _ _ (c .before .before .if1 .taken))))
+    ∙ sym (pick-yes _ _ _ (known-in _ _ _ _ (c .before .before .if1 .taken)))
 
 returns-2 : tie.Need-returns-2
 unfolding hasNode
 returns-2 c = sym (pick-no _ _ _ (known-out _ _ _ _ (c .if1 .left)))
 
 pub has-node-spec : {M : Type 1} → statement M
-has-node-spec = tie.close (tie.spec tag-of-requires has-values-requires returns returns-2)
+has-node-spec = tie.close (tie.spec tag-of-requires (λ c κs. search needs) returns returns-2)

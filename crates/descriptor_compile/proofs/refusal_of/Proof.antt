@@ -1,15 +1,9 @@
--- `descriptor_compile::refusal_of` meets its contract. Assumes nothing.
+-- `descriptor_compile::refusal_of` meets its contract.
 use mathlib.Core.Path.{sym, ap}
 use Rattle.descriptor_compile.specs.Checking.{refusalOf}
 use borrow.Author.Needs.{needs}
 use Rattle.descriptor_compile.proofs.refusal_of.Statement.{statement}
 use Rattle.descriptor_compile.proofs.refusal_of.Tie as tie
-
-enum-known-scan : tie.Need-enum-known-scan
-enum-known-scan c = search needs
-
-enum-told : tie.Need-enum-told
-enum-told c = search needs
 
 returns : tie.Need-returns
 unfolding refusalOf
@@ -20,4 +14,4 @@ unfolding refusalOf
 returns-2 c = sym (ap refusalOf (c .enum-told .given .1))
 
 pub refusal-of-spec : {M : Type 1} → statement M
-refusal-of-spec = tie.close (tie.spec enum-known-scan enum-told returns returns-2)
+refusal-of-spec = tie.close (tie.spec (λ c. search needs) (λ c. search needs) returns returns-2)

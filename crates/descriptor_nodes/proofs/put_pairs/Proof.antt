@@ -1,4 +1,4 @@
--- `descriptor_nodes::put_pairs` meets its contract. Assumes nothing.
+-- `descriptor_nodes::put_pairs` meets its contract.
 use mathlib.Core.Path.{_≡_, refl, _∙_}
 use Prim.Native.Nat.{_-_, _≤_}
 use native.Mathlib.Omega.{arith}
@@ -59,11 +59,19 @@ mul-put-two-3 c =
 
 shared-slice-read-put-two : tie.Need-shared-slice-read-put-two Inv-loop μ-loop
 shared-slice-read-put-two c =
-    omega (arith, c .before .before .before .before .before .before .before .before .before .before .pre .1 .few, c .before .before .before .before .before .before .before .before .before .before .pre .1 .room)
+    omega (
+      arith,
+      c .before .before .before .before .before .before .before .before .before .before .pre .1 .few,
+      c .before .before .before .before .before .before .before .before .before .before .pre .1 .room,
+    )
 
 put-two-requires : tie.Need-put-two-requires Inv-loop μ-loop
 put-two-requires c κs =
-    omega (arith, c .before .before .before .before .before .before .before .before .before .before .pre .1 .few, c .before .before .before .before .before .before .before .before .before .before .pre .2)
+    omega (
+      arith,
+      c .before .before .before .before .before .before .before .before .before .before .pre .1 .few,
+      c .before .before .before .before .before .before .before .before .before .before .pre .2,
+    )
 
 add-k : tie.Need-add-k Inv-loop μ-loop
 add-k c =
@@ -73,8 +81,12 @@ loop-less : tie.Need-loop-less Inv-loop μ-loop
 loop-less c = omega arith
 
 loop-again : tie.Need-loop-again Inv-loop μ-loop
-loop-again c =
-    (omega arith, c .before .before .put-two .kept .0 ∙ c .before .before .before .before .before .before .before .before .loop .inv .1, pairs-more _ _ _ _ _ _ _ _ (c .before .before .before .before .before .node-at .ensures) (c .before .before .before .before .before .before .before .before .loop .inv .2) (c .before .before .put-two .ensures))
+loop-again c = (
+  omega arith,
+  c .before .before .put-two .kept .0 ∙ c .before .before .before .before .before .before .before .before .loop .inv .1,
+  pairs-more _ _ _ _ _ _ _ _ (c .before .before .before .before .before .node-at .ensures)
+      (c .before .before .before .before .before .before .before .before .loop .inv .2) (c .before .before .put-two .ensures),
+)
 
 same-length : tie.Need-same-length Inv-loop μ-loop
 same-length c = c .before .loop .inv .1

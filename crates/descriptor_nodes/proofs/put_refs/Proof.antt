@@ -1,4 +1,4 @@
--- `descriptor_nodes::put_refs` meets its contract. Assumes nothing.
+-- `descriptor_nodes::put_refs` meets its contract.
 use mathlib.Core.Path.{_≡_, refl, _∙_}
 use Prim.Native.Nat.{_-_, _≤_}
 use native.Mathlib.Omega.{arith}
@@ -41,9 +41,6 @@ shared-slice-read-node-at c =
 node-at-requires : tie.Need-node-at-requires Inv-loop μ-loop
 node-at-requires c κs = c .before .before .before .before .before .before .before .before .pre .0
 
-put-word-requires : tie.Need-put-word-requires Inv-loop μ-loop
-put-word-requires c κs = search needs
-
 add-k : tie.Need-add-k Inv-loop μ-loop
 add-k c =
     omega (arith, c .before .before .before .before .before .before .before .before .before .before .before .before .pre .1 .few)
@@ -52,8 +49,11 @@ loop-less : tie.Need-loop-less Inv-loop μ-loop
 loop-less c = omega arith
 
 loop-again : tie.Need-loop-again Inv-loop μ-loop
-loop-again c =
-    (omega arith, c .before .before .put-word .kept .0 ∙ c .before .before .before .before .before .before .before .loop .inv .1, refs-more _ _ _ _ _ _ _ _ (c .before .before .before .node-at .ensures) (c .before .before .before .before .before .before .before .loop .inv .2) (c .before .before .put-word .ensures))
+loop-again c = (
+  omega arith,
+  c .before .before .put-word .kept .0 ∙ c .before .before .before .before .before .before .before .loop .inv .1,
+  refs-more _ _ _ _ _ _ _ _ (c .before .before .before .node-at .ensures) (c .before .before .before .before .before .before .before .loop .inv .2) (c .before .before .put-word .ensures),
+)
 
 same-length : tie.Need-same-length Inv-loop μ-loop
 same-length c = c .before .loop .inv .1
@@ -75,7 +75,7 @@ put-refs-spec =
     mul-node-at-2
     shared-slice-read-node-at
     node-at-requires
-    put-word-requires
+    (λ c κs. search needs)
     add-k
     loop-less
     loop-again

@@ -1,4 +1,4 @@
--- `descriptor_nodes::put_two` meets its contract. Assumes nothing.
+-- `descriptor_nodes::put_two` meets its contract.
 use Rattle.descriptor_nodes.proofs.NodeWords.{two}
 use borrow.Author.Needs.{needs}
 use Rattle.descriptor_nodes.proofs.put_two.Statement.{statement}
@@ -6,7 +6,11 @@ use Rattle.descriptor_nodes.proofs.put_two.Tie as tie
 
 returns : tie.Need-returns
 returns c =
-    two (c .before .before .before .before .before .before .before .before .before .args .plan .now) _ _ (c .before .before .before .before .before .before .before .before .before .args .to) (c .before .before .before .before .before .before .before .before .before .args .a) (c .before .before .before .before .before .before .before .before .before .args .b) (c .before .before .before .before .before .before .put-word .ensures) (c .before .before .put-word2 .ensures)
+    two (c .before .before .before .before .before .before .before .before .before .args .plan .now) _ _
+    (c .before .before .before .before .before .before .before .before .before .args .to)
+    (c .before .before .before .before .before .before .before .before .before .args .a)
+    (c .before .before .before .before .before .before .before .before .before .args .b)
+    (c .before .before .before .before .before .before .put-word .ensures) (c .before .before .put-word2 .ensures)
 
 pub put-two-spec : {M : Type 1} → statement M
 put-two-spec =

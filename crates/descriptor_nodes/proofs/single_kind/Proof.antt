@@ -1,4 +1,4 @@
--- `descriptor_nodes::single_kind` meets its contract. Assumes nothing.
+-- `descriptor_nodes::single_kind` meets its contract.
 use Rattle.descriptor_nodes.proofs.NodeWords.{kind-range, kind-arrays, kind-row, kind-other}
 use borrow.Author.Needs.{needs}
 use Rattle.descriptor_nodes.proofs.single_kind.Statement.{statement}
@@ -6,9 +6,6 @@ use Rattle.descriptor_nodes.proofs.single_kind.Tie as tie
 
 returns : tie.Need-returns
 returns c = kind-range _ _ _ (c .if1 .taken)
-
-tag-at-requires : tie.Need-tag-at-requires
-tag-at-requires c κs = search needs
 
 returns-2 : tie.Need-returns-2
 returns-2 c =
@@ -22,4 +19,4 @@ returns-4 : tie.Need-returns-4
 returns-4 c = kind-other _ _ _ (c .before .if1 .left) (c .if2 .left)
 
 pub single-kind-spec : {M : Type 1} → statement M
-single-kind-spec = tie.close (tie.spec returns tag-at-requires returns-2 returns-3 returns-4)
+single-kind-spec = tie.close (tie.spec returns (λ c κs. search needs) returns-2 returns-3 returns-4)

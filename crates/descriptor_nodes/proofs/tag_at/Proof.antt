@@ -1,14 +1,8 @@
--- `descriptor_nodes::tag_at` meets its contract. Assumes nothing.
+-- `descriptor_nodes::tag_at` meets its contract.
 use Rattle.descriptor_nodes.proofs.NodeWords.{tag-here, tag-beyond}
 use borrow.Author.Needs.{needs}
 use Rattle.descriptor_nodes.proofs.tag_at.Statement.{statement}
 use Rattle.descriptor_nodes.proofs.tag_at.Tie as tie
-
-wide-requires : tie.Need-wide-requires
-wide-requires c κs = search needs
-
-tag-of-requires : tie.Need-tag-of-requires
-tag-of-requires c κs = search needs
 
 returns : tie.Need-returns
 returns c =
@@ -18,4 +12,4 @@ returns-2 : tie.Need-returns-2
 returns-2 c = tag-beyond _ _ _ _ _ (c .before .wide .ensures) (c .if1 .left)
 
 pub tag-at-spec : {M : Type 1} → statement M
-tag-at-spec = tie.close (tie.spec wide-requires tag-of-requires returns returns-2)
+tag-at-spec = tie.close (tie.spec (λ c κs. search needs) (λ c κs. search needs) returns returns-2)

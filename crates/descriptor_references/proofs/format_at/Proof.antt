@@ -1,4 +1,4 @@
--- `descriptor_references::format_at` meets its contract. Assumes nothing.
+-- `descriptor_references::format_at` meets its contract.
 use mathlib.Core.Path.{sym, ap, _∙_}
 use Rattle.descriptor_fields.specs.Fields.{formatBy}
 use Rattle.descriptor_fields.proofs.Known.{known-get, known-beyond}

@@ -1,4 +1,4 @@
--- `descriptor_references::format_by` meets its contract. Assumes nothing.
+-- `descriptor_references::format_by` meets its contract.
 use mathlib.Core.Path.{ap, sym, _∙_}
 use Prim.Native.Nat.{ℕ, _+_}
 use native.Mathlib.Omega.{arith}
@@ -25,12 +25,14 @@ shared-slice-read-wide : tie.Need-shared-slice-read-wide
 shared-slice-read-wide c =
     omega (arith, c .before .before .before .before .before .pre .0 .room, c .before .before .before .before .before .pre .1)
 
-wide-requires : tie.Need-wide-requires
-wide-requires c κs = search needs
-
 add-format-of : tie.Need-add-format-of
 add-format-of c =
-    omega (arith, c .before .before .before .before .before .before .pre .0 .inside _ (c .before .before .before .before .before .before .pre .1), c .before .before .before .before .before .before .pre .0 .short, c .wide .ensures)
+    omega (
+      arith,
+      c .before .before .before .before .before .before .pre .0 .inside _ (c .before .before .before .before .before .before .pre .1),
+      c .before .before .before .before .before .before .pre .0 .short,
+      c .wide .ensures,
+    )
 
 format-of-requires : tie.Need-format-of-requires
 format-of-requires c κs =
@@ -39,7 +41,9 @@ format-of-requires c κs =
 returns : tie.Need-returns
 unfolding formatBy knownAt
 returns c =
-    c .format-of .ensures ∙ ap (λ (k : ℕ). formatOf (idAt (c .before .before .before .before .before .before .before .args .d .now) (k + 1))) (c .before .wide .ensures) ∙ sym (pick-yes _ _ _ (eq-eqb _ _ (sym (c .before .before .before .before .tag-of .ensures) ∙ c .before .before .before .if1 .taken)))
+    c .format-of .ensures
+    ∙ ap (λ (k : ℕ). formatOf (idAt (c .before .before .before .before .before .before .before .args .d .now) (k + 1))) (c .before .wide .ensures)
+    ∙ sym (pick-yes _ _ _ (eq-eqb _ _ (sym (c .before .before .before .before .tag-of .ensures) ∙ c .before .before .before .if1 .taken)))
 
 returns-2 : tie.Need-returns-2
 unfolding formatBy
@@ -53,7 +57,7 @@ format-by-spec =
     mul-wide
     mul-wide-2
     shared-slice-read-wide
-    wide-requires
+    (λ c κs. search needs)
     add-format-of
     format-of-requires
     returns

@@ -1,4 +1,4 @@
--- `descriptor_references::height_at` meets its contract. Assumes nothing.
+-- `descriptor_references::height_at` meets its contract.
 use mathlib.Core.Path.{sym, ap, _∙_}
 use native.Mathlib.Omega.{arith}
 use Rattle.descriptor_fields.specs.Fields.{Known}

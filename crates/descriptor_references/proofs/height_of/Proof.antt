@@ -1,4 +1,4 @@
--- `descriptor_references::height_of` meets its contract. Assumes nothing.
+-- `descriptor_references::height_of` meets its contract.
 use mathlib.Core.Path.{refl}
 use native.Mathlib.Omega.{arith}
 use Rattle.descriptor_fields.specs.Arrays.{knownAt}

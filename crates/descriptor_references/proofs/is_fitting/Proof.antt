@@ -1,4 +1,4 @@
--- `descriptor_references::is_fitting` meets its contract. Assumes nothing.
+-- `descriptor_references::is_fitting` meets its contract.
 use mathlib.Core.Path.{sym, ap, _∙_}
 use Prim.Native.Nat.{ℕ}
 use lib.Dec.{ltb, eqb}
@@ -11,16 +11,14 @@ use Rattle.descriptor_references.proofs.is_fitting.Statement.{statement
 use Rattle.descriptor_references.proofs.is_fitting.Tie as tie
 use Rattle.protocol.specs.Numbers.{pick}
 
-is-deciding-requires : tie.Need-is-deciding-requires
-is-deciding-requires c κs = search needs
-
 format-by-requires : tie.Need-format-by-requires
 format-by-requires c κs = c .before .before .before .before .before .pre
 
 returns : tie.Need-returns
 unfolding fits
 returns c =
-    ap (λ (n : ℕ). ltb n 20) (c .format-by .ensures) ∙ sym (pick-yes _ _ _ (eq-eqb _ _ (c .before .before .before .if1 .taken)) ∙ pick-yes _ _ _ (sym (c .before .before .is-deciding .ensures) ∙ c .before .if2 .taken))
+    ap (λ (n : ℕ). ltb n 20) (c .format-by .ensures)
+    ∙ sym (pick-yes _ _ _ (eq-eqb _ _ (c .before .before .before .if1 .taken)) ∙ pick-yes _ _ _ (sym (c .before .before .is-deciding .ensures) ∙ c .before .if2 .taken))
 
 returns-2 : tie.Need-returns-2
 unfolding fits
@@ -29,18 +27,6 @@ returns-2 c =
 
 tag-of-requires : tie.Need-tag-of-requires
 tag-of-requires c κs = c .before .before .before .pre
-
-is-object-requires : tie.Need-is-object-requires
-is-object-requires c κs = search needs
-
-has-values-requires : tie.Need-has-values-requires
-has-values-requires c κs = search needs
-
-may-be-in-set-requires : tie.Need-may-be-in-set-requires
-may-be-in-set-requires c κs = search needs
-
-may-be-in-array-requires : tie.Need-may-be-in-array-requires
-may-be-in-array-requires c κs = search needs
 
 returns-3 : tie.Need-returns-3
 unfolding fits pick
@@ -69,21 +55,27 @@ returns-7 c =
 returns-8 : tie.Need-returns-8
 unfolding fits
 returns-8 c =
-    ap (λ (n : ℕ). eqb n 3) (c .before .tag-of .ensures) ∙ sym (pick-no _ _ _ (ne-eqb _ _ (c .before .before .if1 .left)) ∙ pick-no _ _ _ (ne-eqb _ _ (c .match .rest .0 .0 .0 .0 .1)) ∙ pick-no _ _ _ (ne-eqb _ _ (c .match .rest .0 .0 .0 .1)) ∙ pick-no _ _ _ (ne-eqb _ _ (c .match .rest .0 .0 .1)) ∙ pick-no _ _ _ (ne-eqb _ _ (c .match .rest .0 .1)) ∙ pick-no _ _ _ (ne-eqb _ _ (c .match .rest .1)))
+    ap (λ (n : ℕ). eqb n 3) (c .before .tag-of .ensures)
+    ∙ sym (pick-no _ _ _ (ne-eqb _ _ (c .before .before .if1 .left))
+    ∙ pick-no _ _ _ (ne-eqb _ _ (c .match .rest .0 .0 .0 .0 .1))
+    ∙ pick-no _ _ _ (ne-eqb _ _ (c .match .rest .0 .0 .0 .1))
+    ∙ pick-no _ _ _ (ne-eqb _ _ (c .match .rest .0 .0 .1))
+    ∙ pick-no _ _ _ (ne-eqb _ _ (c .match .rest .0 .1))
+    ∙ pick-no _ _ _ (ne-eqb _ _ (c .match .rest .1)))
 
 pub is-fitting-spec : {M : Type 1} → statement M
 is-fitting-spec =
     tie.close
     (tie.spec
-    is-deciding-requires
+    (λ c κs. search needs)
     format-by-requires
     returns
     returns-2
     tag-of-requires
-    is-object-requires
-    has-values-requires
-    may-be-in-set-requires
-    may-be-in-array-requires
+    (λ c κs. search needs)
+    (λ c κs. search needs)
+    (λ c κs. search needs)
+    (λ c κs. search needs)
     returns-3
     returns-4
     returns-5

@@ -1,4 +1,4 @@
--- `descriptor_references::kind_fault` meets its contract. Assumes nothing.
+-- `descriptor_references::kind_fault` meets its contract.
 use mathlib.Core.Path.{sym, _∙_}
 use borrow.Author.Tests.{not-true, not-false, le-leb, lt-leb}
 use Rattle.wire.proofs.Picks.{pick-yes, pick-no}
@@ -19,12 +19,16 @@ height-of-requires c κs = c .before .before .before .before .before .pre
 returns-2 : tie.Need-returns-2
 unfolding kindFault
 returns-2 c =
-    sym (pick-yes _ _ _ (sym (c .before .before .before .before .is-fitting .ensures) ∙ not-false _ (c .before .before .before .if1 .left)) ∙ pick-yes _ _ _ (le-leb _ _ (c .before .before .if2 .taken)) ∙ pick-yes _ _ _ (le-leb _ _ (rw (c .before .height-of .ensures .0) at (c .if3 .taken))))
+    sym (pick-yes _ _ _ (sym (c .before .before .before .before .is-fitting .ensures) ∙ not-false _ (c .before .before .before .if1 .left))
+    ∙ pick-yes _ _ _ (le-leb _ _ (c .before .before .if2 .taken))
+    ∙ pick-yes _ _ _ (le-leb _ _ (rw (c .before .height-of .ensures .0) at (c .if3 .taken))))
 
 returns-3 : tie.Need-returns-3
 unfolding kindFault
 returns-3 c =
-    sym (pick-yes _ _ _ (sym (c .before .before .before .before .is-fitting .ensures) ∙ not-false _ (c .before .before .before .if1 .left)) ∙ pick-yes _ _ _ (le-leb _ _ (c .before .before .if2 .taken)) ∙ pick-no _ _ _ (lt-leb _ _ (rw (c .before .height-of .ensures .0) at (c .if3 .left))))
+    sym (pick-yes _ _ _ (sym (c .before .before .before .before .is-fitting .ensures) ∙ not-false _ (c .before .before .before .if1 .left))
+    ∙ pick-yes _ _ _ (le-leb _ _ (c .before .before .if2 .taken))
+    ∙ pick-no _ _ _ (lt-leb _ _ (rw (c .before .height-of .ensures .0) at (c .if3 .left))))
 
 returns-4 : tie.Need-returns-4
 unfolding kindFault

@@ -1,4 +1,4 @@
--- `descriptor_references::may_be_in_array` meets its contract. Assumes nothing.
+-- `descriptor_references::may_be_in_array` meets its contract.
 use mathlib.Core.Path.{sym, _∙_}
 use borrow.Author.Tests.{eq-eqb, ne-eqb}
 use Rattle.wire.proofs.Picks.{pick-yes, pick-no}
@@ -13,12 +13,9 @@ returns-2 : tie.Need-returns-2
 returns-2 c =
     sym (pick-no _ _ _ (ne-eqb _ _ (c .before .if1 .left)) ∙ pick-yes _ _ _ (eq-eqb _ _ (c .if2 .taken)))
 
-has-values-requires : tie.Need-has-values-requires
-has-values-requires c κs = search needs
-
 returns-3 : tie.Need-returns-3
 returns-3 c =
     c .has-values .ensures ∙ sym (pick-no _ _ _ (ne-eqb _ _ (c .before .before .if1 .left)) ∙ pick-no _ _ _ (ne-eqb _ _ (c .before .if2 .left)))
 
 pub may-be-in-array-spec : {M : Type 1} → statement M
-may-be-in-array-spec = tie.close (tie.spec returns returns-2 has-values-requires returns-3)
+may-be-in-array-spec = tie.close (tie.spec returns returns-2 (λ c κs. search needs) returns-3)

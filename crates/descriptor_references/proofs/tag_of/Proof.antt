@@ -1,4 +1,4 @@
--- `descriptor_references::tag_of` meets its contract. Assumes nothing.
+-- `descriptor_references::tag_of` meets its contract.
 use mathlib.Core.Path.{ap, _∙_}
 use Prim.Native.Nat.{ℕ}
 use native.Mathlib.Omega.{arith}
@@ -19,15 +19,9 @@ mul-wide-2 c =
 shared-slice-read-wide : tie.Need-shared-slice-read-wide
 shared-slice-read-wide c = omega (arith, c .before .before .before .pre .0 .room, c .before .before .before .pre .1)
 
-wide-requires : tie.Need-wide-requires
-wide-requires c κs = search needs
-
 shared-slice-read-join : tie.Need-shared-slice-read-join
 shared-slice-read-join c =
     omega (arith, c .before .before .before .before .before .pre .0 .inside _ (c .before .before .before .before .before .pre .1), c .before .wide .ensures)
-
-join-requires : tie.Need-join-requires
-join-requires c κs = search needs
 
 returns : tie.Need-returns
 unfolding knownAt
@@ -41,7 +35,7 @@ tag-of-spec =
     mul-wide
     mul-wide-2
     shared-slice-read-wide
-    wide-requires
+    (λ c κs. search needs)
     shared-slice-read-join
-    join-requires
+    (λ c κs. search needs)
     returns)

@@ -1,4 +1,4 @@
--- `find_number::double` meets its contract. Assumes nothing.
+-- `find_number::double` meets its contract.
 use mathlib.Core.Path.{refl}
 use native.Mathlib.Omega.{arith}
 use lib.Ieee.{binary64}

@@ -1,4 +1,4 @@
--- `find_number::extend` meets its contract. Assumes nothing.
+-- `find_number::extend` meets its contract.
 use mathlib.Core.Path.{refl}
 use native.Mathlib.Omega.{arith}
 use Prim.Native.Nat.{_^_, _<_}

@@ -1,4 +1,4 @@
--- `find_number::is_integer` meets its contract. Assumes nothing.
+-- `find_number::is_integer` meets its contract.
 use borrow.Author.Tests.{eq-eqb, ne-eqb}
 use Rattle.find_number.proofs.is_integer.Statement.{statement}
 use Rattle.find_number.proofs.is_integer.Tie as tie

@@ -1,4 +1,4 @@
--- `find_number::of_node` meets its contract. Assumes nothing.
+-- `find_number::of_node` meets its contract.
 use mathlib.Core.Path.{_≡_, sym, _∙_}
 use native.Mathlib.Omega.{arith}
 use Prim.Native.Nat.{ℕ}

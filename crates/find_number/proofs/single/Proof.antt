@@ -1,4 +1,4 @@
--- `find_number::single` meets its contract. Assumes nothing.
+-- `find_number::single` meets its contract.
 use mathlib.Core.Path.{refl}
 use native.Mathlib.Omega.{arith}
 use lib.Ieee.{binary32}

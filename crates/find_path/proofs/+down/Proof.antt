@@ -1,4 +1,4 @@
--- `find_path::down` meets its contract: it calls itself on the rest of the path, whose length falls. Assumes nothing.
+-- `find_path::down` meets its contract: it calls itself on the rest of the path, whose length falls.
 use native.Mathlib.Omega.{arith}
 use lib.ListN.{length, length-take, length-drop}
 use Rattle.plan_nodes.proofs.Nodes.{at-ref}
@@ -49,63 +49,65 @@ down-child-head-requires : (t : ℕ) → down-lts.Need-child-head-requires (down
 down-child-head-requires t c κs =
     (c .before .before .before .before .before .pre .1 .0, omega (arith, c .before .before .before .before .before .pre .1 .1))
 
-down-enum-known-head : (t : ℕ) → down-lts.Need-enum-known-head (down-claims t) (down-at t) down.Post
-down-enum-known-head t c = search needs
-
-down-lost-number-requires : (t : ℕ) → down-lts.Need-lost-number-requires (down-claims t) (down-at t) down.Post
-down-lost-number-requires t c κs = search needs
-
-down-sub-result : (t : ℕ) → down-lts.Need-sub-result (down-claims t) (down-at t) down.Post
-down-sub-result t c = search needs
-
-down-part-result-start : (t : ℕ) → down-lts.Need-part-result-start (down-claims t) (down-at t) down.Post
-down-part-result-start t c = search needs
-
-down-part-result-end : (t : ℕ) → down-lts.Need-part-result-end (down-claims t) (down-at t) down.Post
-down-part-result-end t c = search needs
-
 down-returns-2 : (t : ℕ) → down-lts.Need-returns-2 (down-claims t) (down-at t) down.Post
 down-returns-2 t c =
     finds-lost _ _ _ _ _ (c .before .before .before .before .before .if1 .left) _ (c .before .before .before .child-head .ensures) (c .before .before .match .keys2) _ (c .before .lost-number .ensures)
 
 down-ref-of-requires : (t : ℕ) → down-lts.Need-ref-of-requires (down-claims t) (down-at t) down.Post
-down-ref-of-requires t c κs =
-    (c .before .before .before .before .before .before .before .before .before .pre .1 .0, child-in _ _ (c .before .before .before .before .before .before .before .before .before .pre .1 .0) _ _ _ (c .before .before .before .child-head .ensures) _ _ _ (c .before .head .given .1) .refers)
+down-ref-of-requires t c κs = (
+  c .before .before .before .before .before .before .before .before .before .pre .1 .0,
+  child-in _ _ (c .before .before .before .before .before .before .before .before .before .pre .1 .0) _ _ _ (c .before .before .before .child-head .ensures) _ _ _ (c .before .head .given .1) .refers,
+)
 
 down-add-end : (t : ℕ) → down-lts.Need-add-end (down-claims t) (down-at t) down.Post
 down-add-end t c =
-    omega (arith, child-in _ _ (c .before .before .before .before .before .before .before .before .before .before .pre .1 .0) _ _ _ (c .before .before .before .before .child-head .ensures) _ _ _ (c .before .before .head .given .1) .inside, c .before .before .before .before .before .before .before .before .before .before .pre .1 .1)
+    omega (
+      arith,
+      child-in _ _ (c .before .before .before .before .before .before .before .before .before .before .pre .1 .0) _ _ _
+          (c .before .before .before .before .child-head .ensures) _ _ _ (c .before .before .head .given .1) .inside,
+      c .before .before .before .before .before .before .before .before .before .before .pre .1 .1,
+    )
 
 down-add-place : (t : ℕ) → down-lts.Need-add-place (down-claims t) (down-at t) down.Post
 down-add-place t c =
-    omega (arith, child-in _ _ (c .before .before .before .before .before .before .before .before .before .before .pre .1 .0) _ _ _ (c .before .before .before .before .child-head .ensures) _ _ _ (c .before .before .head .given .1) .inside, c .before .before .before .before .before .before .before .before .before .before .pre .1 .1)
-
-down-sub-bytes : (t : ℕ) → down-lts.Need-sub-bytes (down-claims t) (down-at t) down.Post
-down-sub-bytes t c = search needs
-
-down-part-bytes-start : (t : ℕ) → down-lts.Need-part-bytes-start (down-claims t) (down-at t) down.Post
-down-part-bytes-start t c = search needs
+    omega (
+      arith,
+      child-in _ _ (c .before .before .before .before .before .before .before .before .before .before .pre .1 .0) _ _ _
+          (c .before .before .before .before .child-head .ensures) _ _ _ (c .before .before .head .given .1) .inside,
+      c .before .before .before .before .before .before .before .before .before .before .pre .1 .1,
+    )
 
 down-part-bytes-end : (t : ℕ) → down-lts.Need-part-bytes-end (down-claims t) (down-at t) down.Post
 down-part-bytes-end t c =
-    child-in _ _ (c .before .before .before .before .before .before .before .before .before .before .pre .1 .0) _ _ _ (c .before .before .before .before .child-head .ensures) _ _ _ (c .before .before .head .given .1) .inside
-
-down-sub-rest : (t : ℕ) → down-lts.Need-sub-rest (down-claims t) (down-at t) down.Post
-down-sub-rest t c = search needs
-
-down-part-rest-start : (t : ℕ) → down-lts.Need-part-rest-start (down-claims t) (down-at t) down.Post
-down-part-rest-start t c = search needs
-
-down-part-rest-end : (t : ℕ) → down-lts.Need-part-rest-end (down-claims t) (down-at t) down.Post
-down-part-rest-end t c = search needs
+    child-in _ _ (c .before .before .before .before .before .before .before .before .before .before .pre .1 .0) _ _ _
+    (c .before .before .before .before .child-head .ensures) _ _ _ (c .before .before .head .given .1) .inside
 
 down-down-requires : (t : ℕ) → down-lts.Need-down-requires (down-claims t) (down-at t) down.Post
-down-down-requires t c κs =
-    (rest-falls (c .before .before .before .before .before .before .before .before .before .before .before .before .before .before .before .args .path .now) _ (c .before .before .before .before .before .before .before .before .before .before .before .before .before .before .before .pre .0) (c .before .before .before .before .before .before .before .before .before .before .before .if1 .left), (at-ref _ _ _ _ (c .before .before .before .before .before .before .before .before .before .before .before .before .before .before .before .pre .1 .0) (c .before .before .before .before .before .ref-of .ensures) .0, simp (length-take, length-drop) (omega (arith, child-in _ _ (c .before .before .before .before .before .before .before .before .before .before .before .before .before .before .before .pre .1 .0) _ _ _ (c .before .before .before .before .before .before .before .before .before .child-head .ensures) _ _ _ (c .before .before .before .before .before .before .before .head .given .1) .inside, c .before .before .before .before .before .before .before .before .before .before .before .before .before .before .before .pre .1 .1))))
+down-down-requires t c κs = (
+  rest-falls (c .before .before .before .before .before .before .before .before .before .before .before .before .before .before .before .args .path .now) _
+      (c .before .before .before .before .before .before .before .before .before .before .before .before .before .before .before .pre .0)
+      (c .before .before .before .before .before .before .before .before .before .before .before .if1 .left),
+  (
+    at-ref _ _ _ _
+        (c .before .before .before .before .before .before .before .before .before .before .before .before .before .before .before .pre .1 .0)
+        (c .before .before .before .before .before .ref-of .ensures) .0,
+    simp (length-take, length-drop) (omega (
+      arith,
+      child-in _ _
+          (c .before .before .before .before .before .before .before .before .before .before .before .before .before .before .before .pre .1 .0) _ _ _
+          (c .before .before .before .before .before .before .before .before .before .child-head .ensures) _ _ _
+          (c .before .before .before .before .before .before .before .head .given .1) .inside,
+      c .before .before .before .before .before .before .before .before .before .before .before .before .before .before .before .pre .1 .1,
+    )),
+  ),
+)
 
 down-returns-3 : (t : ℕ) → down-lts.Need-returns-3 (down-claims t) (down-at t) down.Post
 down-returns-3 t c =
-    finds-below _ _ _ _ _ (c .before .before .before .before .before .before .before .before .before .before .before .before .if1 .left) _ (c .before .before .before .before .before .before .before .before .before .before .child-head .ensures) _ _ _ _ (c .before .before .before .before .before .before .before .before .head .given .1) (c .before .before .before .before .before .before .ref-of .ensures) _ _ _ _ _ (c .down .ensures)
+    finds-below _ _ _ _ _ (c .before .before .before .before .before .before .before .before .before .before .before .before .if1 .left) _
+    (c .before .before .before .before .before .before .before .before .before .before .child-head .ensures) _ _ _ _
+    (c .before .before .before .before .before .before .before .before .head .given .1)
+    (c .before .before .before .before .before .before .ref-of .ensures) _ _ _ _ _ (c .down .ensures)
 
 pub +down-spec : {M : Type 1} → statement M
 +down-spec = close μ-down λ t. down-lts.spec (
@@ -126,20 +128,20 @@ pub +down-spec : {M : Type 1} → statement M
     (down-shared-slice-read-child-head t)
     (down-cast-child-head t)
     (down-child-head-requires t)
-    (down-enum-known-head t)
-    (down-lost-number-requires t)
-    (down-sub-result t)
-    (down-part-result-start t)
-    (down-part-result-end t)
+    (λ c. search needs)
+    (λ c κs. search needs)
+    (λ c. search needs)
+    (λ c. search needs)
+    (λ c. search needs)
     (down-returns-2 t)
     (down-ref-of-requires t)
     (down-add-end t)
     (down-add-place t)
-    (down-sub-bytes t)
-    (down-part-bytes-start t)
+    (λ c. search needs)
+    (λ c. search needs)
     (down-part-bytes-end t)
-    (down-sub-rest t)
-    (down-part-rest-start t)
-    (down-part-rest-end t)
+    (λ c. search needs)
+    (λ c. search needs)
+    (λ c. search needs)
     (down-down-requires t)
     (down-returns-3 t)

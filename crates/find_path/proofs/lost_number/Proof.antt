@@ -1,4 +1,4 @@
--- `find_path::lost_number` meets its contract. Assumes nothing.
+-- `find_path::lost_number` meets its contract.
 use borrow.Author.Tests.{eq-eqb, ne-eqb}
 use Rattle.find_path.specs.Descent.{lostAt}
 use Rattle.find_path.proofs.Seeks.{lost-none}
@@ -6,9 +6,6 @@ use borrow.Author.Needs.{needs}
 use Rattle.find_path.proofs.lost_number.Statement.{statement}
 use Rattle.find_path.proofs.lost_number.Tie as tie
 use Rattle.protocol.specs.Numbers.{pick}
-
-enum-told : tie.Need-enum-told
-enum-told c = search needs
 
 returns : tie.Need-returns
 returns c = lost-none _ _ (c .match .keys2)
@@ -22,4 +19,4 @@ unfolding lostAt pick
 returns-3 c = rw (c .before .enum-told .given .1, ne-eqb _ 1 (c .if1 .left))
 
 pub lost-number-spec : {M : Type 1} → statement M
-lost-number-spec = tie.close (tie.spec enum-told returns returns-2 returns-3)
+lost-number-spec = tie.close (tie.spec (λ c. search needs) returns returns-2 returns-3)

@@ -1,14 +1,8 @@
--- `find_path::refused_no` meets its contract. Assumes nothing.
+-- `find_path::refused_no` meets its contract.
 use Rattle.find_path.specs.Find.{refusedNo}
 use borrow.Author.Needs.{needs}
 use Rattle.find_path.proofs.refused_no.Statement.{statement}
 use Rattle.find_path.proofs.refused_no.Tie as tie
-
-enum-known-answer : tie.Need-enum-known-answer
-enum-known-answer c = search needs
-
-enum-told : tie.Need-enum-told
-enum-told c = search needs
 
 returns : tie.Need-returns
 unfolding refusedNo
@@ -19,4 +13,4 @@ unfolding refusedNo
 returns-2 c = rw (c .before .answer .given .1)
 
 pub refused-no-spec : {M : Type 1} → statement M
-refused-no-spec = tie.close (tie.spec enum-known-answer enum-told returns returns-2)
+refused-no-spec = tie.close (tie.spec (λ c. search needs) (λ c. search needs) returns returns-2)

@@ -1,14 +1,8 @@
--- `find_path::refused_place` meets its contract. Assumes nothing.
+-- `find_path::refused_place` meets its contract.
 use Rattle.find_path.specs.Find.{refusedPlace}
 use borrow.Author.Needs.{needs}
 use Rattle.find_path.proofs.refused_place.Statement.{statement}
 use Rattle.find_path.proofs.refused_place.Tie as tie
-
-enum-known-answer : tie.Need-enum-known-answer
-enum-known-answer c = search needs
-
-enum-told : tie.Need-enum-told
-enum-told c = search needs
 
 returns : tie.Need-returns
 unfolding refusedPlace
@@ -19,4 +13,4 @@ unfolding refusedPlace
 returns-2 c = rw (c .before .answer .given .1)
 
 pub refused-place-spec : {M : Type 1} → statement M
-refused-place-spec = tie.close (tie.spec enum-known-answer enum-told returns returns-2)
+refused-place-spec = tie.close (tie.spec (λ c. search needs) (λ c. search needs) returns returns-2)

@@ -5,21 +5,15 @@ use borrow.Author.Needs.{needs}
 use Rattle.message_layout.proofs.admits.Statement.{statement}
 use Rattle.message_layout.proofs.admits.Tie as tie
 
-part-of-requires : tie.Need-part-of-requires
-part-of-requires c κs = search needs
-
-width-of-requires : tie.Need-width-of-requires
-width-of-requires c κs = search needs
-
 uint-at-requires : tie.Need-uint-at-requires
 uint-at-requires c κs = let n = c .before .before .part-of .ensures .narrow (c .before .if1 .taken) in omega arith
 
-permitted-requires : tie.Need-permitted-requires
-permitted-requires c κs = search needs
-
 returns : tie.Need-returns
 returns c =
-    c .permitted .ensures ∙ values-at (c .before .before .before .before .before .before .args .code) _ (c .before .before .width-of .result) (c .before .before .before .before .before .before .args .at) _ _ (c .before .before .before .before .part-of .ensures) (c .before .before .width-of .ensures .width) (c .before .uint-at .ensures)
+    c .permitted .ensures
+    ∙ values-at (c .before .before .before .before .before .before .args .code) _ (c .before .before .width-of .result)
+    (c .before .before .before .before .before .before .args .at) _ _ (c .before .before .before .before .part-of .ensures)
+    (c .before .before .width-of .ensures .width) (c .before .uint-at .ensures)
 
 returns-2 : tie.Need-returns-2
 returns-2 c = values-none _ _ _ (c .before .part-of .ensures) (c .if1 .left)
@@ -28,9 +22,9 @@ pub admits-spec : {M : Type 1} → statement M
 admits-spec =
     tie.close
     (tie.spec
-    part-of-requires
-    width-of-requires
+    (λ c κs. search needs)
+    (λ c κs. search needs)
     uint-at-requires
-    permitted-requires
+    (λ c κs. search needs)
     returns
     returns-2)

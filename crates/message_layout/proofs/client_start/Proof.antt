@@ -1,4 +1,4 @@
--- `message_layout::client_start` meets its contract: a byte that is matched computes; of the others no test holds. Assumes nothing.
+-- `message_layout::client_start` meets its contract: a byte that is matched computes; of the others no test holds.
 use mathlib.Core.Path.{sym, ap}
 use borrow.Author.Tests.{ne-eqb}
 use Rattle.message_layout.specs.Tables.{clientStart}

@@ -17,28 +17,22 @@ abbrev μ-loop : tie.MeasureT-loop
 loop-holds : tie.Need-loop-holds Inv-loop μ-loop
 loop-holds c = (omega arith, omega arith, refl)
 
-array-read-wide : tie.Need-array-read-wide Inv-loop μ-loop
-array-read-wide c = search needs
-
-wide-requires : tie.Need-wide-requires Inv-loop μ-loop
-wide-requires c κs = search needs
-
 returns : tie.Need-returns Inv-loop μ-loop
 unfolding values
 returns c =
     let h : c .before .before .before .before .args .from < c .before .before .before .before .args .to = omega arith in
-    sym (permits-some _ _ h (c .before .before .before .before .pre .1) _ ∙ c .before .before .before .loop .inv .2 ∙ member-here (c .before .before .before .loop .i) _ (c .before .before .loop-test .taken) (c .before .before .before .before .pre .1) _ (sym (c .before .wide .ensures) ∙ c .if1 .taken))
-
-add-i : tie.Need-add-i Inv-loop μ-loop
-add-i c = search needs
-
-loop-less : tie.Need-loop-less Inv-loop μ-loop
-loop-less c = search needs
+    sym (permits-some _ _ h (c .before .before .before .before .pre .1) _
+    ∙ c .before .before .before .loop .inv .2
+    ∙ member-here (c .before .before .before .loop .i) _ (c .before .before .loop-test .taken) (c .before .before .before .before .pre .1) _ (sym (c .before .wide .ensures) ∙ c .if1 .taken))
 
 loop-again : tie.Need-loop-again Inv-loop μ-loop
 unfolding values
-loop-again c =
-    (omega arith, omega arith, c .before .before .before .loop .inv .2 ∙ member-next (c .before .before .before .loop .i) _ (c .before .before .loop-test .taken) (c .before .before .before .before .pre .1) _ (λ e. c .if1 .left (c .before .wide .ensures ∙ e)))
+loop-again c = (
+  omega arith,
+  omega arith,
+  c .before .before .before .loop .inv .2
+      ∙ member-next (c .before .before .before .loop .i) _ (c .before .before .loop-test .taken) (c .before .before .before .before .pre .1) _ (λ e. c .if1 .left (c .before .wide .ensures ∙ e)),
+)
 
 returns-2 : tie.Need-returns-2 Inv-loop μ-loop
 returns-2 c =
@@ -51,10 +45,10 @@ permitted-spec =
     Inv-loop
     μ-loop
     loop-holds
-    array-read-wide
-    wide-requires
+    (λ c. search needs)
+    (λ c κs. search needs)
     returns
-    add-i
-    loop-less
+    (λ c. search needs)
+    (λ c. search needs)
     loop-again
     returns-2)

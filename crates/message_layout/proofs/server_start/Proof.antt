@@ -1,4 +1,4 @@
--- `message_layout::server_start` meets its contract: a byte that is matched computes; of the others no test holds. Assumes nothing.
+-- `message_layout::server_start` meets its contract: a byte that is matched computes; of the others no test holds.
 use mathlib.Core.Path.{sym, ap}
 use borrow.Author.Tests.{ne-eqb}
 use Rattle.message_layout.specs.Tables.{serverStart}
@@ -40,7 +40,17 @@ returns-8 c = sym (ap serverStart (c .match .keys8))
 
 returns-9 : tie.Need-returns-9
 unfolding serverStart pick
-returns-9 c = simp (ne-eqb _ 0x45 (c .match .rest .0 .0 .0 .0 .0 .0 .0 .1), ne-eqb _ 0x4c (c .match .rest .0 .0 .0 .0 .0 .0 .1), ne-eqb _ 0x5a (c .match .rest .0 .0 .0 .0 .0 .1), ne-eqb _ 0x43 (c .match .rest .0 .0 .0 .0 .1), ne-eqb _ 0x54 (c .match .rest .0 .0 .0 .1), ne-eqb _ 0x73 (c .match .rest .0 .0 .1), ne-eqb _ 0x44 (c .match .rest .0 .1), ne-eqb _ 0x53 (c .match .rest .1))
+returns-9 c =
+    simp (
+      ne-eqb _ 0x45 (c .match .rest .0 .0 .0 .0 .0 .0 .0 .1),
+      ne-eqb _ 0x4c (c .match .rest .0 .0 .0 .0 .0 .0 .1),
+      ne-eqb _ 0x5a (c .match .rest .0 .0 .0 .0 .0 .1),
+      ne-eqb _ 0x43 (c .match .rest .0 .0 .0 .0 .1),
+      ne-eqb _ 0x54 (c .match .rest .0 .0 .0 .1),
+      ne-eqb _ 0x73 (c .match .rest .0 .0 .1),
+      ne-eqb _ 0x44 (c .match .rest .0 .1),
+      ne-eqb _ 0x53 (c .match .rest .1),
+    )
 
 pub server-start-spec : {M : Type 1} → statement M
 server-start-spec = tie.close (tie.spec returns returns-2 returns-3 returns-4 returns-5 returns-6 returns-7 returns-8 returns-9)

@@ -1,4 +1,4 @@
--- `message_layout::start_of` meets its contract: each return follows the tests of the definition. Assumes nothing.
+-- `message_layout::start_of` meets its contract: each return follows the tests of the definition.
 use Rattle.message_layout.specs.Tables.{startOf}
 use borrow.Author.Tests.{eq-eqb, ne-eqb}
 use borrow.Author.Needs.{needs}
@@ -6,15 +6,9 @@ use Rattle.message_layout.proofs.start_of.Statement.{statement}
 use Rattle.message_layout.proofs.start_of.Tie as tie
 use Rattle.protocol.specs.Numbers.{pick}
 
-server-start-requires : tie.Need-server-start-requires
-server-start-requires c κs = search needs
-
 returns : tie.Need-returns
 unfolding pick startOf
 returns c = simp (eq-eqb _ 1 (c .before .if1 .taken)) (c .server-start .ensures)
-
-client-start-requires : tie.Need-client-start-requires
-client-start-requires c κs = search needs
 
 returns-2 : tie.Need-returns-2
 unfolding pick startOf
@@ -26,4 +20,4 @@ returns-3 c = simp (ne-eqb _ 1 (c .before .if1 .left), ne-eqb _ 0 (c .if2 .left)
 
 pub start-of-spec : {M : Type 1} → statement M
 start-of-spec =
-    tie.close (tie.spec server-start-requires returns client-start-requires returns-2 returns-3)
+    tie.close (tie.spec (λ c κs. search needs) returns (λ c κs. search needs) returns-2 returns-3)

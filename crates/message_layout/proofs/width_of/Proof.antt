@@ -5,19 +5,10 @@ use borrow.Author.Needs.{needs}
 use Rattle.message_layout.proofs.width_of.Statement.{statement}
 use Rattle.message_layout.proofs.width_of.Tie as tie
 
-wide-requires : tie.Need-wide-requires
-wide-requires c κs = search needs
-
-array-read-wide : tie.Need-array-read-wide
-array-read-wide c = search needs
-
-wide-requires-2 : tie.Need-wide-requires-2
-wide-requires-2 c κs = search needs
-
 returns : tie.Need-returns
 unfolding widthOf widths
 returns c =
     width-sound (c .before .before .args .code) _ (c .before .before .pre) (c .wide2 .ensures ∙ ap widthOf (c .before .wide .ensures))
 
 pub width-of-spec : {M : Type 1} → statement M
-width-of-spec = tie.close (tie.spec wide-requires array-read-wide wide-requires-2 returns)
+width-of-spec = tie.close (tie.spec (λ c κs. search needs) (λ c. search needs) (λ c κs. search needs) returns)

@@ -1,4 +1,4 @@
--- `plan_check::no_type` meets its contract: each return follows the tests of the definition. Assumes nothing.
+-- `plan_check::no_type` meets its contract: each return follows the tests of the definition.
 use mathlib.Core.Path.{sym, _∙_}
 use borrow.Author.Tests.{eq-eqb, ne-eqb}
 use borrow.Author.Needs.{needs}
@@ -6,12 +6,6 @@ use Rattle.wire.proofs.Picks.{pick-yes, pick-no}
 use Rattle.plan_check.proofs.no_type.Statement.{statement}
 use Rattle.plan_check.proofs.no_type.Tie as tie
 use Rattle.protocol.specs.Plans.{noType}
-
-shared-slice-read-if2 : tie.Need-shared-slice-read-if2
-shared-slice-read-if2 c = search needs
-
-shared-slice-read-result : tie.Need-shared-slice-read-result
-shared-slice-read-result c = search needs
 
 returns : tie.Need-returns
 unfolding noType
@@ -29,4 +23,4 @@ returns-3 c = sym (pick-no _ _ _ (ne-eqb _ _ (c .if1 .left)))
 
 pub no-type-spec : {M : Type 1} → statement M
 no-type-spec =
-    tie.close (tie.spec shared-slice-read-if2 shared-slice-read-result returns returns-2 returns-3)
+    tie.close (tie.spec (λ c. search needs) (λ c. search needs) returns returns-2 returns-3)

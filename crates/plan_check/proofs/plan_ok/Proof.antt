@@ -1,4 +1,4 @@
--- `plan_check::plan_ok` meets its contract: each return follows the tests of the definition. Assumes nothing.
+-- `plan_check::plan_ok` meets its contract: each return follows the tests of the definition.
 use mathlib.Core.Path.{sym, _∙_}
 use native.Mathlib.Omega.{arith}
 use borrow.Author.Tests.{le-leb, lt-leb, eq-eqb, ne-eqb}
@@ -7,9 +7,6 @@ use Rattle.wire.proofs.Picks.{pick-yes, pick-no}
 use Rattle.plan_check.proofs.plan_ok.Statement.{statement}
 use Rattle.plan_check.proofs.plan_ok.Tie as tie
 use Rattle.protocol.specs.Plans.{planFormed}
-
-no-type-requires : tie.Need-no-type-requires
-no-type-requires c κs = search needs
 
 returns : tie.Need-returns
 unfolding planFormed
@@ -21,21 +18,12 @@ unfolding planFormed
 returns-2 c =
     sym (pick-no _ _ _ (sym (c .before .before .no-type .ensures) ∙ c .before .if1 .left) ∙ pick-no _ _ _ (lt-leb _ _ (c .if2 .taken)))
 
-shared-slice-read-wide : tie.Need-shared-slice-read-wide
-shared-slice-read-wide c = search needs
-
-wide-requires : tie.Need-wide-requires
-wide-requires c κs = search needs
-
 returns-3 : tie.Need-returns-3
 unfolding planFormed
 returns-3 c =
     sym (pick-no _ _ _
     (sym (c .before .before .before .before .before .no-type .ensures) ∙ c .before .before .before .before .if1 .left) ∙ pick-yes _ _ _
     (le-leb _ _ (c .before .before .before .if2 .left)) ∙ pick-no _ _ _ (ne-eqb _ _ (λ e. c .if3 .taken (c .before .wide .ensures ∙ e))))
-
-small-ok-requires : tie.Need-small-ok-requires
-small-ok-requires c κs = search needs
 
 returns-4 : tie.Need-returns-4
 unfolding planFormed
@@ -67,13 +55,13 @@ pub plan-ok-spec : {M : Type 1} → statement M
 plan-ok-spec =
     tie.close
     (tie.spec
-    no-type-requires
+    (λ c κs. search needs)
     returns
     returns-2
-    shared-slice-read-wide
-    wide-requires
+    (λ c. search needs)
+    (λ c κs. search needs)
     returns-3
-    small-ok-requires
+    (λ c κs. search needs)
     returns-4
     large-ok-requires
     returns-5)

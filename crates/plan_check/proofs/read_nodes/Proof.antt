@@ -1,5 +1,5 @@
--- `plan_check::read_nodes` meets its contract. The loop's invariant: what is left of the reading leads to the same end. The measure is what
--- is left of the plan. Assumes nothing.
+-- `plan_check::read_nodes` meets its contract. The loop's invariant: what is left
+-- of the reading leads to the same end. The measure is what is left of the plan.
 use mathlib.Core.Path.{_≡_, refl}
 use Prim.Native.Nat.{_-_, _+_}
 use native.Mathlib.Omega.{arith}
@@ -21,12 +21,6 @@ abbrev μ-loop : tie.MeasureT-loop
 loop-holds : tie.Need-loop-holds Inv-loop μ-loop
 loop-holds c =
     (going-start _ _ _ (omega (arith, c .before .before .before .pre)), refl, refl)
-
-same-length : tie.Need-same-length Inv-loop μ-loop
-same-length c = search needs
-
-same-length-2 : tie.Need-same-length-2 Inv-loop μ-loop
-same-length-2 c = search needs
 
 returns : tie.Need-returns Inv-loop μ-loop
 returns c =
@@ -51,12 +45,6 @@ add-if2 c =
       c .before .before .before .before .before .before .shared-slice-known .given (loop .at + 1),
     )
 
-same-length-3 : tie.Need-same-length-3 Inv-loop μ-loop
-same-length-3 c = search needs
-
-same-length-4 : tie.Need-same-length-4 Inv-loop μ-loop
-same-length-4 c = search needs
-
 returns-2 : tie.Need-returns-2 Inv-loop μ-loop
 returns-2 c =
     let loop = c .before .before .before .before .loop in
@@ -70,12 +58,6 @@ height-at-requires c κs = (
   rw (c .before .before .before .size-at .ensures) at
       (c .before .before .if2 .left),
 )
-
-same-length-5 : tie.Need-same-length-5 Inv-loop μ-loop
-same-length-5 c = search needs
-
-same-length-6 : tie.Need-same-length-6 Inv-loop μ-loop
-same-length-6 c = search needs
 
 returns-3 : tie.Need-returns-3 Inv-loop μ-loop
 returns-3 c =
@@ -178,12 +160,6 @@ loop-again c =
       simp length-set (loop .inv .2),
     )
 
-same-length-7 : tie.Need-same-length-7 Inv-loop μ-loop
-same-length-7 c = search needs
-
-same-length-8 : tie.Need-same-length-8 Inv-loop μ-loop
-same-length-8 c = search needs
-
 returns-4 : tie.Need-returns-4 Inv-loop μ-loop
 returns-4 c =
     let loop = c .before .loop in
@@ -197,17 +173,17 @@ read-nodes-spec =
     Inv-loop
     μ-loop
     loop-holds
-    same-length
-    same-length-2
+    (λ c. search needs)
+    (λ c. search needs)
     returns
     size-at-requires
     add-if2
-    same-length-3
-    same-length-4
+    (λ c. search needs)
+    (λ c. search needs)
     returns-2
     height-at-requires
-    same-length-5
-    same-length-6
+    (λ c. search needs)
+    (λ c. search needs)
     returns-3
     cast-starts
     mul-starts
@@ -217,6 +193,6 @@ read-nodes-spec =
     add-at
     loop-less
     loop-again
-    same-length-7
-    same-length-8
+    (λ c. search needs)
+    (λ c. search needs)
     returns-4)

@@ -1,5 +1,5 @@
--- `plan_heights::halve` meets its contract. The loop's invariant: what is looked for is neither below `lo` nor from `hi` on. The measure is
--- what is left between them. Assumes nothing.
+-- `plan_heights::halve` meets its contract. The loop's invariant: what is looked for
+-- is neither below `lo` nor from `hi` on. The measure is what is left between them.
 use Prim.Native.Nat.{_-_, _+_, _/_}
 use native.Mathlib.Omega.{arith}
 use borrow.Author.Needs.{needs}
@@ -15,12 +15,6 @@ abbrev μ-loop : tie.MeasureT-loop
 
 loop-holds : tie.Need-loop-holds Inv-loop μ-loop
 loop-holds c = halved-start _ _ _
-
-sub-mid : tie.Need-sub-mid Inv-loop μ-loop
-sub-mid c = search needs
-
-add-mid : tie.Need-add-mid Inv-loop μ-loop
-add-mid c = search needs
 
 mul-s : tie.Need-mul-s Inv-loop μ-loop
 mul-s c =
@@ -38,21 +32,12 @@ returns c =
     among-hit (start .args .starts .now) (start .args .n) (start .args .r) (start .pre) (loop .lo) (loop .hi) (loop .lo +
     (loop .hi - loop .lo) / 2) (loop .inv) (omega arith) (c .if1 .taken)
 
-add-lo : tie.Need-add-lo Inv-loop μ-loop
-add-lo c = search needs
-
-loop-less : tie.Need-loop-less Inv-loop μ-loop
-loop-less c = search needs
-
 loop-again : tie.Need-loop-again Inv-loop μ-loop
 loop-again c =
     let start = c .before .before .before .before .before in
     let loop = c .before .before .before .before .loop in
     halved-left (start .args .starts .now) (start .args .n) (start .args .r) (start .pre) (loop .lo) (loop .hi) (loop .lo +
     (loop .hi - loop .lo) / 2) (loop .inv) (omega arith) (c .if2 .taken)
-
-loop-less-2 : tie.Need-loop-less-2 Inv-loop μ-loop
-loop-less-2 c = search needs
 
 loop-again-2 : tie.Need-loop-again-2 Inv-loop μ-loop
 loop-again-2 c =
@@ -74,14 +59,14 @@ halve-spec =
     Inv-loop
     μ-loop
     loop-holds
-    sub-mid
-    add-mid
+    (λ c. search needs)
+    (λ c. search needs)
     mul-s
     shared-slice-read-s
     returns
-    add-lo
-    loop-less
+    (λ c. search needs)
+    (λ c. search needs)
     loop-again
-    loop-less-2
+    (λ c. search needs)
     loop-again-2
     returns-2)

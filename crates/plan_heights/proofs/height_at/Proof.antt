@@ -1,4 +1,4 @@
--- `plan_heights::height_at` meets its contract: a law for each kind. Assumes nothing.
+-- `plan_heights::height_at` meets its contract: a law for each kind.
 use mathlib.Core.Path.{_∙_}
 use Prim.Native.Nat.{_+_}
 use native.Mathlib.Omega.{arith}
@@ -10,9 +10,6 @@ use Rattle.plan_nodes.proofs.Nodes.{size-two}
 use Rattle.plan_heights.proofs.Cases.{height-enum, height-leaf, height-unknown, height-row, height-arrays, height-range, height-many}
 use Rattle.plan_heights.proofs.height_at.Statement.{statement}
 use Rattle.plan_heights.proofs.height_at.Tie as tie
-
-mul-kind : tie.Need-mul-kind
-mul-kind c = search needs
 
 shared-slice-read-kind : tie.Need-shared-slice-read-kind
 shared-slice-read-kind c =
@@ -30,12 +27,6 @@ returns c =
     height-enum (start .args .plan .now) (start .args .at) (knownOf (start .args .plan .now) (start .args .starts .now)
     (start .args .heights .now) (start .args .n)) (getD (start .args .plan .now) (start .args .at) 0) (getD (start .args .plan .now)
     (start .args .at + 1) 0) (c .if1 .taken)
-
-add-second : tie.Need-add-second
-add-second c = search needs
-
-mul-second : tie.Need-mul-second
-mul-second c = search needs
 
 shared-slice-read-second : tie.Need-shared-slice-read-second
 shared-slice-read-second c =
@@ -61,18 +52,12 @@ returns-3 c =
     (start .args .heights .now) (start .args .n)) (getD (start .args .plan .now) (start .args .at) 0) (getD (start .args .plan .now)
     (start .args .at + 1) 0) (c .before .if2 .taken) (c .if3 .left)
 
-refer-to-requires : tie.Need-refer-to-requires
-refer-to-requires c κs = search needs
-
 returns-4 : tie.Need-returns-4
 returns-4 c =
     let start = c .before .before .before .before .before .before .before .before .before in
     c .refer-to .ensures ∙ height-row (start .args .plan .now) (start .args .at) (knownOf (start .args .plan .now)
     (start .args .starts .now) (start .args .heights .now) (start .args .n)) (getD (start .args .plan .now) (start .args .at) 0) (getD
     (start .args .plan .now) (start .args .at + 1) 0) (c .before .if4 .taken)
-
-refer-to-requires-2 : tie.Need-refer-to-requires-2
-refer-to-requires-2 c κs = search needs
 
 returns-5 : tie.Need-returns-5
 returns-5 c =
@@ -81,18 +66,12 @@ returns-5 c =
     (start .args .starts .now) (start .args .heights .now) (start .args .n)) (getD (start .args .plan .now) (start .args .at) 0) (getD
     (start .args .plan .now) (start .args .at + 1) 0) (c .before .if5 .taken)
 
-refer-to-requires-3 : tie.Need-refer-to-requires-3
-refer-to-requires-3 c κs = search needs
-
 returns-6 : tie.Need-returns-6
 returns-6 c =
     let start = c .before .before .before .before .before .before .before .before .before .before .before in
     c .refer-to3 .ensures ∙ height-range (start .args .plan .now) (start .args .at) (knownOf (start .args .plan .now)
     (start .args .starts .now) (start .args .heights .now) (start .args .n)) (getD (start .args .plan .now) (start .args .at) 0) (getD
     (start .args .plan .now) (start .args .at + 1) 0) (c .before .if6 .taken)
-
-wide-requires : tie.Need-wide-requires
-wide-requires c κs = search needs
 
 many-height-requires : tie.Need-many-height-requires
 many-height-requires c κs =
@@ -112,20 +91,20 @@ pub height-at-spec : {M : Type 1} → statement M
 height-at-spec =
     tie.close
     (tie.spec
-    mul-kind
+    (λ c. search needs)
     shared-slice-read-kind
     returns
-    add-second
-    mul-second
+    (λ c. search needs)
+    (λ c. search needs)
     shared-slice-read-second
     returns-2
     returns-3
-    refer-to-requires
+    (λ c κs. search needs)
     returns-4
-    refer-to-requires-2
+    (λ c κs. search needs)
     returns-5
-    refer-to-requires-3
+    (λ c κs. search needs)
     returns-6
-    wide-requires
+    (λ c κs. search needs)
     many-height-requires
     returns-7)

@@ -1,4 +1,4 @@
--- `plan_heights::many_height` meets its contract: a law for each kind. Assumes nothing.
+-- `plan_heights::many_height` meets its contract: a law for each kind.
 use mathlib.Core.Path.{_∙_}
 use lib.ListN.{length}
 use Rattle.plan_heights.specs.Scan.{knownOf}

@@ -1,4 +1,4 @@
--- `plan_heights::may_refer` meets its contract: each return follows the tests of the definition. Assumes nothing.
+-- `plan_heights::may_refer` meets its contract: each return follows the tests of the definition.
 use mathlib.Core.Path.{sym, ap, _∙_}
 use mathlib.Core.Bool.{not}
 use borrow.Author.Tests.{eq-eqb, ne-eqb}

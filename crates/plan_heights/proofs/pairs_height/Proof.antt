@@ -1,5 +1,5 @@
 -- `plan_heights::pairs_height` meets its contract. The loop's invariant: the height after the references passed, which is not 0, and that
--- their cardinalities are of the five. The measure is what is left of the count. Assumes nothing.
+-- their cardinalities are of the five. The measure is what is left of the count.
 use mathlib.Core.Path.{_≡_, sym, _∙_}
 use mathlib.Core.Bool.{true}
 use Prim.Native.Nat.{_-_}
@@ -103,12 +103,6 @@ returns-2 c =
     (start .args .plan .now) (start .args .at)) (c .before .refer-to .result)
     (c .before .before .before .before .before .before .loop-test .taken) (c .before .refer-to .ensures) (c .if2 .taken)
 
-add-k : tie.Need-add-k Inv-loop μ-loop
-add-k c = search needs
-
-loop-less : tie.Need-loop-less Inv-loop μ-loop
-loop-less c = search needs
-
 loop-again : tie.Need-loop-again Inv-loop μ-loop
 unfolding pairRef pairCard
 loop-again c =
@@ -151,7 +145,7 @@ pairs-height-spec =
     shared-slice-read-refer-to
     refer-to-requires
     returns-2
-    add-k
-    loop-less
+    (λ c. search needs)
+    (λ c. search needs)
     loop-again
     returns-3)

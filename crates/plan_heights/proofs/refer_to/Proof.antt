@@ -1,4 +1,4 @@
--- `plan_heights::refer_to` meets its contract: a law for each return. Assumes nothing.
+-- `plan_heights::refer_to` meets its contract: a law for each return.
 use mathlib.Core.Path.{sym, _∙_}
 use native.Mathlib.Omega.{arith}
 use borrow.Author.Tests.{not-true, not-false}
@@ -26,9 +26,6 @@ shared-slice-read-wide : tie.Need-shared-slice-read-wide
 shared-slice-read-wide c =
     omega (arith, c .before .before .before .before .before .before .pre .0 .rising .room)
 
-wide-requires : tie.Need-wide-requires
-wide-requires c κs = search needs
-
 mul-may-refer : tie.Need-mul-may-refer
 mul-may-refer c =
     let start = c .before .before .before .before .before .before .before in
@@ -50,9 +47,6 @@ shared-slice-read-may-refer c =
       start .pre .0 .inside,
       c .before .wide .ensures,
     )
-
-may-refer-requires : tie.Need-may-refer-requires
-may-refer-requires c κs = search needs
 
 returns-2 : tie.Need-returns-2
 returns-2 c =
@@ -76,12 +70,6 @@ returns-3 c =
     (c .before .before .before .before .before .wide .result) (c .before .before .before .before .before .before .before .if1 .left)
     (c .before .before .before .before .before .wide .ensures) (sym (c .before .before .before .may-refer .ensures) ∙ not-false _
     (c .before .before .if2 .left)) (c .if3 .taken)
-
-add-if4 : tie.Need-add-if4
-add-if4 c = search needs
-
-add-result : tie.Need-add-result
-add-result c = search needs
 
 returns-4 : tie.Need-returns-4
 returns-4 c =
@@ -115,14 +103,14 @@ refer-to-spec =
     returns
     mul-wide
     shared-slice-read-wide
-    wide-requires
+    (λ c κs. search needs)
     mul-may-refer
     shared-slice-read-may-refer
-    may-refer-requires
+    (λ c κs. search needs)
     returns-2
     shared-slice-read-x
     returns-3
-    add-if4
-    add-result
+    (λ c. search needs)
+    (λ c. search needs)
     returns-4
     returns-5)

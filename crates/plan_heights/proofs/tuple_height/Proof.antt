@@ -1,5 +1,5 @@
--- `plan_heights::tuple_height` meets its contract. The loop's invariant: the height after the references passed, which is not 0. The measure
--- is what is left of the count. Assumes nothing.
+-- `plan_heights::tuple_height` meets its contract. The loop's invariant: the height
+-- after the references passed, which is not 0. The measure is what is left of the count.
 use Prim.Native.Nat.{_+_, _-_}
 use native.Mathlib.Omega.{arith}
 use lib.ListN.{getD}
@@ -52,12 +52,6 @@ returns c =
     (start .args .plan .now) (start .args .at + 2 + k) 0) (start .args .count) (loop .h) (loop .k) (loop .inv) (c .before .refer-to .result)
     (c .before .before .before .loop-test .taken) (c .before .refer-to .ensures) (c .if1 .taken)
 
-add-k : tie.Need-add-k Inv-loop μ-loop
-add-k c = search needs
-
-loop-less : tie.Need-loop-less Inv-loop μ-loop
-loop-less c = search needs
-
 loop-again : tie.Need-loop-again Inv-loop μ-loop
 loop-again c =
     let start = c .before .before .before .before .before .before .before .before in
@@ -86,7 +80,7 @@ tuple-height-spec =
     shared-slice-read-refer-to
     refer-to-requires
     returns
-    add-k
-    loop-less
+    (λ c. search needs)
+    (λ c. search needs)
     loop-again
     returns-2)

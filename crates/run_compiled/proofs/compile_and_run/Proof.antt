@@ -1,4 +1,4 @@
--- `run_compiled::compile_and_run` meets its contract. Assumes nothing.
+-- `run_compiled::compile_and_run` meets its contract.
 use native.Mathlib.Omega.{arith}
 use lib.ListN.{length-take}
 use Rattle.run_compiled.proofs.Follows.{written, follows-refused, follows-run}
@@ -6,59 +6,38 @@ use borrow.Author.Needs.{needs}
 use Rattle.run_compiled.proofs.compile_and_run.Statement.{statement}
 use Rattle.run_compiled.proofs.compile_and_run.Tie as tie
 
-compile-requires : tie.Need-compile-requires
-compile-requires c κs = search needs
-
-enum-known-no : tie.Need-enum-known-no
-enum-known-no c = search needs
-
-enum-known-words : tie.Need-enum-known-words
-enum-known-words c = search needs
-
-cast-n : tie.Need-cast-n
-cast-n c = search needs
-
 slice-reshare-prefix-run : tie.Need-slice-reshare-prefix-run
 slice-reshare-prefix-run c =
-    let w = written _ _ _ _ _ (c .before .before .before .before .before .compile .ensures) _ (c .before .words .given .1) in omega (arith, w .room, c .before .before .before .before .before .compile .kept .1 .1 .0)
+    let w = written _ _ _ _ _ (c .before .before .before .before .before .compile .ensures) _ (c .before .words .given .1) in
+    omega (arith, w .room, c .before .before .before .before .before .compile .kept .1 .1 .0)
 
 slice-aggregate-run : tie.Need-slice-aggregate-run
 slice-aggregate-run c =
-    let w = written _ _ _ _ _ (c .before .before .before .before .before .before .compile .ensures) _ (c .before .before .words .given .1) in simp length-take (omega (arith, w .room, c .before .before .before .before .before .before .compile .kept .1 .1 .0))
-
-run-requires : tie.Need-run-requires
-run-requires c κs = search needs
-
-same-length : tie.Need-same-length
-same-length c = search needs
+    let w = written _ _ _ _ _ (c .before .before .before .before .before .before .compile .ensures) _ (c .before .before .words .given .1) in
+    simp length-take (omega (arith, w .room, c .before .before .before .before .before .before .compile .kept .1 .1 .0))
 
 returns : tie.Need-returns
 returns c =
     follows-refused _ _ _ _ _ (c .before .before .before .before .before .compile .ensures) _ _ _ _ (c .before .no .given .1)
 
-same-length-2 : tie.Need-same-length-2
-same-length-2 c = search needs
-
-same-length-3 : tie.Need-same-length-3
-same-length-3 c = search needs
-
 returns-2 : tie.Need-returns-2
 returns-2 c =
-    follows-run _ _ _ _ _ (c .before .before .before .before .before .before .before .before .before .before .compile .ensures) _ (c .before .before .before .before .before .before .words .given .1) _ _ _ _ (c .before .before .run .ensures)
+    follows-run _ _ _ _ _ (c .before .before .before .before .before .before .before .before .before .before .compile .ensures) _
+    (c .before .before .before .before .before .before .words .given .1) _ _ _ _ (c .before .before .run .ensures)
 
 pub compile-and-run-spec : {M : Type 1} → statement M
 compile-and-run-spec =
     tie.close
     (tie.spec
-    compile-requires
-    enum-known-no
-    enum-known-words
-    cast-n
+    (λ c κs. search needs)
+    (λ c. search needs)
+    (λ c. search needs)
+    (λ c. search needs)
     slice-reshare-prefix-run
     slice-aggregate-run
-    run-requires
-    same-length
+    (λ c κs. search needs)
+    (λ c. search needs)
     returns
-    same-length-2
-    same-length-3
+    (λ c. search needs)
+    (λ c. search needs)
     returns-2)

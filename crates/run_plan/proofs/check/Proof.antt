@@ -1,4 +1,4 @@
--- `run_plan::check` meets its contract: the refusals before the value, and then its own rules, with one table or the other. Assumes nothing.
+-- `run_plan::check` meets its contract: the refusals before the value, and then its own rules, with one table or the other.
 use native.Mathlib.Omega.{arith}
 use Prim.Native.Nat.{ℕ}
 use lib.ListN.{length-take}
@@ -21,11 +21,15 @@ slice-aggregate-check-value c = simp length-take (omega (arith, c .before .befor
 
 check-value-requires : tie.Need-check-value-requires
 check-value-requires c κs =
-    let h = early-none _ _ _ (c .before .before .before .before .before .before .before .early-fault .ensures) (c .before .before .before .before .before .before .if1 .left) in (h .0, h .1, filled-memo _ _ _ _ (c .before .before .before .before .fill .ensures))
+    let h = early-none _ _ _ (c .before .before .before .before .before .before .before .early-fault .ensures) (c .before .before .before .before .before .before .if1 .left) in
+    (h .0, h .1, filled-memo _ _ _ _ (c .before .before .before .before .fill .ensures))
 
 returns-2 : tie.Need-returns-2
 returns-2 c =
-    check-rest _ _ _ _ (early-none _ _ _ (c .before .before .before .before .before .before .before .before .before .before .early-fault .ensures) (c .before .before .before .before .before .before .before .before .before .if1 .left) .2) _ (c .before .before .check-value .ensures)
+    check-rest _ _ _ _
+    (early-none _ _ _ (c .before .before .before .before .before .before .before .before .before .before .early-fault .ensures)
+    (c .before .before .before .before .before .before .before .before .before .if1 .left) .2) _
+    (c .before .before .check-value .ensures)
 
 check-many-requires : tie.Need-check-many-requires
 check-many-requires c κs =
@@ -33,7 +37,10 @@ check-many-requires c κs =
 
 returns-3 : tie.Need-returns-3
 returns-3 c =
-    check-rest _ _ _ _ (early-none _ _ _ (c .before .before .before .before .before .before .before .before .before .early-fault .ensures) (c .before .before .before .before .before .before .before .before .if1 .left) .2) _ (c .before .before .check-many .ensures)
+    check-rest _ _ _ _
+    (early-none _ _ _ (c .before .before .before .before .before .before .before .before .before .early-fault .ensures)
+    (c .before .before .before .before .before .before .before .before .if1 .left) .2) _
+    (c .before .before .check-many .ensures)
 
 pub check-spec : {M : Type 1} → statement M
 check-spec =

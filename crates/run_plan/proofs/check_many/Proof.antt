@@ -1,4 +1,4 @@
--- `run_plan::check_many` meets its contract: the table that was filled is right. Assumes nothing.
+-- `run_plan::check_many` meets its contract: the table that was filled is right.
 use lib.ListN.{length-take}
 use native.Mathlib.Omega.{arith}
 use Prim.Native.Nat.{ℕ}
@@ -16,8 +16,11 @@ slice-aggregate-check-value : tie.Need-slice-aggregate-check-value
 slice-aggregate-check-value c = simp length-take (omega (arith, c .before .before .fill .ensures .room))
 
 check-value-requires : tie.Need-check-value-requires
-check-value-requires c κs =
-    (c .before .before .before .before .before .before .before .before .pre .0, c .before .before .before .before .before .before .before .before .pre .1, filled-memo _ _ _ _ (c .before .before .before .fill .ensures))
+check-value-requires c κs = (
+  c .before .before .before .before .before .before .before .before .pre .0,
+  c .before .before .before .before .before .before .before .before .pre .1,
+  filled-memo _ _ _ _ (c .before .before .before .fill .ensures),
+)
 
 pub check-many-spec : {M : Type 1} → statement M
 check-many-spec =

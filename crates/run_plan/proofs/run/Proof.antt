@@ -1,4 +1,4 @@
--- `run_plan::run` meets its contract: the refusals before the value, and then both passes, with one table or the other. Assumes nothing.
+-- `run_plan::run` meets its contract: the refusals before the value, and then both passes, with one table or the other.
 use native.Mathlib.Omega.{arith}
 use Prim.Native.Nat.{ℕ}
 use lib.ListN.{length-take}
@@ -21,11 +21,15 @@ slice-aggregate-run-value c = simp length-take (omega (arith, c .before .before 
 
 run-value-requires : tie.Need-run-value-requires
 run-value-requires c κs =
-    let h = early-none _ _ _ (c .before .before .before .before .before .before .before .early-fault .ensures) (c .before .before .before .before .before .before .if1 .left) in (h .0, h .1, filled-memo _ _ _ _ (c .before .before .before .before .fill .ensures))
+    let h = early-none _ _ _ (c .before .before .before .before .before .before .before .early-fault .ensures) (c .before .before .before .before .before .before .if1 .left) in
+    (h .0, h .1, filled-memo _ _ _ _ (c .before .before .before .before .fill .ensures))
 
 returns-2 : tie.Need-returns-2
 returns-2 c =
-    run-rest _ _ _ _ _ (early-none _ _ _ (c .before .before .before .before .before .before .before .before .before .before .early-fault .ensures) (c .before .before .before .before .before .before .before .before .before .if1 .left) .2) _ (c .before .before .run-value .ensures)
+    run-rest _ _ _ _ _
+    (early-none _ _ _ (c .before .before .before .before .before .before .before .before .before .before .early-fault .ensures)
+    (c .before .before .before .before .before .before .before .before .before .if1 .left) .2) _
+    (c .before .before .run-value .ensures)
 
 run-many-requires : tie.Need-run-many-requires
 run-many-requires c κs =
@@ -33,7 +37,10 @@ run-many-requires c κs =
 
 returns-3 : tie.Need-returns-3
 returns-3 c =
-    run-rest _ _ _ _ _ (early-none _ _ _ (c .before .before .before .before .before .before .before .before .before .early-fault .ensures) (c .before .before .before .before .before .before .before .before .if1 .left) .2) _ (c .before .before .run-many .ensures)
+    run-rest _ _ _ _ _
+    (early-none _ _ _ (c .before .before .before .before .before .before .before .before .before .early-fault .ensures)
+    (c .before .before .before .before .before .before .before .before .if1 .left) .2) _
+    (c .before .before .run-many .ensures)
 
 pub run-spec : {M : Type 1} → statement M
 run-spec =

@@ -1,4 +1,4 @@
--- `run_plan::run_many` meets its contract: the table that was filled is right. Assumes nothing.
+-- `run_plan::run_many` meets its contract: the table that was filled is right.
 use native.Mathlib.Omega.{arith}
 use Prim.Native.Nat.{ℕ}
 use lib.ListN.{length-take}
@@ -16,8 +16,11 @@ slice-aggregate-run-value : tie.Need-slice-aggregate-run-value
 slice-aggregate-run-value c = simp length-take (omega (arith, c .before .before .fill .ensures .room))
 
 run-value-requires : tie.Need-run-value-requires
-run-value-requires c κs =
-    (c .before .before .before .before .before .before .before .before .pre .0, c .before .before .before .before .before .before .before .before .pre .1, filled-memo _ _ _ _ (c .before .before .before .fill .ensures))
+run-value-requires c κs = (
+  c .before .before .before .before .before .before .before .before .pre .0,
+  c .before .before .before .before .before .before .before .before .pre .1,
+  filled-memo _ _ _ _ (c .before .before .before .fill .ensures),
+)
 
 pub run-many-spec : {M : Type 1} → statement M
 run-many-spec =

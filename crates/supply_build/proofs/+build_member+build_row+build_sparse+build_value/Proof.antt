@@ -1,5 +1,5 @@
--- A value, its container's elements and one of them: the functions of the walk, which call each other. The node falls from a value to its
--- elements' values. Assumes nothing.
+-- A value, its container's elements and one of them: the functions of the walk,
+-- which call each other. The node falls from a value to its elements' values.
 use mathlib.Core.Path.{_≡_, refl, sym, ap, _∙_}
 use native.Mathlib.Omega.{arith}
 use Prim.Native.Nat.{_+_, _-_, _*_, _≤_, ℕ, _<_}
@@ -17,7 +17,8 @@ use Rattle.value_parts.proofs.Containers.{refers-inner}
 use Rattle.supply_entries.proofs.Heads.{size-few}
 use Rattle.supply_entries.proofs.Stands.{failed-is, done-is, stood}
 use Rattle.supply_entries.proofs.Parts.{member-absent, member-stop, member-go}
-use Rattle.supply_entries.proofs.Elements.{turn-short, turn-barred, turn-stop, turn-go, turn-unknown, done, lacks, as-many, some-left, none-left, one-fewer, same-index, new-index, gathers-start, gathers-next}
+use Rattle.supply_entries.proofs.Elements.{turn-short, turn-barred, turn-stop, turn-go, turn-unknown, done, lacks, as-many, some-left}
+use Rattle.supply_entries.proofs.Elements.{none-left, one-fewer, same-index, new-index, gathers-start, gathers-next}
 use Rattle.supply_entries.proofs.Values.{value-node, value-leaf, value-shut, value-sparse, value-row, opened-small, opened-holds, opened-first}
 use borrow.Author.Needs.{needs}
 use Prim.Native.Nat.{ℕ, _<_}
@@ -108,26 +109,61 @@ build-value-below t =
     and 5 build-value-kinds.ps (falls 5 build-value-kinds.ps _<_ μ-build-value t) build-value.Pre
 
 abbrev build-member-claims : ℕ → build-member-lts.Claims
-build-member-claims t =
-    (kind-at-reads.Asked, kind-at-reads.Learnt, ref-of-reads.Asked, ref-of-reads.Learnt, build-absent-reads.Asked, build-absent-reads.Learnt, head-size-reads.Asked, head-size-reads.Learnt, build-value-below t, build-value.Post, put-head-reads.Asked, put-head-reads.Learnt)
+build-member-claims t = (
+  kind-at-reads.Asked,
+  kind-at-reads.Learnt,
+  ref-of-reads.Asked,
+  ref-of-reads.Learnt,
+  build-absent-reads.Asked,
+  build-absent-reads.Learnt,
+  head-size-reads.Asked,
+  head-size-reads.Learnt,
+  build-value-below t,
+  build-value.Post,
+  put-head-reads.Asked,
+  put-head-reads.Learnt,
+)
 
 abbrev build-row-claims : ℕ → build-row-lts.Claims
 build-row-claims t =
     (kind-at-reads.Asked, kind-at-reads.Learnt, put-leaves-reads.Asked, put-leaves-reads.Learnt, next-entry-reads.Asked, next-entry-reads.Learnt, build-member-below t, build-member.Post)
 
 abbrev build-sparse-claims : ℕ → build-sparse-lts.Claims
-build-sparse-claims t =
-    (second-at-reads.Asked, second-at-reads.Learnt, known-entry-reads.Asked, known-entry-reads.Learnt, mark-reads.Asked, mark-reads.Learnt, count-given-reads.Asked, count-given-reads.Learnt, build-member-below t, build-member.Post, needed-of-reads.Asked, needed-of-reads.Learnt)
+build-sparse-claims t = (
+  second-at-reads.Asked,
+  second-at-reads.Learnt,
+  known-entry-reads.Asked,
+  known-entry-reads.Learnt,
+  mark-reads.Asked,
+  mark-reads.Learnt,
+  count-given-reads.Asked,
+  count-given-reads.Learnt,
+  build-member-below t,
+  build-member.Post,
+  needed-of-reads.Asked,
+  needed-of-reads.Learnt,
+)
 
 abbrev build-value-claims : ℕ → build-value-lts.Claims
-build-value-claims t =
-    (kind-at-reads.Asked, kind-at-reads.Learnt, is-leaf-reads.Asked, is-leaf-reads.Learnt, build-leaf-reads.Asked, build-leaf-reads.Learnt, put-front-reads.Asked, put-front-reads.Learnt, put-given-reads.Asked, put-given-reads.Learnt, build-sparse-below t, build-sparse.Post, build-row-below t, build-row.Post)
+build-value-claims t = (
+  kind-at-reads.Asked,
+  kind-at-reads.Learnt,
+  is-leaf-reads.Asked,
+  is-leaf-reads.Learnt,
+  build-leaf-reads.Asked,
+  build-leaf-reads.Learnt,
+  put-front-reads.Asked,
+  put-front-reads.Learnt,
+  put-given-reads.Asked,
+  put-given-reads.Learnt,
+  build-sparse-below t,
+  build-sparse.Post,
+  build-row-below t,
+  build-row.Post,
+)
 
 build-member-kind-at-requires : (t : ℕ) → build-member-lts.Need-kind-at-requires (build-member-claims t) (build-member-at t) build-member.Post
 build-member-kind-at-requires t c κs = c .before .before .before .before .before .pre .1 .0
-
-build-member-cast-ref-of : (t : ℕ) → build-member-lts.Need-cast-ref-of (build-member-claims t) (build-member-at t) build-member.Post
-build-member-cast-ref-of t c = search needs
 
 build-member-ref-of-requires : (t : ℕ) → build-member-lts.Need-ref-of-requires (build-member-claims t) (build-member-at t) build-member.Post
 build-member-ref-of-requires t c κs =
@@ -138,32 +174,51 @@ build-member-add-build-absent t c =
     omega (arith, c .before .before .before .before .before .before .before .before .before .before .pre .1 .3)
 
 build-member-build-absent-requires : (t : ℕ) → build-member-lts.Need-build-absent-requires (build-member-claims t) (build-member-at t) build-member.Post
-build-member-build-absent-requires t c κs =
-    (c .before .before .before .before .before .before .before .before .before .before .before .pre .1 .0, refers-inner _ _ _ _ (c .before .before .before .before .before .kind-at .ensures) (c .before .before .before .before .before .before .before .before .before .before .before .pre .1 .1), c .before .before .before .before .before .before .before .before .before .before .before .pre .1 .1, c .before .before .before .before .before .before .before .before .before .before .before .pre .1 .4)
+build-member-build-absent-requires t c κs = (
+  c .before .before .before .before .before .before .before .before .before .before .before .pre .1 .0,
+  refers-inner _ _ _ _ (c .before .before .before .before .before .kind-at .ensures) (c .before .before .before .before .before .before .before .before .before .before .before .pre .1 .1),
+  c .before .before .before .before .before .before .before .before .before .before .before .pre .1 .1,
+  c .before .before .before .before .before .before .before .before .before .before .before .pre .1 .4,
+)
 
 build-member-same-length : (t : ℕ) → build-member-lts.Need-same-length (build-member-claims t) (build-member-at t) build-member.Post
 build-member-same-length t c = c .before .before .build-absent .kept .1 .1 .1 .1 .1 .1 .0
 
 build-member-returns : (t : ℕ) → build-member-lts.Need-returns (build-member-claims t) (build-member-at t) build-member.Post
 build-member-returns t c =
-    c .before .before .build-absent .ensures _ ∙ member-absent _ _ _ (refers-inner _ _ _ _ (c .before .before .before .before .before .before .before .before .kind-at .ensures) (c .before .before .before .before .before .before .before .before .before .before .before .before .before .before .pre .1 .1)) _ _ _ _ _ (c .before .before .before .before .before .before .ref-of .ensures) _ _ (c .before .before .before .before .if1 .taken)
-
-build-member-head-size-requires : (t : ℕ) → build-member-lts.Need-head-size-requires (build-member-claims t) (build-member-at t) build-member.Post
-build-member-head-size-requires t c κs = search needs
+    c .before .before .build-absent .ensures _
+    ∙ member-absent _ _ _
+    (refers-inner _ _ _ _ (c .before .before .before .before .before .before .before .before .kind-at .ensures)
+    (c .before .before .before .before .before .before .before .before .before .before .before .before .before .before .pre .1 .1)) _ _
+    _ _ _ (c .before .before .before .before .before .before .ref-of .ensures) _ _ (c .before .before .before .before .if1 .taken)
 
 build-member-add-from : (t : ℕ) → build-member-lts.Need-add-from (build-member-claims t) (build-member-at t) build-member.Post
 build-member-add-from t c =
-    omega (arith, c .head-size .ensures, size-few (c .before .before .before .before .before .kind-at .result), c .before .before .before .before .before .before .before .before .before .before .before .pre .1 .4)
+    omega (
+      arith,
+      c .head-size .ensures,
+      size-few (c .before .before .before .before .before .kind-at .result),
+      c .before .before .before .before .before .before .before .before .before .before .before .pre .1 .4,
+    )
 
 build-member-build-value-requires : (t : ℕ) → build-member-lts.Need-build-value-requires (build-member-claims t) (build-member-at t) build-member.Post
 build-member-build-value-requires t c κs =
-    let r = at-ref _ _ _ _ (c .before .before .before .before .before .before .before .before .before .before .before .before .pre .1 .0) (c .before .before .before .before .ref-of .ensures) in (omega (arith, c .before .before .before .before .before .before .before .before .before .before .before .before .pre .0, r .1), (r .0, c .before .before .before .before .before .before .before .before .before .before .before .before .pre .1 .2, c .before .before .if1 .left, c .before .before .before .before .before .before .before .before .before .before .before .before .pre .1 .3, omega (arith, c .before .head-size .ensures, size-few (c .before .before .before .before .before .before .kind-at .result), c .before .before .before .before .before .before .before .before .before .before .before .before .pre .1 .4), c .before .before .before .before .before .before .before .before .before .before .before .before .pre .1 .5))
-
-build-member-enum-known-built : (t : ℕ) → build-member-lts.Need-enum-known-built (build-member-claims t) (build-member-at t) build-member.Post
-build-member-enum-known-built t c = search needs
-
-build-member-enum-told : (t : ℕ) → build-member-lts.Need-enum-told (build-member-claims t) (build-member-at t) build-member.Post
-build-member-enum-told t c = search needs
+    let r = at-ref _ _ _ _ (c .before .before .before .before .before .before .before .before .before .before .before .before .pre .1 .0) (c .before .before .before .before .ref-of .ensures) in (
+      omega (arith, c .before .before .before .before .before .before .before .before .before .before .before .before .pre .0, r .1),
+      (
+        r .0,
+        c .before .before .before .before .before .before .before .before .before .before .before .before .pre .1 .2,
+        c .before .before .if1 .left,
+        c .before .before .before .before .before .before .before .before .before .before .before .before .pre .1 .3,
+        omega (
+          arith,
+          c .before .head-size .ensures,
+          size-few (c .before .before .before .before .before .before .kind-at .result),
+          c .before .before .before .before .before .before .before .before .before .before .before .before .pre .1 .4,
+        ),
+        c .before .before .before .before .before .before .before .before .before .before .before .before .pre .1 .5,
+      ),
+    )
 
 build-member-same-length-2 : (t : ℕ) → build-member-lts.Need-same-length-2 (build-member-claims t) (build-member-at t) build-member.Post
 build-member-same-length-2 t c = c .before .before .before .before .build-value .kept .1 .1 .1 .1 .1 .1 .1 .0
@@ -171,7 +226,13 @@ build-member-same-length-2 t c = c .before .before .before .before .build-value 
 build-member-returns-2 : (t : ℕ) → build-member-lts.Need-returns-2 (build-member-claims t) (build-member-at t) build-member.Post
 unfolding standOf
 build-member-returns-2 t c =
-    member-stop _ _ _ (refers-inner _ _ _ _ (c .before .before .before .before .before .before .before .before .before .before .before .kind-at .ensures) (c .before .before .before .before .before .before .before .before .before .before .before .before .before .before .before .before .before .pre .1 .1)) _ _ _ _ _ (c .before .before .before .before .before .before .before .before .before .ref-of .ensures) _ _ (c .before .before .before .before .before .before .before .if1 .left) _ (c .before .before .before .before .before .before .head-size .ensures) (failed-is _ _ _ _ (c .before .before .before .before .build-value .ensures) (c .enum-told .given .1))
+    member-stop _ _ _
+    (refers-inner _ _ _ _ (c .before .before .before .before .before .before .before .before .before .before .before .kind-at .ensures)
+    (c .before .before .before .before .before .before .before .before .before .before .before .before .before .before .before .before .before .pre .1 .1))
+    _ _ _ _ _ (c .before .before .before .before .before .before .before .before .before .ref-of .ensures) _ _
+    (c .before .before .before .before .before .before .before .if1 .left) _
+    (c .before .before .before .before .before .before .head-size .ensures)
+    (failed-is _ _ _ _ (c .before .before .before .before .build-value .ensures) (c .enum-told .given .1))
 
 build-member-sub-put-head : (t : ℕ) → build-member-lts.Need-sub-put-head (build-member-claims t) (build-member-at t) build-member.Post
 build-member-sub-put-head t c =
@@ -183,7 +244,10 @@ build-member-cast-put-head t c =
 
 build-member-put-head-requires : (t : ℕ) → build-member-lts.Need-put-head-requires (build-member-claims t) (build-member-at t) build-member.Post
 build-member-put-head-requires t c κs =
-    let s = stood _ _ _ _ _ _ (done-is _ _ _ _ (c .before .before .before .before .before .before .build-value .ensures) _ _ (c .before .before .built .given .1)) in (omega (arith, c .before .before .before .before .before .before .before .before .before .before .before .before .before .before .before .before .before .before .before .pre .1 .4), λ e. omega (arith, s .small))
+    let s = stood _ _ _ _ _ _ (done-is _ _ _ _ (c .before .before .before .before .before .before .build-value .ensures) _ _ (c .before .before .built .given .1)) in (
+      omega (arith, c .before .before .before .before .before .before .before .before .before .before .before .before .before .before .before .before .before .before .before .pre .1 .4),
+      λ e. omega (arith, s .small),
+    )
 
 build-member-same-length-3 : (t : ℕ) → build-member-lts.Need-same-length-3 (build-member-claims t) (build-member-at t) build-member.Post
 build-member-same-length-3 t c =
@@ -192,11 +256,22 @@ build-member-same-length-3 t c =
 build-member-returns-3 : (t : ℕ) → build-member-lts.Need-returns-3 (build-member-claims t) (build-member-at t) build-member.Post
 unfolding standOf
 build-member-returns-3 t c =
-    member-go _ _ _ (refers-inner _ _ _ _ (c .before .before .before .before .before .before .before .before .before .before .before .before .before .before .before .before .kind-at .ensures) (c .before .before .before .before .before .before .before .before .before .before .before .before .before .before .before .before .before .before .before .before .before .before .pre .1 .1)) _ _ _ _ _ (c .before .before .before .before .before .before .before .before .before .before .before .before .before .before .ref-of .ensures) _ _ (c .before .before .before .before .before .before .before .before .before .before .before .before .if1 .left) _ (c .before .before .before .before .before .before .before .before .before .before .before .head-size .ensures) _ _ _ (done-is _ _ _ _ (c .before .before .before .before .before .before .before .before .before .build-value .ensures) _ _ (c .before .before .before .before .before .built .given .1)) _ (c .before .before .put-head .ensures)
+    member-go _ _ _
+    (refers-inner _ _ _ _
+    (c .before .before .before .before .before .before .before .before .before .before .before .before .before .before .before .before .kind-at .ensures)
+    (c .before .before .before .before .before .before .before .before .before .before .before .before .before .before .before .before .before .before .before .before .before .before .pre .1 .1))
+    _ _ _ _ _
+    (c .before .before .before .before .before .before .before .before .before .before .before .before .before .before .ref-of .ensures) _ _
+    (c .before .before .before .before .before .before .before .before .before .before .before .before .if1 .left) _
+    (c .before .before .before .before .before .before .before .before .before .before .before .head-size .ensures) _ _ _
+    (done-is _ _ _ _ (c .before .before .before .before .before .before .before .before .before .build-value .ensures) _ _ (c .before .before .before .before .before .built .given .1)) _
+    (c .before .before .put-head .ensures)
 
 abbrev build-row-Inv-loop : build-row-lts.InvT-loop
 build-row-Inv-loop plan needs node src list count first word out₀ at kind end row₀ out row =
-    (row .index ≤ end) × (row .at ≤ 65535) × (length out ≡ length out₀) × (put-at (elementsMade rowOrder (buildOf src (look plan)) (look plan node) (end - row₀ .index) (row₀ .index) (drop (row₀ .word) list)) (row₀ .at) out₀ ≡ put-at (elementsMade rowOrder (buildOf src (look plan)) (look plan node) (end - row .index) (row .index) (drop (row .word) list)) (row .at) out)
+    (row .index ≤ end) × (row .at ≤ 65535) × (length out ≡ length out₀)
+    × (put-at (elementsMade rowOrder (buildOf src (look plan)) (look plan node) (end - row₀ .index) (row₀ .index) (drop (row₀ .word) list)) (row₀ .at) out₀
+    ≡ put-at (elementsMade rowOrder (buildOf src (look plan)) (look plan node) (end - row .index) (row .index) (drop (row .word) list)) (row .at) out)
 
 abbrev build-row-μ-loop : build-row-lts.MeasureT-loop
 build-row-μ-loop plan needs node src list count first word out₀ at kind end row₀ out row = end - row .index
@@ -208,21 +283,18 @@ build-row-add-end : (t : ℕ) → build-row-lts.Need-add-end (build-row-claims t
 build-row-add-end t c = omega (arith, c .before .before .before .before .before .before .pre .1 .2)
 
 build-row-put-leaves-requires : (t : ℕ) → build-row-lts.Need-put-leaves-requires (build-row-claims t) (build-row-at t) build-row.Post build-row-Inv-loop build-row-μ-loop
-build-row-put-leaves-requires t c κs =
-    (c .before .before .before .before .before .before .before .pre .1 .0, c .before .kind-at .ensures, c .before .before .before .before .before .before .before .pre .1 .1, omega arith, omega (arith, c .before .before .before .before .before .before .before .pre .1 .2), c .before .before .before .before .before .before .before .pre .1 .3)
+build-row-put-leaves-requires t c κs = (
+  c .before .before .before .before .before .before .before .pre .1 .0,
+  c .before .kind-at .ensures,
+  c .before .before .before .before .before .before .before .pre .1 .1,
+  omega arith,
+  omega (arith, c .before .before .before .before .before .before .before .pre .1 .2),
+  c .before .before .before .before .before .before .before .pre .1 .3,
+)
 
 build-row-loop-holds : (t : ℕ) → build-row-lts.Need-loop-holds (build-row-claims t) (build-row-at t) build-row.Post build-row-Inv-loop build-row-μ-loop
 build-row-loop-holds t c =
     (c .before .before .put-leaves .ensures .1, c .before .before .put-leaves .ensures .2, refl, refl)
-
-build-row-next-entry-requires : (t : ℕ) → build-row-lts.Need-next-entry-requires (build-row-claims t) (build-row-at t) build-row.Post build-row-Inv-loop build-row-μ-loop
-build-row-next-entry-requires t c κs = search needs
-
-build-row-enum-known-entry : (t : ℕ) → build-row-lts.Need-enum-known-entry (build-row-claims t) (build-row-at t) build-row.Post build-row-Inv-loop build-row-μ-loop
-build-row-enum-known-entry t c = search needs
-
-build-row-enum-told : (t : ℕ) → build-row-lts.Need-enum-told (build-row-claims t) (build-row-at t) build-row.Post build-row-Inv-loop build-row-μ-loop
-build-row-enum-told t c = search needs
 
 build-row-same-length : (t : ℕ) → build-row-lts.Need-same-length (build-row-claims t) (build-row-at t) build-row.Post build-row-Inv-loop build-row-μ-loop
 build-row-same-length t c =
@@ -231,54 +303,141 @@ build-row-same-length t c =
 build-row-returns : (t : ℕ) → build-row-lts.Need-returns (build-row-claims t) (build-row-at t) build-row.Post build-row-Inv-loop build-row-μ-loop
 unfolding standOf
 build-row-returns t c =
-    turn-short rowOrder _ _ (c .before .before .before .before .before .loop .row .index) _ _ _ _ (some-left _ _ (c .before .before .before .if1 .taken)) (no-entry (c .before .before .before .before .before .before .before .before .before .before .before .before .before .before .before .before .args .list .now) (c .before .before .before .before .before .loop .row .word) _ (c .before .before .next-entry .ensures) (c .enum-told .given .1)) ∙ sym (as-many rowOrder _ _ (c .before .before .before .before .before .before .before .before .before .before .before .before .before .before .before .before .args .first) _ _ _ _ _ (add-sub-cancel-left (c .before .before .before .before .before .before .before .before .before .before .before .before .before .before .before .before .args .first) (c .before .before .before .before .before .before .before .before .before .before .before .before .before .before .before .before .args .count)) ∙ c .before .before .before .before .before .before .before .before .put-leaves .ensures .3 ∙ c .before .before .before .before .before .loop .inv .3)
-
-build-row-cast-if2 : (t : ℕ) → build-row-lts.Need-cast-if2 (build-row-claims t) (build-row-at t) build-row.Post build-row-Inv-loop build-row-μ-loop
-build-row-cast-if2 t c = search needs
+    turn-short rowOrder _ _ (c .before .before .before .before .before .loop .row .index) _ _ _ _
+    (some-left _ _ (c .before .before .before .if1 .taken))
+    (no-entry (c .before .before .before .before .before .before .before .before .before .before .before .before .before .before .before .before .args .list .now)
+    (c .before .before .before .before .before .loop .row .word) _ (c .before .before .next-entry .ensures) (c .enum-told .given .1))
+    ∙ sym (as-many rowOrder _ _
+    (c .before .before .before .before .before .before .before .before .before .before .before .before .before .before .before .before .args .first) _ _ _ _ _
+    (add-sub-cancel-left (c .before .before .before .before .before .before .before .before .before .before .before .before .before .before .before .before .args .first)
+    (c .before .before .before .before .before .before .before .before .before .before .before .before .before .before .before .before .args .count))
+    ∙ c .before .before .before .before .before .before .before .before .put-leaves .ensures .3
+    ∙ c .before .before .before .before .before .loop .inv .3)
 
 build-row-same-length-2 : (t : ℕ) → build-row-lts.Need-same-length-2 (build-row-claims t) (build-row-at t) build-row.Post build-row-Inv-loop build-row-μ-loop
 build-row-same-length-2 t c =
-    c .before .before .before .before .before .before .before .before .loop .inv .2 ∙ c .before .before .before .before .before .before .before .before .before .before .before .put-leaves .kept .1 .1 .1 .1 .1 .1 .1 .1 .0
+    c .before .before .before .before .before .before .before .before .loop .inv .2
+    ∙ c .before .before .before .before .before .before .before .before .before .before .before .put-leaves .kept .1 .1 .1 .1 .1 .1 .1 .1 .0
 
 build-row-returns-2 : (t : ℕ) → build-row-lts.Need-returns-2 (build-row-claims t) (build-row-at t) build-row.Post build-row-Inv-loop build-row-μ-loop
 unfolding standOf
 build-row-returns-2 t c =
-    turn-barred rowOrder _ _ (c .before .before .before .before .before .before .before .before .loop .row .index) _ _ _ _ (some-left _ _ (c .before .before .before .before .before .before .if1 .taken)) _ _ (entry-at (c .before .before .before .before .before .before .before .before .before .before .before .before .before .before .before .before .before .before .before .args .list .now) (c .before .before .before .before .before .before .before .before .loop .row .word) _ (c .before .before .before .before .before .next-entry .ensures) _ (c .before .before .before .entry .given .1)) (ne-eqb _ _ (λ e. c .if2 .taken (sym e))) ∙ sym (as-many rowOrder _ _ (c .before .before .before .before .before .before .before .before .before .before .before .before .before .before .before .before .before .before .before .args .first) _ _ _ _ _ (add-sub-cancel-left (c .before .before .before .before .before .before .before .before .before .before .before .before .before .before .before .before .before .before .before .args .first) (c .before .before .before .before .before .before .before .before .before .before .before .before .before .before .before .before .before .before .before .args .count)) ∙ c .before .before .before .before .before .before .before .before .before .before .before .put-leaves .ensures .3 ∙ c .before .before .before .before .before .before .before .before .loop .inv .3)
+    turn-barred rowOrder _ _ (c .before .before .before .before .before .before .before .before .loop .row .index) _ _ _ _
+    (some-left _ _ (c .before .before .before .before .before .before .if1 .taken)) _ _
+    (entry-at (c .before .before .before .before .before .before .before .before .before .before .before .before .before .before .before .before .before .before .before .args .list .now)
+    (c .before .before .before .before .before .before .before .before .loop .row .word) _
+    (c .before .before .before .before .before .next-entry .ensures) _ (c .before .before .before .entry .given .1))
+    (ne-eqb _ _ (λ e. c .if2 .taken (sym e)))
+    ∙ sym (as-many rowOrder _ _
+    (c .before .before .before .before .before .before .before .before .before .before .before .before .before .before .before .before .before .before .before .args .first) _ _ _ _ _
+    (add-sub-cancel-left (c .before .before .before .before .before .before .before .before .before .before .before .before .before .before .before .before .before .before .before .args .first)
+    (c .before .before .before .before .before .before .before .before .before .before .before .before .before .before .before .before .before .before .before .args .count))
+    ∙ c .before .before .before .before .before .before .before .before .before .before .before .put-leaves .ensures .3
+    ∙ c .before .before .before .before .before .before .before .before .loop .inv .3)
 
 build-row-build-member-requires : (t : ℕ) → build-row-lts.Need-build-member-requires (build-row-claims t) (build-row-at t) build-row.Post build-row-Inv-loop build-row-μ-loop
-build-row-build-member-requires t c κs =
-    (omega (arith, c .before .before .before .before .before .before .before .before .before .before .before .before .before .before .before .before .before .before .before .before .pre .0), (c .before .before .before .before .before .before .before .before .before .before .before .before .before .before .before .before .before .before .before .before .pre .1 .0, c .before .before .before .before .before .before .before .before .before .before .before .before .before .before .before .before .before .before .before .before .pre .1 .1 _ (omega (arith, c .before .if2 .left, c .before .before .before .before .before .before .before .if1 .taken)), entry-at (c .before .before .before .before .before .before .before .before .before .before .before .before .before .before .before .before .before .before .before .before .args .list .now) (c .before .before .before .before .before .before .before .before .before .loop .row .word) _ (c .before .before .before .before .before .before .next-entry .ensures) _ (c .before .before .before .before .entry .given .1), entry-inside (c .before .before .before .before .before .before .before .before .before .before .before .before .before .before .before .before .before .before .before .before .args .list .now) (c .before .before .before .before .before .before .before .before .before .loop .row .word) _ (c .before .before .before .before .before .before .next-entry .ensures) _ (c .before .before .before .before .entry .given .1), c .before .before .before .before .before .before .before .before .before .loop .inv .1, c .before .before .before .before .before .before .before .before .before .before .before .before .before .before .before .before .before .before .before .before .pre .1 .4))
-
-build-row-enum-known-built : (t : ℕ) → build-row-lts.Need-enum-known-built (build-row-claims t) (build-row-at t) build-row.Post build-row-Inv-loop build-row-μ-loop
-build-row-enum-known-built t c = search needs
-
-build-row-enum-told-2 : (t : ℕ) → build-row-lts.Need-enum-told-2 (build-row-claims t) (build-row-at t) build-row.Post build-row-Inv-loop build-row-μ-loop
-build-row-enum-told-2 t c = search needs
+build-row-build-member-requires t c κs = (
+  omega (arith, c .before .before .before .before .before .before .before .before .before .before .before .before .before .before .before .before .before .before .before .before .pre .0),
+  (
+    c .before .before .before .before .before .before .before .before .before .before .before .before .before .before .before .before .before .before .before .before .pre .1 .0,
+    c .before .before .before .before .before .before .before .before .before .before .before .before .before .before .before .before .before .before .before .before .pre .1 .1 _
+        (omega (arith, c .before .if2 .left, c .before .before .before .before .before .before .before .if1 .taken)),
+    entry-at (c .before .before .before .before .before .before .before .before .before .before .before .before .before .before .before .before .before .before .before .before .args .list .now)
+        (c .before .before .before .before .before .before .before .before .before .loop .row .word) _
+        (c .before .before .before .before .before .before .next-entry .ensures) _ (c .before .before .before .before .entry .given .1),
+    entry-inside (c .before .before .before .before .before .before .before .before .before .before .before .before .before .before .before .before .before .before .before .before .args .list .now)
+        (c .before .before .before .before .before .before .before .before .before .loop .row .word) _
+        (c .before .before .before .before .before .before .next-entry .ensures) _ (c .before .before .before .before .entry .given .1),
+    c .before .before .before .before .before .before .before .before .before .loop .inv .1,
+    c .before .before .before .before .before .before .before .before .before .before .before .before .before .before .before .before .before .before .before .before .pre .1 .4,
+  ),
+)
 
 build-row-same-length-3 : (t : ℕ) → build-row-lts.Need-same-length-3 (build-row-claims t) (build-row-at t) build-row.Post build-row-Inv-loop build-row-μ-loop
 build-row-same-length-3 t c =
-    c .before .before .before .before .build-member .kept .1 .1 .1 .1 .1 .1 .1 .0 ∙ c .before .before .before .before .before .before .before .before .before .before .before .before .before .before .loop .inv .2 ∙ c .before .before .before .before .before .before .before .before .before .before .before .before .before .before .before .before .before .put-leaves .kept .1 .1 .1 .1 .1 .1 .1 .1 .0
+    c .before .before .before .before .build-member .kept .1 .1 .1 .1 .1 .1 .1 .0
+    ∙ c .before .before .before .before .before .before .before .before .before .before .before .before .before .before .loop .inv .2
+    ∙ c .before .before .before .before .before .before .before .before .before .before .before .before .before .before .before .before .before .put-leaves .kept .1 .1 .1 .1 .1 .1 .1 .1 .0
 
 build-row-returns-3 : (t : ℕ) → build-row-lts.Need-returns-3 (build-row-claims t) (build-row-at t) build-row.Post build-row-Inv-loop build-row-μ-loop
 unfolding standOf
 build-row-returns-3 t c =
-    turn-stop rowOrder _ _ (c .before .before .before .before .before .before .before .before .before .before .before .before .before .before .loop .row .index) _ _ _ _ (some-left _ _ (c .before .before .before .before .before .before .before .before .before .before .before .before .if1 .taken)) _ _ (entry-at (c .before .before .before .before .before .before .before .before .before .before .before .before .before .before .before .before .before .before .before .before .before .before .before .before .before .args .list .now) (c .before .before .before .before .before .before .before .before .before .before .before .before .before .before .loop .row .word) _ (c .before .before .before .before .before .before .before .before .before .before .before .next-entry .ensures) _ (c .before .before .before .before .before .before .before .before .before .entry .given .1)) (eq-eqb _ _ (sym (c .before .before .before .before .before .before .if2 .left))) (failed-is _ _ _ _ (c .before .before .before .before .build-member .ensures) (c .enum-told2 .given .1)) ∙ sym (as-many rowOrder _ _ (c .before .before .before .before .before .before .before .before .before .before .before .before .before .before .before .before .before .before .before .before .before .before .before .before .before .args .first) _ _ _ _ _ (add-sub-cancel-left (c .before .before .before .before .before .before .before .before .before .before .before .before .before .before .before .before .before .before .before .before .before .before .before .before .before .args .first) (c .before .before .before .before .before .before .before .before .before .before .before .before .before .before .before .before .before .before .before .before .before .before .before .before .before .args .count)) ∙ c .before .before .before .before .before .before .before .before .before .before .before .before .before .before .before .before .before .put-leaves .ensures .3 ∙ c .before .before .before .before .before .before .before .before .before .before .before .before .before .before .loop .inv .3)
+    turn-stop rowOrder _ _
+    (c .before .before .before .before .before .before .before .before .before .before .before .before .before .before .loop .row .index) _ _ _ _
+    (some-left _ _ (c .before .before .before .before .before .before .before .before .before .before .before .before .if1 .taken)) _ _
+    (entry-at (c .before .before .before .before .before .before .before .before .before .before .before .before .before .before .before
+    .before .before .before .before .before .before .before .before .before .before .args .list .now)
+    (c .before .before .before .before .before .before .before .before .before .before .before .before .before .before .loop .row .word) _
+    (c .before .before .before .before .before .before .before .before .before .before .before .next-entry .ensures) _
+    (c .before .before .before .before .before .before .before .before .before .entry .given .1))
+    (eq-eqb _ _ (sym (c .before .before .before .before .before .before .if2 .left)))
+    (failed-is _ _ _ _ (c .before .before .before .before .build-member .ensures) (c .enum-told2 .given .1))
+    ∙ sym (as-many rowOrder _ _
+    (c .before .before .before .before .before .before .before .before .before .before .before .before .before .before .before .before
+    .before .before .before .before .before .before .before .before .before .args .first) _ _ _ _ _
+    (add-sub-cancel-left (c .before .before .before .before .before .before .before .before .before .before .before .before .before
+    .before .before .before .before .before .before .before .before .before .before .before .before .args .first)
+    (c .before .before .before .before .before .before .before .before .before .before .before .before .before .before .before .before
+    .before .before .before .before .before .before .before .before .before .args .count))
+    ∙ c .before .before .before .before .before .before .before .before .before .before .before .before .before .before .before .before .before .put-leaves .ensures .3
+    ∙ c .before .before .before .before .before .before .before .before .before .before .before .before .before .before .loop .inv .3)
 
 build-row-add-put-leaves : (t : ℕ) → build-row-lts.Need-add-put-leaves (build-row-claims t) (build-row-at t) build-row.Post build-row-Inv-loop build-row-μ-loop
 build-row-add-put-leaves t c =
-    omega (arith, c .before .before .before .before .before .before .before .before .before .before .before .before .before .if1 .taken, c .before .before .before .before .before .before .before .before .before .before .before .before .before .before .before .before .before .before .before .before .before .before .before .before .before .before .pre .1 .2)
+    omega (
+      arith,
+      c .before .before .before .before .before .before .before .before .before .before .before .before .before .if1 .taken,
+      c .before .before .before .before .before .before .before .before .before .before .before .before .before .before .before .before
+          .before .before .before .before .before .before .before .before .before .before .pre .1 .2,
+    )
 
 build-row-put-leaves-requires-2 : (t : ℕ) → build-row-lts.Need-put-leaves-requires-2 (build-row-claims t) (build-row-at t) build-row.Post build-row-Inv-loop build-row-μ-loop
 build-row-put-leaves-requires-2 t c κs =
-    let q = done-is _ _ _ _ (c .before .before .before .before .before .before .build-member .ensures) _ _ (c .before .before .built .given .1) in (c .before .before .before .before .before .before .before .before .before .before .before .before .before .before .before .before .before .before .before .before .before .before .before .before .before .before .before .pre .1 .0, c .before .before .before .before .before .before .before .before .before .before .before .before .before .before .before .before .before .before .before .before .before .kind-at .ensures, c .before .before .before .before .before .before .before .before .before .before .before .before .before .before .before .before .before .before .before .before .before .before .before .before .before .before .before .pre .1 .1, omega (arith, c .before .before .before .before .before .before .before .before .before .before .before .before .before .before .if1 .taken), omega (arith, c .before .before .before .before .before .before .before .before .before .before .before .before .before .before .before .before .before .before .before .before .before .before .before .before .before .before .before .pre .1 .2), stood _ _ _ _ _ _ q .small)
+    let q = done-is _ _ _ _ (c .before .before .before .before .before .before .build-member .ensures) _ _ (c .before .before .built .given .1) in (
+      c .before .before .before .before .before .before .before .before .before .before .before .before .before .before .before .before
+          .before .before .before .before .before .before .before .before .before .before .before .pre .1 .0,
+      c .before .before .before .before .before .before .before .before .before .before .before .before .before .before .before .before .before .before .before .before .before .kind-at .ensures,
+      c .before .before .before .before .before .before .before .before .before .before .before .before .before .before .before .before
+          .before .before .before .before .before .before .before .before .before .before .before .pre .1 .1,
+      omega (arith, c .before .before .before .before .before .before .before .before .before .before .before .before .before .before .if1 .taken),
+      omega (
+        arith,
+        c .before .before .before .before .before .before .before .before .before .before .before .before .before .before .before .before
+            .before .before .before .before .before .before .before .before .before .before .before .pre .1 .2,
+      ),
+      stood _ _ _ _ _ _ q .small,
+    )
 
 build-row-loop-less : (t : ℕ) → build-row-lts.Need-loop-less (build-row-claims t) (build-row-at t) build-row.Post build-row-Inv-loop build-row-μ-loop
 build-row-loop-less t c =
-    omega (arith, c .before .before .put-leaves2 .ensures .0, c .before .before .before .before .before .before .before .before .before .before .before .before .before .before .before .before .before .if1 .taken)
+    omega (
+      arith,
+      c .before .before .put-leaves2 .ensures .0,
+      c .before .before .before .before .before .before .before .before .before .before .before .before .before .before .before .before .before .if1 .taken,
+    )
 
 build-row-loop-again : (t : ℕ) → build-row-lts.Need-loop-again (build-row-claims t) (build-row-at t) build-row.Post build-row-Inv-loop build-row-μ-loop
 build-row-loop-again t c =
-    let q = done-is _ _ _ _ (c .before .before .before .before .before .before .before .before .before .build-member .ensures) _ _ (c .before .before .before .before .before .built .given .1) in (c .before .before .put-leaves2 .ensures .1, c .before .before .put-leaves2 .ensures .2, c .before .before .put-leaves2 .kept .1 .1 .1 .1 .1 .1 .1 .1 .0 ∙ c .before .before .before .before .before .before .before .before .before .build-member .kept .1 .1 .1 .1 .1 .1 .1 .0 ∙ c .before .before .before .before .before .before .before .before .before .before .before .before .before .before .before .before .before .before .before .loop .inv .2, c .before .before .before .before .before .before .before .before .before .before .before .before .before .before .before .before .before .before .before .loop .inv .3 ∙ turn-go rowOrder _ _ (c .before .before .before .before .before .before .before .before .before .before .before .before .before .before .before .before .before .before .before .loop .row .index) _ _ _ _ (some-left _ _ (c .before .before .before .before .before .before .before .before .before .before .before .before .before .before .before .before .before .if1 .taken)) _ _ (entry-at (c .before .before .before .before .before .before .before .before .before .before .before .before .before .before .before .before .before .before .before .before .before .before .before .before .before .before .before .before .before .before .args .list .now) (c .before .before .before .before .before .before .before .before .before .before .before .before .before .before .before .before .before .before .before .loop .row .word) _ (c .before .before .before .before .before .before .before .before .before .before .before .before .before .before .before .before .next-entry .ensures) _ (c .before .before .before .before .before .before .before .before .before .before .before .before .before .before .entry .given .1)) (eq-eqb _ _ (sym (c .before .before .before .before .before .before .before .before .before .before .before .if2 .left))) _ _ _ q _ refl _ (one-fewer _ _) ∙ c .before .before .put-leaves2 .ensures .3)
+    let q = done-is _ _ _ _ (c .before .before .before .before .before .before .before .before .before .build-member .ensures) _ _ (c .before .before .before .before .before .built .given .1) in (
+      c .before .before .put-leaves2 .ensures .1,
+      c .before .before .put-leaves2 .ensures .2,
+      c .before .before .put-leaves2 .kept .1 .1 .1 .1 .1 .1 .1 .1 .0
+          ∙ c .before .before .before .before .before .before .before .before .before .build-member .kept .1 .1 .1 .1 .1 .1 .1 .0
+          ∙ c .before .before .before .before .before .before .before .before .before .before .before .before .before .before .before .before .before .before .before .loop .inv .2,
+      c .before .before .before .before .before .before .before .before .before .before .before .before .before .before .before .before .before .before .before .loop .inv .3
+          ∙ turn-go rowOrder _ _
+          (c .before .before .before .before .before .before .before .before .before .before .before .before .before .before .before .before .before .before .before .loop .row .index) _ _ _ _
+          (some-left _ _ (c .before .before .before .before .before .before .before .before .before .before .before .before .before .before .before .before .before .if1 .taken)) _ _
+          (entry-at (c .before .before .before .before .before .before .before .before .before .before .before .before .before .before
+          .before .before .before .before .before .before .before .before .before .before .before .before .before .before .before .before
+          .args .list .now)
+          (c .before .before .before .before .before .before .before .before .before .before .before .before .before .before .before .before .before .before .before .loop .row .word) _
+          (c .before .before .before .before .before .before .before .before .before .before .before .before .before .before .before .before .next-entry .ensures) _
+          (c .before .before .before .before .before .before .before .before .before .before .before .before .before .before .entry .given .1))
+          (eq-eqb _ _ (sym (c .before .before .before .before .before .before .before .before .before .before .before .if2 .left))) _ _ _ q _
+          refl _ (one-fewer _ _)
+          ∙ c .before .before .put-leaves2 .ensures .3,
+    )
 
 build-row-same-length-4 : (t : ℕ) → build-row-lts.Need-same-length-4 (build-row-claims t) (build-row-at t) build-row.Post build-row-Inv-loop build-row-μ-loop
 build-row-same-length-4 t c =
@@ -287,7 +446,13 @@ build-row-same-length-4 t c =
 build-row-returns-4 : (t : ℕ) → build-row-lts.Need-returns-4 (build-row-claims t) (build-row-at t) build-row.Post build-row-Inv-loop build-row-μ-loop
 unfolding standOf
 build-row-returns-4 t c =
-    done rowOrder _ _ (c .before .before .loop .row .index) _ _ _ _ (none-left _ _ (c .if1 .left)) refl (c .before .before .loop .inv .1) ∙ sym (as-many rowOrder _ _ (c .before .before .before .before .before .before .before .before .before .before .before .before .before .args .first) _ _ _ _ _ (add-sub-cancel-left (c .before .before .before .before .before .before .before .before .before .before .before .before .before .args .first) (c .before .before .before .before .before .before .before .before .before .before .before .before .before .args .count)) ∙ c .before .before .before .before .before .put-leaves .ensures .3 ∙ c .before .before .loop .inv .3)
+    done rowOrder _ _ (c .before .before .loop .row .index) _ _ _ _ (none-left _ _ (c .if1 .left)) refl (c .before .before .loop .inv .1)
+    ∙ sym (as-many rowOrder _ _
+    (c .before .before .before .before .before .before .before .before .before .before .before .before .before .args .first) _ _ _ _ _
+    (add-sub-cancel-left (c .before .before .before .before .before .before .before .before .before .before .before .before .before .args .first)
+    (c .before .before .before .before .before .before .before .before .before .before .before .before .before .args .count))
+    ∙ c .before .before .before .before .before .put-leaves .ensures .3
+    ∙ c .before .before .loop .inv .3)
 
 abbrev build-sparse-Inv-loop : build-sparse-lts.InvT-loop
 build-sparse-Inv-loop plan needs node src list out₀ n seen₀ given₀ word₀ at₀ counter₀ end out seen given word at counter =
@@ -304,29 +469,31 @@ build-sparse-loop-holds : (t : ℕ) → build-sparse-lts.Need-loop-holds (build-
 build-sparse-loop-holds t c =
     (refl, rw sub-zero (gathers-start _ _ _ _ _ _ _ _ _ (c .before .before .before .before .before .before .before .pre .1 .2) (c .before .before .before .before .before .before .before .pre .1 .4)))
 
-build-sparse-known-entry-requires : (t : ℕ) → build-sparse-lts.Need-known-entry-requires (build-sparse-claims t) (build-sparse-at t) build-sparse.Post build-sparse-Inv-loop build-sparse-μ-loop
-build-sparse-known-entry-requires t c κs = search needs
-
-build-sparse-enum-known-entry : (t : ℕ) → build-sparse-lts.Need-enum-known-entry (build-sparse-claims t) (build-sparse-at t) build-sparse.Post build-sparse-Inv-loop build-sparse-μ-loop
-build-sparse-enum-known-entry t c = search needs
-
-build-sparse-enum-told : (t : ℕ) → build-sparse-lts.Need-enum-told (build-sparse-claims t) (build-sparse-at t) build-sparse.Post build-sparse-Inv-loop build-sparse-μ-loop
-build-sparse-enum-told t c = search needs
-
 build-sparse-same-length : (t : ℕ) → build-sparse-lts.Need-same-length (build-sparse-claims t) (build-sparse-at t) build-sparse.Post build-sparse-Inv-loop build-sparse-μ-loop
 build-sparse-same-length t c = c .before .before .before .before .loop .inv .0
 
 build-sparse-returns : (t : ℕ) → build-sparse-lts.Need-returns (build-sparse-claims t) (build-sparse-at t) build-sparse.Post build-sparse-Inv-loop build-sparse-μ-loop
 unfolding standOf
 build-sparse-returns t c =
-    turn-unknown (c .before .before .before .before .before .before .before .before .before .before .before .before .args .plan .now) (c .before .before .before .before .before .before .before .before .before .before .before .before .args .node) _ _ (c .before .before .before .before .loop .seen .marks) _ _ _ _ _ (some-left _ _ (c .before .before .before .loop-test .taken)) (c .before .before .before .before .before .before .second-at .ensures) _ (c .before .before .known-entry .ensures) (c .enum-told .given .1) ∙ sym (c .before .before .before .before .loop .inv .1 .leads)
-
-build-sparse-cast-i : (t : ℕ) → build-sparse-lts.Need-cast-i (build-sparse-claims t) (build-sparse-at t) build-sparse.Post build-sparse-Inv-loop build-sparse-μ-loop
-build-sparse-cast-i t c = search needs
+    turn-unknown (c .before .before .before .before .before .before .before .before .before .before .before .before .args .plan .now)
+    (c .before .before .before .before .before .before .before .before .before .before .before .before .args .node) _ _
+    (c .before .before .before .before .loop .seen .marks) _ _ _ _ _ (some-left _ _ (c .before .before .before .loop-test .taken))
+    (c .before .before .before .before .before .before .second-at .ensures) _ (c .before .before .known-entry .ensures)
+    (c .enum-told .given .1)
+    ∙ sym (c .before .before .before .before .loop .inv .1 .leads)
 
 build-sparse-mark-requires : (t : ℕ) → build-sparse-lts.Need-mark-requires (build-sparse-claims t) (build-sparse-at t) build-sparse.Post build-sparse-Inv-loop build-sparse-μ-loop
 build-sparse-mark-requires t c κs =
-    let k = known-is _ _ _ _ (c .before .before .before .before .known-entry .ensures) (c .before .before .entry .given .1) in omega (arith, k .1, c .before .before .before .before .before .before .before .before .second-at .ensures, at-few _ _ (c .before .before .before .before .before .before .before .before .before .before .before .before .before .before .pre .1 .0) (omega (arith, c .before .before .before .before .before .before .before .before .before .before .before .before .before .before .pre .1 .1)) (omega (arith, c .before .before .before .before .before .before .before .before .before .before .before .before .before .before .pre .1 .1)))
+    let k = known-is _ _ _ _ (c .before .before .before .before .known-entry .ensures) (c .before .before .entry .given .1) in
+    omega (
+      arith,
+      k .1,
+      c .before .before .before .before .before .before .before .before .second-at .ensures,
+      at-few _ _
+          (c .before .before .before .before .before .before .before .before .before .before .before .before .before .before .pre .1 .0)
+          (omega (arith, c .before .before .before .before .before .before .before .before .before .before .before .before .before .before .pre .1 .1))
+          (omega (arith, c .before .before .before .before .before .before .before .before .before .before .before .before .before .before .pre .1 .1)),
+    )
 
 build-sparse-same-length-2 : (t : ℕ) → build-sparse-lts.Need-same-length-2 (build-sparse-claims t) (build-sparse-at t) build-sparse.Post build-sparse-Inv-loop build-sparse-μ-loop
 build-sparse-same-length-2 t c = c .before .before .before .before .before .before .before .before .loop .inv .0
@@ -334,45 +501,140 @@ build-sparse-same-length-2 t c = c .before .before .before .before .before .befo
 build-sparse-returns-2 : (t : ℕ) → build-sparse-lts.Need-returns-2 (build-sparse-claims t) (build-sparse-at t) build-sparse.Post build-sparse-Inv-loop build-sparse-μ-loop
 unfolding standOf
 build-sparse-returns-2 t c =
-    let k = known-is _ _ _ _ (c .before .before .before .before .before .before .known-entry .ensures) (c .before .before .before .before .entry .given .1) in turn-barred (sparseOrder (cardsAt (c .before .before .before .before .before .before .before .before .before .before .before .before .before .before .before .before .args .plan .now) (c .before .before .before .before .before .before .before .before .before .before .before .before .before .before .before .before .args .node))) _ _ (c .before .before .before .before .before .before .before .before .loop .seen .marks) _ _ _ _ (some-left _ _ (c .before .before .before .before .before .before .before .loop-test .taken)) _ _ (entry-at (c .before .before .before .before .before .before .before .before .before .before .before .before .before .before .before .before .args .list .now) (c .before .before .before .before .before .before .before .before .loop .word) _ (k .0) _ (c .before .before .before .before .entry .given .1)) (same-index (c .before .before .before .before .before .before .before .before .before .before .before .before .before .before .before .before .args .plan .now) (c .before .before .before .before .before .before .before .before .before .before .before .before .before .before .before .before .args .node) (c .before .before .before .before .before .before .before .before .loop .seen .marks) _ _ (c .before .before .before .before .before .before .before .before .before .before .second-at .ensures) (k .1) (sym (c .before .mark .ensures .0) ∙ c .if1 .taken)) ∙ sym (c .before .before .before .before .before .before .before .before .loop .inv .1 .leads)
+    let k = known-is _ _ _ _ (c .before .before .before .before .before .before .known-entry .ensures) (c .before .before .before .before .entry .given .1) in
+    turn-barred (sparseOrder (cardsAt (c .before .before .before .before .before .before .before .before .before .before .before .before .before .before .before .before .args .plan .now)
+    (c .before .before .before .before .before .before .before .before .before .before .before .before .before .before .before .before .args .node)))
+    _ _ (c .before .before .before .before .before .before .before .before .loop .seen .marks) _ _ _ _
+    (some-left _ _ (c .before .before .before .before .before .before .before .loop-test .taken)) _ _
+    (entry-at (c .before .before .before .before .before .before .before .before .before .before .before .before .before .before .before .before .args .list .now)
+    (c .before .before .before .before .before .before .before .before .loop .word) _ (k .0) _
+    (c .before .before .before .before .entry .given .1))
+    (same-index (c .before .before .before .before .before .before .before .before .before .before .before .before .before .before .before .before .args .plan .now)
+    (c .before .before .before .before .before .before .before .before .before .before .before .before .before .before .before .before .args .node)
+    (c .before .before .before .before .before .before .before .before .loop .seen .marks) _ _
+    (c .before .before .before .before .before .before .before .before .before .before .second-at .ensures) (k .1)
+    (sym (c .before .mark .ensures .0) ∙ c .if1 .taken))
+    ∙ sym (c .before .before .before .before .before .before .before .before .loop .inv .1 .leads)
 
 build-sparse-count-given-requires : (t : ℕ) → build-sparse-lts.Need-count-given-requires (build-sparse-claims t) (build-sparse-at t) build-sparse.Post build-sparse-Inv-loop build-sparse-μ-loop
 build-sparse-count-given-requires t c κs =
-    let k = known-is _ _ _ _ (c .before .before .before .before .before .before .known-entry .ensures) (c .before .before .before .before .entry .given .1) in (c .before .before .before .before .before .before .before .before .before .before .before .before .before .before .before .before .pre .1 .0, c .before .before .before .before .before .before .before .before .before .before .before .before .before .before .before .before .pre .1 .1, omega (arith, k .1, c .before .before .before .before .before .before .before .before .before .before .second-at .ensures), counted-few _ _ _ _ (c .before .before .before .before .before .before .before .before .loop .inv .1 .counted) (c .before .before .before .before .before .before .before .before .before .before .before .before .before .before .before .before .pre .1 .0) (c .before .before .before .before .before .before .before .before .before .before .before .before .before .before .before .before .pre .1 .1))
+    let k = known-is _ _ _ _ (c .before .before .before .before .before .before .known-entry .ensures) (c .before .before .before .before .entry .given .1) in (
+      c .before .before .before .before .before .before .before .before .before .before .before .before .before .before .before .before .pre .1 .0,
+      c .before .before .before .before .before .before .before .before .before .before .before .before .before .before .before .before .pre .1 .1,
+      omega (arith, k .1, c .before .before .before .before .before .before .before .before .before .before .second-at .ensures),
+      counted-few _ _ _ _ (c .before .before .before .before .before .before .before .before .loop .inv .1 .counted)
+          (c .before .before .before .before .before .before .before .before .before .before .before .before .before .before .before .before .pre .1 .0)
+          (c .before .before .before .before .before .before .before .before .before .before .before .before .before .before .before .before .pre .1 .1),
+    )
 
 build-sparse-build-member-requires : (t : ℕ) → build-sparse-lts.Need-build-member-requires (build-sparse-claims t) (build-sparse-at t) build-sparse.Post build-sparse-Inv-loop build-sparse-μ-loop
 build-sparse-build-member-requires t c κs =
-    let k = known-is _ _ _ _ (c .before .before .before .before .before .before .before .before .known-entry .ensures) (c .before .before .before .before .before .before .entry .given .1) in (omega (arith, c .before .before .before .before .before .before .before .before .before .before .before .before .before .before .before .before .before .before .pre .0), (c .before .before .before .before .before .before .before .before .before .before .before .before .before .before .before .before .before .before .pre .1 .0, sparse-holds _ _ (c .before .before .before .before .before .before .before .before .before .before .before .before .before .before .before .before .before .before .pre .1 .0) (c .before .before .before .before .before .before .before .before .before .before .before .before .before .before .before .before .before .before .pre .1 .1) _ (omega (arith, k .1, c .before .before .before .before .before .before .before .before .before .before .before .before .second-at .ensures, cards-length (c .before .before .before .before .before .before .before .before .before .before .before .before .before .before .before .before .before .before .args .plan .now) (c .before .before .before .before .before .before .before .before .before .before .before .before .before .before .before .before .before .before .args .node))), entry-at (c .before .before .before .before .before .before .before .before .before .before .before .before .before .before .before .before .before .before .args .list .now) (c .before .before .before .before .before .before .before .before .before .before .loop .word) _ (k .0) _ (c .before .before .before .before .before .before .entry .given .1), entry-inside (c .before .before .before .before .before .before .before .before .before .before .before .before .before .before .before .before .before .before .args .list .now) (c .before .before .before .before .before .before .before .before .before .before .loop .word) _ (k .0) _ (c .before .before .before .before .before .before .entry .given .1), c .before .before .before .before .before .before .before .before .before .before .loop .inv .1 .small, c .before .before .before .before .before .before .before .before .before .before .before .before .before .before .before .before .before .before .pre .1 .3))
-
-build-sparse-enum-known-built : (t : ℕ) → build-sparse-lts.Need-enum-known-built (build-sparse-claims t) (build-sparse-at t) build-sparse.Post build-sparse-Inv-loop build-sparse-μ-loop
-build-sparse-enum-known-built t c = search needs
-
-build-sparse-enum-told-2 : (t : ℕ) → build-sparse-lts.Need-enum-told-2 (build-sparse-claims t) (build-sparse-at t) build-sparse.Post build-sparse-Inv-loop build-sparse-μ-loop
-build-sparse-enum-told-2 t c = search needs
+    let k = known-is _ _ _ _ (c .before .before .before .before .before .before .before .before .known-entry .ensures) (c .before .before .before .before .before .before .entry .given .1) in (
+      omega (arith, c .before .before .before .before .before .before .before .before .before .before .before .before .before .before .before .before .before .before .pre .0),
+      (
+        c .before .before .before .before .before .before .before .before .before .before .before .before .before .before .before .before .before .before .pre .1 .0,
+        sparse-holds _ _
+            (c .before .before .before .before .before .before .before .before .before .before .before .before .before .before .before .before .before .before .pre .1 .0)
+            (c .before .before .before .before .before .before .before .before .before .before .before .before .before .before .before .before .before .before .pre .1 .1) _
+            (omega (
+              arith,
+              k .1,
+              c .before .before .before .before .before .before .before .before .before .before .before .before .second-at .ensures,
+              cards-length (c .before .before .before .before .before .before .before .before .before .before .before .before .before .before .before .before .before .before .args .plan .now)
+                  (c .before .before .before .before .before .before .before .before .before .before .before .before .before .before .before .before .before .before .args .node),
+            )),
+        entry-at (c .before .before .before .before .before .before .before .before .before .before .before .before .before .before .before .before .before .before .args .list .now)
+            (c .before .before .before .before .before .before .before .before .before .before .loop .word) _ (k .0) _
+            (c .before .before .before .before .before .before .entry .given .1),
+        entry-inside (c .before .before .before .before .before .before .before .before .before .before .before .before .before .before .before .before .before .before .args .list .now)
+            (c .before .before .before .before .before .before .before .before .before .before .loop .word) _ (k .0) _
+            (c .before .before .before .before .before .before .entry .given .1),
+        c .before .before .before .before .before .before .before .before .before .before .loop .inv .1 .small,
+        c .before .before .before .before .before .before .before .before .before .before .before .before .before .before .before .before .before .before .pre .1 .3,
+      ),
+    )
 
 build-sparse-same-length-3 : (t : ℕ) → build-sparse-lts.Need-same-length-3 (build-sparse-claims t) (build-sparse-at t) build-sparse.Post build-sparse-Inv-loop build-sparse-μ-loop
 build-sparse-same-length-3 t c =
-    c .before .before .before .before .build-member .kept .1 .1 .1 .1 .1 .1 .1 .0 ∙ c .before .before .before .before .before .before .before .before .before .before .before .before .before .before .before .loop .inv .0
+    c .before .before .before .before .build-member .kept .1 .1 .1 .1 .1 .1 .1 .0
+    ∙ c .before .before .before .before .before .before .before .before .before .before .before .before .before .before .before .loop .inv .0
 
 build-sparse-returns-3 : (t : ℕ) → build-sparse-lts.Need-returns-3 (build-sparse-claims t) (build-sparse-at t) build-sparse.Post build-sparse-Inv-loop build-sparse-μ-loop
 unfolding standOf
 build-sparse-returns-3 t c =
-    let k = known-is _ _ _ _ (c .before .before .before .before .before .before .before .before .before .before .before .before .before .known-entry .ensures) (c .before .before .before .before .before .before .before .before .before .before .before .entry .given .1) in turn-stop (sparseOrder (cardsAt (c .before .before .before .before .before .before .before .before .before .before .before .before .before .before .before .before .before .before .before .before .before .before .before .args .plan .now) (c .before .before .before .before .before .before .before .before .before .before .before .before .before .before .before .before .before .before .before .before .before .before .before .args .node))) _ _ (c .before .before .before .before .before .before .before .before .before .before .before .before .before .before .before .loop .seen .marks) _ _ _ _ (some-left _ _ (c .before .before .before .before .before .before .before .before .before .before .before .before .before .before .loop-test .taken)) _ _ (entry-at (c .before .before .before .before .before .before .before .before .before .before .before .before .before .before .before .before .before .before .before .before .before .before .before .args .list .now) (c .before .before .before .before .before .before .before .before .before .before .before .before .before .before .before .loop .word) _ (k .0) _ (c .before .before .before .before .before .before .before .before .before .before .before .entry .given .1)) (new-index (c .before .before .before .before .before .before .before .before .before .before .before .before .before .before .before .before .before .before .before .before .before .before .before .args .plan .now) (c .before .before .before .before .before .before .before .before .before .before .before .before .before .before .before .before .before .before .before .before .before .before .before .args .node) (c .before .before .before .before .before .before .before .before .before .before .before .before .before .before .before .loop .seen .marks) _ _ (c .before .before .before .before .before .before .before .before .before .before .before .before .before .before .before .before .before .second-at .ensures) (k .1) (sym (c .before .before .before .before .before .before .before .before .mark .ensures .0) ∙ c .before .before .before .before .before .before .before .if1 .left)) (failed-is _ _ _ _ (c .before .before .before .before .build-member .ensures) (c .enum-told2 .given .1)) ∙ sym (c .before .before .before .before .before .before .before .before .before .before .before .before .before .before .before .loop .inv .1 .leads)
+    let k =
+    known-is _ _ _ _
+    (c .before .before .before .before .before .before .before .before .before .before .before .before .before .known-entry .ensures)
+    (c .before .before .before .before .before .before .before .before .before .before .before .entry .given .1)
+    in
+    turn-stop (sparseOrder (cardsAt (c .before .before .before .before .before .before .before .before .before .before .before .before
+    .before .before .before .before .before .before .before .before .before .before .before .args .plan .now)
+    (c .before .before .before .before .before .before .before .before .before .before .before .before .before .before .before .before
+    .before .before .before .before .before .before .before .args .node))) _ _
+    (c .before .before .before .before .before .before .before .before .before .before .before .before .before .before .before .loop .seen .marks) _ _ _ _
+    (some-left _ _ (c .before .before .before .before .before .before .before .before .before .before .before .before .before .before .loop-test .taken)) _ _
+    (entry-at (c .before .before .before .before .before .before .before .before .before .before .before .before .before .before .before
+    .before .before .before .before .before .before .before .before .args .list .now)
+    (c .before .before .before .before .before .before .before .before .before .before .before .before .before .before .before .loop .word) _
+    (k .0) _ (c .before .before .before .before .before .before .before .before .before .before .before .entry .given .1))
+    (new-index (c .before .before .before .before .before .before .before .before .before .before .before .before .before .before
+    .before .before .before .before .before .before .before .before .before .args .plan .now)
+    (c .before .before .before .before .before .before .before .before .before .before .before .before .before .before .before .before
+    .before .before .before .before .before .before .before .args .node)
+    (c .before .before .before .before .before .before .before .before .before .before .before .before .before .before .before .loop .seen .marks) _ _
+    (c .before .before .before .before .before .before .before .before .before .before .before .before .before .before .before .before .before .second-at .ensures)
+    (k .1)
+    (sym (c .before .before .before .before .before .before .before .before .mark .ensures .0) ∙ c .before .before .before .before .before .before .before .if1 .left))
+    (failed-is _ _ _ _ (c .before .before .before .before .build-member .ensures) (c .enum-told2 .given .1))
+    ∙ sym (c .before .before .before .before .before .before .before .before .before .before .before .before .before .before .before .loop .inv .1 .leads)
 
 build-sparse-add-counter : (t : ℕ) → build-sparse-lts.Need-add-counter (build-sparse-claims t) (build-sparse-at t) build-sparse.Post build-sparse-Inv-loop build-sparse-μ-loop
 build-sparse-add-counter t c =
-    omega (arith, c .before .before .before .before .before .before .before .before .before .before .before .before .before .before .before .loop-test .taken, c .before .before .before .before .before .before .before .before .before .before .before .before .before .before .before .before .before .before .before .before .before .before .before .before .good, c .before .before .before .before .before .before .before .before .before .before .before .before .before .before .before .before .before .before .before .before .before .before .before .before .fits)
+    omega (
+      arith,
+      c .before .before .before .before .before .before .before .before .before .before .before .before .before .before .before .loop-test .taken,
+      c .before .before .before .before .before .before .before .before .before .before .before .before .before .before .before .before
+          .before .before .before .before .before .before .before .before .good,
+      c .before .before .before .before .before .before .before .before .before .before .before .before .before .before .before .before
+          .before .before .before .before .before .before .before .before .fits,
+    )
 
 build-sparse-loop-less : (t : ℕ) → build-sparse-lts.Need-loop-less (build-sparse-claims t) (build-sparse-at t) build-sparse.Post build-sparse-Inv-loop build-sparse-μ-loop
 build-sparse-loop-less t c = omega arith
 
 build-sparse-loop-again : (t : ℕ) → build-sparse-lts.Need-loop-again (build-sparse-claims t) (build-sparse-at t) build-sparse.Post build-sparse-Inv-loop build-sparse-μ-loop
 build-sparse-loop-again t c =
-    let k = known-is _ _ _ _ (c .before .before .before .before .before .before .before .before .before .before .before .before .before .before .known-entry .ensures) (c .before .before .before .before .before .before .before .before .before .before .before .before .entry .given .1) in (c .before .before .before .before .before .build-member .kept .1 .1 .1 .1 .1 .1 .1 .0 ∙ c .before .before .before .before .before .before .before .before .before .before .before .before .before .before .before .before .loop .inv .0, gathers-next _ _ _ _ _ _ _ _ _ _ _ _ _ _ (c .before .before .before .before .before .before .before .before .before .before .before .before .before .before .before .before .loop .inv .1) (some-left _ _ (c .before .before .before .before .before .before .before .before .before .before .before .before .before .before .before .loop-test .taken)) (c .before .before .before .before .before .before .before .before .before .before .before .before .before .before .before .before .before .before .before .before .before .before .before .before .pre .1 .0) (c .before .before .before .before .before .before .before .before .before .before .before .before .before .before .before .before .before .before .before .before .before .before .before .before .pre .1 .1) _ _ (entry-at (c .before .before .before .before .before .before .before .before .before .before .before .before .before .before .before .before .before .before .before .before .before .before .before .before .args .list .now) (c .before .before .before .before .before .before .before .before .before .before .before .before .before .before .before .before .loop .word) _ (k .0) _ (c .before .before .before .before .before .before .before .before .before .before .before .before .entry .given .1)) (omega (arith, k .1, c .before .before .before .before .before .before .before .before .before .before .before .before .before .before .before .before .before .before .second-at .ensures)) (sym (c .before .before .before .before .before .before .before .before .before .mark .ensures .0) ∙ c .before .before .before .before .before .before .before .before .if1 .left) _ _ _ (done-is _ _ _ _ (c .before .before .before .before .before .build-member .ensures) _ _ (c .before .built .given .1)) _ (c .before .before .before .before .before .before .before .before .before .mark .ensures .1) _ (c .before .before .before .before .before .before .before .count-given .ensures) _ (one-fewer _ _))
+    let k =
+    known-is _ _ _ _
+    (c .before .before .before .before .before .before .before .before .before .before .before .before .before .before .known-entry .ensures)
+    (c .before .before .before .before .before .before .before .before .before .before .before .before .entry .given .1)
+    in (
+      c .before .before .before .before .before .build-member .kept .1 .1 .1 .1 .1 .1 .1 .0
+          ∙ c .before .before .before .before .before .before .before .before .before .before .before .before .before .before .before .before .loop .inv .0,
+      gathers-next _ _ _ _ _ _ _ _ _ _ _ _ _ _
+          (c .before .before .before .before .before .before .before .before .before .before .before .before .before .before .before .before .loop .inv .1)
+          (some-left _ _ (c .before .before .before .before .before .before .before .before .before .before .before .before .before .before .before .loop-test .taken))
+          (c .before .before .before .before .before .before .before .before .before .before .before .before .before .before .before .before
+          .before .before .before .before .before .before .before .before .pre .1 .0)
+          (c .before .before .before .before .before .before .before .before .before .before .before .before .before .before .before .before
+          .before .before .before .before .before .before .before .before .pre .1 .1) _ _
+          (entry-at (c .before .before .before .before .before .before .before .before .before .before .before .before .before .before
+          .before .before .before .before .before .before .before .before .before .before .args .list .now)
+          (c .before .before .before .before .before .before .before .before .before .before .before .before .before .before .before .before .loop .word) _
+          (k .0) _ (c .before .before .before .before .before .before .before .before .before .before .before .before .entry .given .1))
+          (omega (arith, k .1, c .before .before .before .before .before .before .before .before .before .before .before .before .before .before .before .before .before .before .second-at .ensures))
+          (sym (c .before .before .before .before .before .before .before .before .before .mark .ensures .0) ∙ c .before .before .before .before .before .before .before .before .if1 .left) _ _ _
+          (done-is _ _ _ _ (c .before .before .before .before .before .build-member .ensures) _ _ (c .before .built .given .1)) _
+          (c .before .before .before .before .before .before .before .before .before .mark .ensures .1) _
+          (c .before .before .before .before .before .before .before .count-given .ensures) _ (one-fewer _ _),
+    )
 
 build-sparse-needed-of-requires : (t : ℕ) → build-sparse-lts.Need-needed-of-requires (build-sparse-claims t) (build-sparse-at t) build-sparse.Post build-sparse-Inv-loop build-sparse-μ-loop
-build-sparse-needed-of-requires t c κs =
-    (c .before .before .before .before .before .before .before .before .before .pre .1 .0, c .before .before .before .before .before .before .before .before .before .pre .1 .1, c .before .before .before .before .before .before .before .before .before .pre .1 .3)
+build-sparse-needed-of-requires t c κs = (
+  c .before .before .before .before .before .before .before .before .before .pre .1 .0,
+  c .before .before .before .before .before .before .before .before .before .pre .1 .1,
+  c .before .before .before .before .before .before .before .before .before .pre .1 .3,
+)
 
 build-sparse-same-length-4 : (t : ℕ) → build-sparse-lts.Need-same-length-4 (build-sparse-claims t) (build-sparse-at t) build-sparse.Post build-sparse-Inv-loop build-sparse-μ-loop
 build-sparse-same-length-4 t c = c .before .before .before .loop .inv .0
@@ -380,7 +642,11 @@ build-sparse-same-length-4 t c = c .before .before .before .loop .inv .0
 build-sparse-returns-4 : (t : ℕ) → build-sparse-lts.Need-returns-4 (build-sparse-claims t) (build-sparse-at t) build-sparse.Post build-sparse-Inv-loop build-sparse-μ-loop
 unfolding standOf
 build-sparse-returns-4 t c =
-    lacks (sparseOrder (cardsAt (c .before .before .before .before .before .before .before .before .before .before .before .args .plan .now) (c .before .before .before .before .before .before .before .before .before .before .before .args .node))) _ _ (c .before .before .before .loop .seen .marks) _ _ _ _ (none-left _ _ (c .before .before .loop-test .left)) (sym (counted-end _ _ _ _ (c .before .before .before .loop .inv .1 .counted) _ (c .before .needed-of .ensures)) ∙ lt-ltb _ _ (c .if2 .taken)) ∙ sym (c .before .before .before .loop .inv .1 .leads)
+    lacks (sparseOrder (cardsAt (c .before .before .before .before .before .before .before .before .before .before .before .args .plan .now)
+    (c .before .before .before .before .before .before .before .before .before .before .before .args .node))) _ _
+    (c .before .before .before .loop .seen .marks) _ _ _ _ (none-left _ _ (c .before .before .loop-test .left))
+    (sym (counted-end _ _ _ _ (c .before .before .before .loop .inv .1 .counted) _ (c .before .needed-of .ensures)) ∙ lt-ltb _ _ (c .if2 .taken))
+    ∙ sym (c .before .before .before .loop .inv .1 .leads)
 
 build-sparse-same-length-5 : (t : ℕ) → build-sparse-lts.Need-same-length-5 (build-sparse-claims t) (build-sparse-at t) build-sparse.Post build-sparse-Inv-loop build-sparse-μ-loop
 build-sparse-same-length-5 t c = c .before .before .before .loop .inv .0
@@ -388,45 +654,52 @@ build-sparse-same-length-5 t c = c .before .before .before .loop .inv .0
 build-sparse-returns-5 : (t : ℕ) → build-sparse-lts.Need-returns-5 (build-sparse-claims t) (build-sparse-at t) build-sparse.Post build-sparse-Inv-loop build-sparse-μ-loop
 unfolding standOf
 build-sparse-returns-5 t c =
-    done (sparseOrder (cardsAt (c .before .before .before .before .before .before .before .before .before .before .before .args .plan .now) (c .before .before .before .before .before .before .before .before .before .before .before .args .node))) _ _ (c .before .before .before .loop .seen .marks) _ _ _ _ (none-left _ _ (c .before .before .loop-test .left)) (sym (counted-end _ _ _ _ (c .before .before .before .loop .inv .1 .counted) _ (c .before .needed-of .ensures)) ∙ le-ltb _ _ (c .if2 .left)) (c .before .before .before .loop .inv .1 .small) ∙ sym (c .before .before .before .loop .inv .1 .leads)
-
-build-value-cast-if1 : (t : ℕ) → build-value-lts.Need-cast-if1 (build-value-claims t) (build-value-at t) build-value.Post
-build-value-cast-if1 t c = search needs
+    done (sparseOrder (cardsAt (c .before .before .before .before .before .before .before .before .before .before .before .args .plan .now)
+    (c .before .before .before .before .before .before .before .before .before .before .before .args .node))) _ _
+    (c .before .before .before .loop .seen .marks) _ _ _ _ (none-left _ _ (c .before .before .loop-test .left))
+    (sym (counted-end _ _ _ _ (c .before .before .before .loop .inv .1 .counted) _ (c .before .needed-of .ensures)) ∙ le-ltb _ _ (c .if2 .left))
+    (c .before .before .before .loop .inv .1 .small)
+    ∙ sym (c .before .before .before .loop .inv .1 .leads)
 
 build-value-returns : (t : ℕ) → build-value-lts.Need-returns (build-value-claims t) (build-value-at t) build-value.Post
 unfolding standOf
 build-value-returns t c =
-    value-node _ _ _ (c .before .before .before .before .before .before .before .pre .1 .0) _ _ _ (c .before .before .before .before .before .before .before .pre .1 .1) (c .before .before .before .before .before .before .before .pre .1 .2) _ _ (c .if1 .taken)
+    value-node _ _ _ (c .before .before .before .before .before .before .before .pre .1 .0) _ _ _
+    (c .before .before .before .before .before .before .before .pre .1 .1)
+    (c .before .before .before .before .before .before .before .pre .1 .2) _ _ (c .if1 .taken)
 
 build-value-kind-at-requires : (t : ℕ) → build-value-lts.Need-kind-at-requires (build-value-claims t) (build-value-at t) build-value.Post
 build-value-kind-at-requires t c κs = c .before .before .before .before .before .before .before .pre .1 .0
 
-build-value-add-below : (t : ℕ) → build-value-lts.Need-add-below (build-value-claims t) (build-value-at t) build-value.Post
-build-value-add-below t c = search needs
-
-build-value-is-leaf-requires : (t : ℕ) → build-value-lts.Need-is-leaf-requires (build-value-claims t) (build-value-at t) build-value.Post
-build-value-is-leaf-requires t c κs = search needs
-
 build-value-build-leaf-requires : (t : ℕ) → build-value-lts.Need-build-leaf-requires (build-value-claims t) (build-value-at t) build-value.Post
-build-value-build-leaf-requires t c κs =
-    (c .before .before .before .before .before .before .before .before .before .before .before .pre .1 .0, c .before .before .before .kind-at .ensures .is, sym (c .before .before .is-leaf .ensures) ∙ c .before .if2 .taken, c .before .before .before .before .before .before .before .before .before .before .before .pre .1 .4)
+build-value-build-leaf-requires t c κs = (
+  c .before .before .before .before .before .before .before .before .before .before .before .pre .1 .0,
+  c .before .before .before .kind-at .ensures .is,
+  sym (c .before .before .is-leaf .ensures) ∙ c .before .if2 .taken,
+  c .before .before .before .before .before .before .before .before .before .before .before .pre .1 .4,
+)
 
 build-value-same-length : (t : ℕ) → build-value-lts.Need-same-length (build-value-claims t) (build-value-at t) build-value.Post
 build-value-same-length t c = c .before .before .build-leaf .kept .1 .1 .1 .1 .1 .1 .0
 
 build-value-returns-2 : (t : ℕ) → build-value-lts.Need-returns-2 (build-value-claims t) (build-value-at t) build-value.Post
 build-value-returns-2 t c =
-    c .before .before .build-leaf .ensures _ ∙ value-leaf _ _ _ (c .before .before .before .before .before .before .before .before .before .before .before .before .before .before .pre .1 .0) _ _ _ (c .before .before .before .before .before .before .before .before .before .before .before .before .before .before .pre .1 .1) (c .before .before .before .before .before .before .before .before .before .before .before .before .before .before .pre .1 .2) _ _ (c .before .before .before .before .before .before .before .if1 .left) (sym (ap leafKind (c .before .before .before .before .before .before .kind-at .ensures .is)) ∙ sym (c .before .before .before .before .before .is-leaf .ensures) ∙ c .before .before .before .before .if2 .taken)
+    c .before .before .build-leaf .ensures _
+    ∙ value-leaf _ _ _
+    (c .before .before .before .before .before .before .before .before .before .before .before .before .before .before .pre .1 .0) _ _ _
+    (c .before .before .before .before .before .before .before .before .before .before .before .before .before .before .pre .1 .1)
+    (c .before .before .before .before .before .before .before .before .before .before .before .before .before .before .pre .1 .2) _ _
+    (c .before .before .before .before .before .before .before .if1 .left)
+    (sym (ap leafKind (c .before .before .before .before .before .before .kind-at .ensures .is))
+    ∙ sym (c .before .before .before .before .before .is-leaf .ensures)
+    ∙ c .before .before .before .before .if2 .taken)
 
 build-value-put-front-requires : (t : ℕ) → build-value-lts.Need-put-front-requires (build-value-claims t) (build-value-at t) build-value.Post
-build-value-put-front-requires t c κs =
-    (c .before .before .before .before .before .before .before .before .before .before .before .pre .1 .0, inner-kind _ _ _ (c .before .before .before .kind-at .ensures) (sym (c .before .before .is-leaf .ensures) ∙ c .before .if2 .left), c .before .before .before .before .before .before .before .before .before .before .before .pre .1 .4)
-
-build-value-enum-known-opened : (t : ℕ) → build-value-lts.Need-enum-known-opened (build-value-claims t) (build-value-at t) build-value.Post
-build-value-enum-known-opened t c = search needs
-
-build-value-enum-told : (t : ℕ) → build-value-lts.Need-enum-told (build-value-claims t) (build-value-at t) build-value.Post
-build-value-enum-told t c = search needs
+build-value-put-front-requires t c κs = (
+  c .before .before .before .before .before .before .before .before .before .before .before .pre .1 .0,
+  inner-kind _ _ _ (c .before .before .before .kind-at .ensures) (sym (c .before .before .is-leaf .ensures) ∙ c .before .if2 .left),
+  c .before .before .before .before .before .before .before .before .before .before .before .pre .1 .4,
+)
 
 build-value-same-length-2 : (t : ℕ) → build-value-lts.Need-same-length-2 (build-value-claims t) (build-value-at t) build-value.Post
 build-value-same-length-2 t c = c .before .before .before .before .put-front .kept .1 .1 .1 .1 .1 .0
@@ -434,39 +707,148 @@ build-value-same-length-2 t c = c .before .before .before .before .put-front .ke
 build-value-returns-3 : (t : ℕ) → build-value-lts.Need-returns-3 (build-value-claims t) (build-value-at t) build-value.Post
 unfolding standOf
 build-value-returns-3 t c =
-    value-shut _ _ _ (c .before .before .before .before .before .before .before .before .before .before .before .before .before .before .before .before .pre .1 .0) _ _ _ (c .before .before .before .before .before .before .before .before .before .before .before .before .before .before .before .before .pre .1 .1) (c .before .before .before .before .before .before .before .before .before .before .before .before .before .before .before .before .pre .1 .2) _ _ (c .before .before .before .before .before .before .before .before .before .if1 .left) _ (inner-kind _ _ _ (c .before .before .before .before .before .before .before .before .kind-at .ensures) (sym (c .before .before .before .before .before .before .before .is-leaf .ensures) ∙ c .before .before .before .before .before .before .if2 .left)) _ _ (c .before .before .before .before .put-front .ensures) (c .enum-told .given .1)
-
-build-value-cast-count : (t : ℕ) → build-value-lts.Need-cast-count (build-value-claims t) (build-value-at t) build-value.Post
-build-value-cast-count t c = search needs
+    value-shut _ _ _
+    (c .before .before .before .before .before .before .before .before .before .before .before .before .before .before .before .before .pre .1 .0) _ _ _
+    (c .before .before .before .before .before .before .before .before .before .before .before .before .before .before .before .before .pre .1 .1)
+    (c .before .before .before .before .before .before .before .before .before .before .before .before .before .before .before .before .pre .1 .2) _ _
+    (c .before .before .before .before .before .before .before .before .before .if1 .left) _
+    (inner-kind _ _ _ (c .before .before .before .before .before .before .before .before .kind-at .ensures)
+    (sym (c .before .before .before .before .before .before .before .is-leaf .ensures) ∙ c .before .before .before .before .before .before .if2 .left))
+    _ _ (c .before .before .before .before .put-front .ensures) (c .enum-told .given .1)
 
 build-value-put-given-requires : (t : ℕ) → build-value-lts.Need-put-given-requires (build-value-claims t) (build-value-at t) build-value.Post
 build-value-put-given-requires t c κs =
-    let k = inner-kind _ _ _ (c .before .before .before .before .before .before .before .before .before .before .before .before .kind-at .ensures) (sym (c .before .before .before .before .before .before .before .before .before .before .before .is-leaf .ensures) ∙ c .before .before .before .before .before .before .before .before .before .before .if2 .left) in (c .before .before .before .before .before .before .before .before .before .before .before .before .before .before .before .before .before .before .before .before .pre .1 .0, sym (c .before .before .before .before .before .before .before .before .before .before .before .before .kind-at .ensures .is) ∙ c .before .if3 .taken, opened-small _ _ _ (c .before .before .before .before .before .before .before .before .before .before .before .before .before .before .before .before .before .before .before .before .pre .1 .0) _ _ _ (c .before .before .before .before .before .before .before .before .before .before .before .before .before .before .before .before .before .before .before .before .pre .1 .1) (c .before .before .before .before .before .before .before .before .before .before .before .before .before .before .before .before .before .before .before .before .pre .1 .2) _ _ (c .before .before .before .before .before .before .before .before .before .before .before .before .before .if1 .left) _ k _ _ (c .before .before .before .before .before .before .before .before .put-front .ensures) _ _ (c .before .before .before .before .opened .given .1), omega (arith, c .before .before .before .before .before .before .before .before .before .before .before .before .before .before .before .before .before .before .before .before .pre .1 .3))
+    let k =
+    inner-kind _ _ _
+    (c .before .before .before .before .before .before .before .before .before .before .before .before .kind-at .ensures)
+    (sym (c .before .before .before .before .before .before .before .before .before .before .before .is-leaf .ensures)
+    ∙ c .before .before .before .before .before .before .before .before .before .before .if2 .left)
+    in (
+      c .before .before .before .before .before .before .before .before .before .before .before .before .before .before .before .before .before .before .before .before .pre .1 .0,
+      sym (c .before .before .before .before .before .before .before .before .before .before .before .before .kind-at .ensures .is) ∙ c .before .if3 .taken,
+      opened-small _ _ _
+          (c .before .before .before .before .before .before .before .before .before .before .before .before .before .before .before .before .before .before .before .before .pre .1 .0) _ _ _
+          (c .before .before .before .before .before .before .before .before .before .before .before .before .before .before .before .before .before .before .before .before .pre .1 .1)
+          (c .before .before .before .before .before .before .before .before .before .before .before .before .before .before .before .before .before .before .before .before .pre .1 .2) _ _
+          (c .before .before .before .before .before .before .before .before .before .before .before .before .before .if1 .left) _ k _ _
+          (c .before .before .before .before .before .before .before .before .put-front .ensures) _ _
+          (c .before .before .before .before .opened .given .1),
+      omega (arith, c .before .before .before .before .before .before .before .before .before .before .before .before .before .before .before .before .before .before .before .before .pre .1 .3),
+    )
 
 build-value-same-length-3 : (t : ℕ) → build-value-lts.Need-same-length-3 (build-value-claims t) (build-value-at t) build-value.Post
 build-value-same-length-3 t c =
-    c .before .before .before .put-given .kept .1 .1 .1 .1 .1 .1 .0 ∙ c .before .before .before .before .before .before .before .before .before .before .before .before .put-front .kept .1 .1 .1 .1 .1 .0
+    c .before .before .before .put-given .kept .1 .1 .1 .1 .1 .1 .0
+    ∙ c .before .before .before .before .before .before .before .before .before .before .before .before .put-front .kept .1 .1 .1 .1 .1 .0
 
 build-value-returns-4 : (t : ℕ) → build-value-lts.Need-returns-4 (build-value-claims t) (build-value-at t) build-value.Post
 unfolding standOf
 build-value-returns-4 t c =
-    let k = inner-kind _ _ _ (c .before .before .before .before .before .before .before .before .before .before .before .before .before .before .before .before .kind-at .ensures) (sym (c .before .before .before .before .before .before .before .before .before .before .before .before .before .before .before .is-leaf .ensures) ∙ c .before .before .before .before .before .before .before .before .before .before .before .before .before .before .if2 .left) in sym (c .before .before .before .put-given .ensures .barred (c .if4 .taken)) ∙ value-sparse _ _ _ (c .before .before .before .before .before .before .before .before .before .before .before .before .before .before .before .before .before .before .before .before .before .before .before .before .pre .1 .0) _ _ _ (c .before .before .before .before .before .before .before .before .before .before .before .before .before .before .before .before .before .before .before .before .before .before .before .before .pre .1 .1) (c .before .before .before .before .before .before .before .before .before .before .before .before .before .before .before .before .before .before .before .before .before .before .before .before .pre .1 .2) _ _ (c .before .before .before .before .before .before .before .before .before .before .before .before .before .before .before .before .before .if1 .left) _ k _ _ (c .before .before .before .before .before .before .before .before .before .before .before .before .put-front .ensures) _ _ (c .before .before .before .before .before .before .before .before .opened .given .1) (c .before .before .before .before .before .if3 .taken)
+    let k =
+    inner-kind _ _ _
+    (c .before .before .before .before .before .before .before .before .before .before .before .before .before .before .before .before .kind-at .ensures)
+    (sym (c .before .before .before .before .before .before .before .before .before .before .before .before .before .before .before .is-leaf .ensures)
+    ∙ c .before .before .before .before .before .before .before .before .before .before .before .before .before .before .if2 .left)
+    in
+    sym (c .before .before .before .put-given .ensures .barred (c .if4 .taken))
+    ∙ value-sparse _ _ _
+    (c .before .before .before .before .before .before .before .before .before .before .before .before .before .before .before .before
+    .before .before .before .before .before .before .before .before .pre .1 .0) _ _ _
+    (c .before .before .before .before .before .before .before .before .before .before .before .before .before .before .before .before
+    .before .before .before .before .before .before .before .before .pre .1 .1)
+    (c .before .before .before .before .before .before .before .before .before .before .before .before .before .before .before .before
+    .before .before .before .before .before .before .before .before .pre .1 .2) _ _
+    (c .before .before .before .before .before .before .before .before .before .before .before .before .before .before .before .before .before .if1 .left) _ k _ _
+    (c .before .before .before .before .before .before .before .before .before .before .before .before .put-front .ensures) _ _
+    (c .before .before .before .before .before .before .before .before .opened .given .1)
+    (c .before .before .before .before .before .if3 .taken)
 
 build-value-build-sparse-requires : (t : ℕ) → build-value-lts.Need-build-sparse-requires (build-value-claims t) (build-value-at t) build-value.Post
-build-value-build-sparse-requires t c κs =
-    (omega (arith, c .before .before .before .before .before .before .before .before .before .before .before .before .before .before .before .before .before .before .before .before .before .before .before .before .before .pre .0), (c .before .before .before .before .before .before .before .before .before .before .before .before .before .before .before .before .before .before .before .before .before .before .before .before .before .pre .1 .0, sym (c .before .before .before .before .before .before .before .before .before .before .before .before .before .before .before .before .before .kind-at .ensures .is) ∙ c .before .before .before .before .before .before .if3 .taken, c .before .before .before .before .put-given .ensures .small, c .before .before .before .before .before .before .before .before .before .before .before .before .before .before .before .before .before .before .before .before .before .before .before .before .before .pre .1 .5, c .before .before .before .before .put-given .ensures .new (c .before .if4 .left) .counted))
+build-value-build-sparse-requires t c κs = (
+  omega (
+    arith,
+    c .before .before .before .before .before .before .before .before .before .before .before .before .before .before .before .before
+        .before .before .before .before .before .before .before .before .before .pre .0,
+  ),
+  (
+    c .before .before .before .before .before .before .before .before .before .before .before .before .before .before .before .before
+        .before .before .before .before .before .before .before .before .before .pre .1 .0,
+    sym (c .before .before .before .before .before .before .before .before .before .before .before .before .before .before .before .before .before .kind-at .ensures .is)
+        ∙ c .before .before .before .before .before .before .if3 .taken,
+    c .before .before .before .before .put-given .ensures .small,
+    c .before .before .before .before .before .before .before .before .before .before .before .before .before .before .before .before
+        .before .before .before .before .before .before .before .before .before .pre .1 .5,
+    c .before .before .before .before .put-given .ensures .new (c .before .if4 .left) .counted,
+  ),
+)
 
 build-value-same-length-4 : (t : ℕ) → build-value-lts.Need-same-length-4 (build-value-claims t) (build-value-at t) build-value.Post
 build-value-same-length-4 t c =
-    c .before .before .build-sparse .kept .1 .1 .1 .1 .1 .1 .0 ∙ c .before .before .before .before .before .before .before .put-given .kept .1 .1 .1 .1 .1 .1 .0 ∙ c .before .before .before .before .before .before .before .before .before .before .before .before .before .before .before .before .put-front .kept .1 .1 .1 .1 .1 .0
+    c .before .before .build-sparse .kept .1 .1 .1 .1 .1 .1 .0
+    ∙ c .before .before .before .before .before .before .before .put-given .kept .1 .1 .1 .1 .1 .1 .0
+    ∙ c .before .before .before .before .before .before .before .before .before .before .before .before .before .before .before .before .put-front .kept .1 .1 .1 .1 .1 .0
 
 build-value-returns-5 : (t : ℕ) → build-value-lts.Need-returns-5 (build-value-claims t) (build-value-at t) build-value.Post
 build-value-returns-5 t c =
-    let k = inner-kind _ _ _ (c .before .before .before .before .before .before .before .before .before .before .before .before .before .before .before .before .before .before .before .before .kind-at .ensures) (sym (c .before .before .before .before .before .before .before .before .before .before .before .before .before .before .before .before .before .before .before .is-leaf .ensures) ∙ c .before .before .before .before .before .before .before .before .before .before .before .before .before .before .before .before .before .before .if2 .left) in c .before .before .build-sparse .ensures ∙ sym (c .before .before .before .before .before .before .before .put-given .ensures .new (c .before .before .before .before .if4 .left) .leads) ∙ value-sparse _ _ _ (c .before .before .before .before .before .before .before .before .before .before .before .before .before .before .before .before .before .before .before .before .before .before .before .before .before .before .before .before .pre .1 .0) _ _ _ (c .before .before .before .before .before .before .before .before .before .before .before .before .before .before .before .before .before .before .before .before .before .before .before .before .before .before .before .before .pre .1 .1) (c .before .before .before .before .before .before .before .before .before .before .before .before .before .before .before .before .before .before .before .before .before .before .before .before .before .before .before .before .pre .1 .2) _ _ (c .before .before .before .before .before .before .before .before .before .before .before .before .before .before .before .before .before .before .before .before .before .if1 .left) _ k _ _ (c .before .before .before .before .before .before .before .before .before .before .before .before .before .before .before .before .put-front .ensures) _ _ (c .before .before .before .before .before .before .before .before .before .before .before .before .opened .given .1) (c .before .before .before .before .before .before .before .before .before .if3 .taken)
+    let k =
+    inner-kind _ _ _
+    (c .before .before .before .before .before .before .before .before .before .before .before .before .before .before .before .before .before .before .before .before .kind-at .ensures)
+    (sym (c .before .before .before .before .before .before .before .before .before .before .before .before .before .before .before .before .before .before .before .is-leaf .ensures)
+    ∙ c .before .before .before .before .before .before .before .before .before .before .before .before .before .before .before .before .before .before .if2 .left)
+    in
+    c .before .before .build-sparse .ensures
+    ∙ sym (c .before .before .before .before .before .before .before .put-given .ensures .new (c .before .before .before .before .if4 .left) .leads)
+    ∙ value-sparse _ _ _
+    (c .before .before .before .before .before .before .before .before .before .before .before .before .before .before .before .before
+    .before .before .before .before .before .before .before .before .before .before .before .before .pre .1 .0) _ _ _
+    (c .before .before .before .before .before .before .before .before .before .before .before .before .before .before .before .before
+    .before .before .before .before .before .before .before .before .before .before .before .before .pre .1 .1)
+    (c .before .before .before .before .before .before .before .before .before .before .before .before .before .before .before .before
+    .before .before .before .before .before .before .before .before .before .before .before .before .pre .1 .2) _ _
+    (c .before .before .before .before .before .before .before .before .before .before .before .before .before .before .before .before .before .before .before .before .before .if1 .left) _ k _ _
+    (c .before .before .before .before .before .before .before .before .before .before .before .before .before .before .before .before .put-front .ensures) _ _
+    (c .before .before .before .before .before .before .before .before .before .before .before .before .opened .given .1)
+    (c .before .before .before .before .before .before .before .before .before .if3 .taken)
 
 build-value-build-row-requires : (t : ℕ) → build-value-lts.Need-build-row-requires (build-value-claims t) (build-value-at t) build-value.Post
 build-value-build-row-requires t c κs =
-    let k = inner-kind _ _ _ (c .before .before .before .before .before .before .before .before .before .before .before .before .kind-at .ensures) (sym (c .before .before .before .before .before .before .before .before .before .before .before .is-leaf .ensures) ∙ c .before .before .before .before .before .before .before .before .before .before .if2 .left) in (omega (arith, c .before .before .before .before .before .before .before .before .before .before .before .before .before .before .before .before .before .before .before .before .pre .0), (c .before .before .before .before .before .before .before .before .before .before .before .before .before .before .before .before .before .before .before .before .pre .1 .0, opened-holds _ _ _ (c .before .before .before .before .before .before .before .before .before .before .before .before .before .before .before .before .before .before .before .before .pre .1 .0) _ _ _ (c .before .before .before .before .before .before .before .before .before .before .before .before .before .before .before .before .before .before .before .before .pre .1 .1) (c .before .before .before .before .before .before .before .before .before .before .before .before .before .before .before .before .before .before .before .before .pre .1 .2) _ _ (c .before .before .before .before .before .before .before .before .before .before .before .before .before .if1 .left) _ k _ _ (c .before .before .before .before .before .before .before .before .put-front .ensures) _ _ (c .before .before .before .before .opened .given .1) (c .before .if3 .left), omega (arith, opened-first _ _ _ (c .before .before .before .before .before .before .before .before .before .before .before .before .before .before .before .before .before .before .before .before .pre .1 .0) _ _ _ (c .before .before .before .before .before .before .before .before .before .before .before .before .before .before .before .before .before .before .before .before .pre .1 .1) (c .before .before .before .before .before .before .before .before .before .before .before .before .before .before .before .before .before .before .before .before .pre .1 .2) _ _ (c .before .before .before .before .before .before .before .before .before .before .before .before .before .if1 .left) _ k _ _ (c .before .before .before .before .before .before .before .before .put-front .ensures) _ _ (c .before .before .before .before .opened .given .1) (c .before .if3 .left), c .before .before .struct-known2 .given), opened-small _ _ _ (c .before .before .before .before .before .before .before .before .before .before .before .before .before .before .before .before .before .before .before .before .pre .1 .0) _ _ _ (c .before .before .before .before .before .before .before .before .before .before .before .before .before .before .before .before .before .before .before .before .pre .1 .1) (c .before .before .before .before .before .before .before .before .before .before .before .before .before .before .before .before .before .before .before .before .pre .1 .2) _ _ (c .before .before .before .before .before .before .before .before .before .before .before .before .before .if1 .left) _ k _ _ (c .before .before .before .before .before .before .before .before .put-front .ensures) _ _ (c .before .before .before .before .opened .given .1), c .before .before .before .before .before .before .before .before .before .before .before .before .before .before .before .before .before .before .before .before .pre .1 .5))
+    let k =
+    inner-kind _ _ _
+    (c .before .before .before .before .before .before .before .before .before .before .before .before .kind-at .ensures)
+    (sym (c .before .before .before .before .before .before .before .before .before .before .before .is-leaf .ensures)
+    ∙ c .before .before .before .before .before .before .before .before .before .before .if2 .left)
+    in (
+      omega (arith, c .before .before .before .before .before .before .before .before .before .before .before .before .before .before .before .before .before .before .before .before .pre .0),
+      (
+        c .before .before .before .before .before .before .before .before .before .before .before .before .before .before .before .before .before .before .before .before .pre .1 .0,
+        opened-holds _ _ _
+            (c .before .before .before .before .before .before .before .before .before .before .before .before .before .before .before .before .before .before .before .before .pre .1 .0) _ _ _
+            (c .before .before .before .before .before .before .before .before .before .before .before .before .before .before .before .before .before .before .before .before .pre .1 .1)
+            (c .before .before .before .before .before .before .before .before .before .before .before .before .before .before .before .before .before .before .before .before .pre .1 .2) _ _
+            (c .before .before .before .before .before .before .before .before .before .before .before .before .before .if1 .left) _ k _ _
+            (c .before .before .before .before .before .before .before .before .put-front .ensures) _ _
+            (c .before .before .before .before .opened .given .1) (c .before .if3 .left),
+        omega (
+          arith,
+          opened-first _ _ _
+              (c .before .before .before .before .before .before .before .before .before .before .before .before .before .before .before .before .before .before .before .before .pre .1 .0) _ _ _
+              (c .before .before .before .before .before .before .before .before .before .before .before .before .before .before .before .before .before .before .before .before .pre .1 .1)
+              (c .before .before .before .before .before .before .before .before .before .before .before .before .before .before .before .before .before .before .before .before .pre .1 .2) _ _
+              (c .before .before .before .before .before .before .before .before .before .before .before .before .before .if1 .left) _ k _ _
+              (c .before .before .before .before .before .before .before .before .put-front .ensures) _ _
+              (c .before .before .before .before .opened .given .1) (c .before .if3 .left),
+          c .before .before .struct-known2 .given,
+        ),
+        opened-small _ _ _
+            (c .before .before .before .before .before .before .before .before .before .before .before .before .before .before .before .before .before .before .before .before .pre .1 .0) _ _ _
+            (c .before .before .before .before .before .before .before .before .before .before .before .before .before .before .before .before .before .before .before .before .pre .1 .1)
+            (c .before .before .before .before .before .before .before .before .before .before .before .before .before .before .before .before .before .before .before .before .pre .1 .2) _ _
+            (c .before .before .before .before .before .before .before .before .before .before .before .before .before .if1 .left) _ k _ _
+            (c .before .before .before .before .before .before .before .before .put-front .ensures) _ _
+            (c .before .before .before .before .opened .given .1),
+        c .before .before .before .before .before .before .before .before .before .before .before .before .before .before .before .before .before .before .before .before .pre .1 .5,
+      ),
+    )
 
 build-value-same-length-5 : (t : ℕ) → build-value-lts.Need-same-length-5 (build-value-claims t) (build-value-at t) build-value.Post
 build-value-same-length-5 t c =
@@ -474,7 +856,23 @@ build-value-same-length-5 t c =
 
 build-value-returns-6 : (t : ℕ) → build-value-lts.Need-returns-6 (build-value-claims t) (build-value-at t) build-value.Post
 build-value-returns-6 t c =
-    let k = inner-kind _ _ _ (c .before .before .before .before .before .before .before .before .before .before .before .before .before .before .before .kind-at .ensures) (sym (c .before .before .before .before .before .before .before .before .before .before .before .before .before .before .is-leaf .ensures) ∙ c .before .before .before .before .before .before .before .before .before .before .before .before .before .if2 .left) in c .before .before .build-row .ensures ∙ value-row _ _ _ (c .before .before .before .before .before .before .before .before .before .before .before .before .before .before .before .before .before .before .before .before .before .before .before .pre .1 .0) _ _ _ (c .before .before .before .before .before .before .before .before .before .before .before .before .before .before .before .before .before .before .before .before .before .before .before .pre .1 .1) (c .before .before .before .before .before .before .before .before .before .before .before .before .before .before .before .before .before .before .before .before .before .before .before .pre .1 .2) _ _ (c .before .before .before .before .before .before .before .before .before .before .before .before .before .before .before .before .if1 .left) _ k _ _ (c .before .before .before .before .before .before .before .before .before .before .before .put-front .ensures) _ _ (c .before .before .before .before .before .before .before .opened .given .1) (c .before .before .before .before .if3 .left)
+    let k =
+    inner-kind _ _ _
+    (c .before .before .before .before .before .before .before .before .before .before .before .before .before .before .before .kind-at .ensures)
+    (sym (c .before .before .before .before .before .before .before .before .before .before .before .before .before .before .is-leaf .ensures)
+    ∙ c .before .before .before .before .before .before .before .before .before .before .before .before .before .if2 .left)
+    in
+    c .before .before .build-row .ensures
+    ∙ value-row _ _ _
+    (c .before .before .before .before .before .before .before .before .before .before .before .before .before .before .before .before
+    .before .before .before .before .before .before .before .pre .1 .0) _ _ _
+    (c .before .before .before .before .before .before .before .before .before .before .before .before .before .before .before .before
+    .before .before .before .before .before .before .before .pre .1 .1)
+    (c .before .before .before .before .before .before .before .before .before .before .before .before .before .before .before .before
+    .before .before .before .before .before .before .before .pre .1 .2) _ _
+    (c .before .before .before .before .before .before .before .before .before .before .before .before .before .before .before .before .if1 .left) _ k _ _
+    (c .before .before .before .before .before .before .before .before .before .before .before .put-front .ensures) _ _
+    (c .before .before .before .before .before .before .before .opened .given .1) (c .before .before .before .before .if3 .left)
 
 pub +build-member+build-row+build-sparse+build-value-spec : {M : Type 1} → statement M
 +build-member+build-row+build-sparse+build-value-spec =
@@ -495,17 +893,17 @@ pub +build-member+build-row+build-sparse+build-value-spec : {M : Type 1} → sta
     (build-member-at t)
     build-member.Post
     (build-member-kind-at-requires t)
-    (build-member-cast-ref-of t)
+    (λ c. search needs)
     (build-member-ref-of-requires t)
     (build-member-add-build-absent t)
     (build-member-build-absent-requires t)
     (build-member-same-length t)
     (build-member-returns t)
-    (build-member-head-size-requires t)
+    (λ c κs. search needs)
     (build-member-add-from t)
     (build-member-build-value-requires t)
-    (build-member-enum-known-built t)
-    (build-member-enum-told t)
+    (λ c. search needs)
+    (λ c. search needs)
     (build-member-same-length-2 t)
     (build-member-returns-2 t)
     (build-member-sub-put-head t)
@@ -531,17 +929,17 @@ pub +build-member+build-row+build-sparse+build-value-spec : {M : Type 1} → sta
     (build-row-add-end t)
     (build-row-put-leaves-requires t)
     (build-row-loop-holds t)
-    (build-row-next-entry-requires t)
-    (build-row-enum-known-entry t)
-    (build-row-enum-told t)
+    (λ c κs. search needs)
+    (λ c. search needs)
+    (λ c. search needs)
     (build-row-same-length t)
     (build-row-returns t)
-    (build-row-cast-if2 t)
+    (λ c. search needs)
     (build-row-same-length-2 t)
     (build-row-returns-2 t)
     (build-row-build-member-requires t)
-    (build-row-enum-known-built t)
-    (build-row-enum-told-2 t)
+    (λ c. search needs)
+    (λ c. search needs)
     (build-row-same-length-3 t)
     (build-row-returns-3 t)
     (build-row-add-put-leaves t)
@@ -570,19 +968,19 @@ pub +build-member+build-row+build-sparse+build-value-spec : {M : Type 1} → sta
     build-sparse-μ-loop
     (build-sparse-second-at-requires t)
     (build-sparse-loop-holds t)
-    (build-sparse-known-entry-requires t)
-    (build-sparse-enum-known-entry t)
-    (build-sparse-enum-told t)
+    (λ c κs. search needs)
+    (λ c. search needs)
+    (λ c. search needs)
     (build-sparse-same-length t)
     (build-sparse-returns t)
-    (build-sparse-cast-i t)
+    (λ c. search needs)
     (build-sparse-mark-requires t)
     (build-sparse-same-length-2 t)
     (build-sparse-returns-2 t)
     (build-sparse-count-given-requires t)
     (build-sparse-build-member-requires t)
-    (build-sparse-enum-known-built t)
-    (build-sparse-enum-told-2 t)
+    (λ c. search needs)
+    (λ c. search needs)
     (build-sparse-same-length-3 t)
     (build-sparse-returns-3 t)
     (build-sparse-add-counter t)
@@ -611,20 +1009,20 @@ pub +build-member+build-row+build-sparse+build-value-spec : {M : Type 1} → sta
     )
     (build-value-at t)
     build-value.Post
-    (build-value-cast-if1 t)
+    (λ c. search needs)
     (build-value-returns t)
     (build-value-kind-at-requires t)
-    (build-value-add-below t)
-    (build-value-is-leaf-requires t)
+    (λ c. search needs)
+    (λ c κs. search needs)
     (build-value-build-leaf-requires t)
     (build-value-same-length t)
     (build-value-returns-2 t)
     (build-value-put-front-requires t)
-    (build-value-enum-known-opened t)
-    (build-value-enum-told t)
+    (λ c. search needs)
+    (λ c. search needs)
     (build-value-same-length-2 t)
     (build-value-returns-3 t)
-    (build-value-cast-count t)
+    (λ c. search needs)
     (build-value-put-given-requires t)
     (build-value-same-length-3 t)
     (build-value-returns-4 t)

@@ -1,4 +1,4 @@
--- `supply_build::build_absent` meets its contract, by its tests in their order. Assumes nothing.
+-- `supply_build::build_absent` meets its contract, by its tests in their order.
 use mathlib.Core.Path.{sym, _∙_}
 use native.Mathlib.Omega.{arith}
 use Rattle.supply_entries.specs.Emitting.{standOf}
@@ -8,47 +8,43 @@ use borrow.Author.Needs.{needs}
 use Rattle.supply_build.proofs.build_absent.Statement.{statement}
 use Rattle.supply_build.proofs.build_absent.Tie as tie
 
-cast-may-lack : tie.Need-cast-may-lack
-cast-may-lack c = search needs
-
-may-lack-requires : tie.Need-may-lack-requires
-may-lack-requires c κs = search needs
-
-cast-if2 : tie.Need-cast-if2
-cast-if2 c = search needs
-
 returns : tie.Need-returns
 unfolding standOf
 returns c =
-    λ ws. absent-node _ _ _ (c .before .before .before .before .before .before .before .pre .1) _ _ _ _ _ (sym (c .before .before .before .may-lack .ensures) ∙ c .before .before .if1 .taken) (c .if2 .taken)
+    λ ws. absent-node _ _ _ (c .before .before .before .before .before .before .before .pre .1) _ _ _ _ _
+    (sym (c .before .before .before .may-lack .ensures) ∙ c .before .before .if1 .taken) (c .if2 .taken)
 
 returns-2 : tie.Need-returns-2
 unfolding standOf
 returns-2 c =
-    λ ws. absent-count _ _ _ (c .before .before .before .before .before .before .before .before .before .pre .1) _ _ _ _ _ (sym (c .before .before .before .before .before .may-lack .ensures) ∙ c .before .before .before .before .if1 .taken) (c .before .before .if2 .left) (c .if3 .taken)
-
-add-if4 : tie.Need-add-if4
-add-if4 c = search needs
+    λ ws. absent-count _ _ _ (c .before .before .before .before .before .before .before .before .before .pre .1) _ _ _ _ _
+    (sym (c .before .before .before .before .before .may-lack .ensures) ∙ c .before .before .before .before .if1 .taken)
+    (c .before .before .if2 .left) (c .if3 .taken)
 
 returns-3 : tie.Need-returns-3
 unfolding standOf
 returns-3 c =
-    λ ws. absent-large _ _ _ (c .before .before .before .before .before .before .before .before .before .before .pre .1) _ _ _ _ _ (sym (c .before .before .before .before .before .before .may-lack .ensures) ∙ c .before .before .before .before .before .if1 .taken) (c .before .before .before .if2 .left) (c .before .if3 .left) (c .if4 .taken)
+    λ ws. absent-large _ _ _ (c .before .before .before .before .before .before .before .before .before .before .pre .1) _ _ _ _ _
+    (sym (c .before .before .before .before .before .before .may-lack .ensures) ∙ c .before .before .before .before .before .if1 .taken)
+    (c .before .before .before .if2 .left) (c .before .if3 .left) (c .if4 .taken)
 
 put-head-requires : tie.Need-put-head-requires
-put-head-requires c κs =
-    (omega (arith, c .before .before .before .before .before .before .before .before .before .before .before .pre .3), λ e. absurd (lack-size _ _ _ (c .before .before .before .before .before .before .before .before .before .before .before .pre .1) _ (sym (c .before .before .before .before .before .before .before .may-lack .ensures) ∙ c .before .before .before .before .before .before .if1 .taken) .1 e))
-
-add-t11 : tie.Need-add-t11
-add-t11 c = search needs
-
-same-length : tie.Need-same-length
-same-length c = search needs
+put-head-requires c κs = (
+  omega (arith, c .before .before .before .before .before .before .before .before .before .before .before .pre .3),
+  λ e. absurd
+      (lack-size _ _ _ (c .before .before .before .before .before .before .before .before .before .before .before .pre .1) _
+      (sym (c .before .before .before .before .before .before .before .may-lack .ensures) ∙ c .before .before .before .before .before .before .if1 .taken) .1 e),
+)
 
 returns-4 : tie.Need-returns-4
 unfolding standOf
 returns-4 c =
-    λ ws. absent-done _ _ _ (c .before .before .before .before .before .before .before .before .before .before .before .before .before .before .pre .1) _ _ _ _ _ (sym (c .before .before .before .before .before .before .before .before .before .before .may-lack .ensures) ∙ c .before .before .before .before .before .before .before .before .before .if1 .taken) (c .before .before .before .before .before .before .before .if2 .left) (c .before .before .before .before .before .if3 .left) (c .before .before .before .before .if4 .left) _ (c .before .before .put-head .ensures)
+    λ ws. absent-done _ _ _
+    (c .before .before .before .before .before .before .before .before .before .before .before .before .before .before .pre .1) _ _ _ _ _
+    (sym (c .before .before .before .before .before .before .before .before .before .before .may-lack .ensures)
+    ∙ c .before .before .before .before .before .before .before .before .before .if1 .taken)
+    (c .before .before .before .before .before .before .before .if2 .left) (c .before .before .before .before .before .if3 .left)
+    (c .before .before .before .before .if4 .left) _ (c .before .before .put-head .ensures)
 
 returns-5 : tie.Need-returns-5
 unfolding standOf
@@ -59,15 +55,15 @@ pub build-absent-spec : {M : Type 1} → statement M
 build-absent-spec =
     tie.close
     (tie.spec
-    cast-may-lack
-    may-lack-requires
-    cast-if2
+    (λ c. search needs)
+    (λ c κs. search needs)
+    (λ c. search needs)
     returns
     returns-2
-    add-if4
+    (λ c. search needs)
     returns-3
     put-head-requires
-    add-t11
-    same-length
+    (λ c. search needs)
+    (λ c. search needs)
     returns-4
     returns-5)

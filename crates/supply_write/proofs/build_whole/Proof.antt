@@ -1,4 +1,4 @@
--- `supply_write::build_whole` meets its contract: by the plan's root. Assumes nothing.
+-- `supply_write::build_whole` meets its contract: by the plan's root.
 use mathlib.Core.Path.{refl, _∙_}
 use native.Mathlib.Omega.{arith}
 use Rattle.run_plan.proofs.Runs.{two}
@@ -20,17 +20,21 @@ returns c =
     whole-none _ _ _ (c .before .before .before .before .before .before .before .pre .0) _ _ refl (λ j. c .before .shared-slice-known5 .given j .fits) (c .if1 .taken)
 
 build-top-requires : tie.Need-build-top-requires
-build-top-requires c κs =
-    (whole-root (c .before .before .before .before .before .before .before .before .args .src .now) _ (c .before .before .before .before .before .before .before .before .args .list .now) (c .before .before .before .before .before .before .before .before .pre .0) (c .before .before .before .before .before .before .before .before .args .out .now) _ refl (c .before .if1 .left) (λ j. c .before .before .shared-slice-known5 .given j .fits), c .before .before .before .before .before .before .before .before .pre .1)
-
-same-length : tie.Need-same-length
-same-length c = search needs
+build-top-requires c κs = (
+  whole-root (c .before .before .before .before .before .before .before .before .args .src .now) _
+      (c .before .before .before .before .before .before .before .before .args .list .now)
+      (c .before .before .before .before .before .before .before .before .pre .0)
+      (c .before .before .before .before .before .before .before .before .args .out .now) _ refl (c .before .if1 .left)
+      (λ j. c .before .before .shared-slice-known5 .given j .fits),
+  c .before .before .before .before .before .before .before .before .pre .1,
+)
 
 returns-2 : tie.Need-returns-2
 returns-2 c =
-    c .before .before .build-top .ensures ∙ whole-some _ _ _ (c .before .before .before .before .before .before .before .before .before .before .before .pre .0) _ _ refl (c .before .before .before .before .if1 .left)
+    c .before .before .build-top .ensures
+    ∙ whole-some _ _ _ (c .before .before .before .before .before .before .before .before .before .before .before .pre .0) _ _ refl (c .before .before .before .before .if1 .left)
 
 pub build-whole-spec : {M : Type 1} → statement M
 build-whole-spec =
     tie.close
-    (tie.spec shared-slice-read-root cast-root returns build-top-requires same-length returns-2)
+    (tie.spec shared-slice-read-root cast-root returns build-top-requires (λ c. search needs) returns-2)

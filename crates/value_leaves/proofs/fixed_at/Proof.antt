@@ -1,4 +1,4 @@
--- `value_leaves::fixed_at` meets its contract: a scalar has the size of its format, and no other node has one. Assumes nothing.
+-- `value_leaves::fixed_at` meets its contract: a scalar has the size of its format, and no other node has one.
 use native.Mathlib.Omega.{arith}
 use mathlib.Core.Path.{sym, _∙_}
 use Rattle.plan_nodes.proofs.Nodes.{at-format}
@@ -7,18 +7,9 @@ use borrow.Author.Needs.{needs}
 use Rattle.value_leaves.proofs.fixed_at.Statement.{statement}
 use Rattle.value_leaves.proofs.fixed_at.Tie as tie
 
-kind-at-requires : tie.Need-kind-at-requires
-kind-at-requires c κs = search needs
-
-second-at-requires : tie.Need-second-at-requires
-second-at-requires c κs = search needs
-
 cast-fixed-size : tie.Need-cast-fixed-size
 cast-fixed-size c =
     omega (arith, c .second-at .ensures, at-format _ _ (c .before .before .before .before .pre) (sym (c .before .before .kind-at .ensures .is) ∙ c .before .if1 .taken))
-
-fixed-size-requires : tie.Need-fixed-size-requires
-fixed-size-requires c κs = search needs
 
 returns : tie.Need-returns
 returns c =
@@ -31,9 +22,9 @@ pub fixed-at-spec : {M : Type 1} → statement M
 fixed-at-spec =
     tie.close
     (tie.spec
-    kind-at-requires
-    second-at-requires
+    (λ c κs. search needs)
+    (λ c κs. search needs)
     cast-fixed-size
-    fixed-size-requires
+    (λ c κs. search needs)
     returns
     returns-2)

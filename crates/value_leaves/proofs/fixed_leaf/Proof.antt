@@ -1,4 +1,4 @@
--- `value_leaves::fixed_leaf` meets its contract: its tests are those of `fixedLeaf`, in its order. Assumes nothing.
+-- `value_leaves::fixed_leaf` meets its contract: its tests are those of `fixedLeaf`, in its order.
 use borrow.Author.Tests.{eq-eqb, ne-eqb, lt-ltb, le-ltb}
 use Rattle.value_leaves.specs.Leaves.{fixedLeaf}
 use borrow.Author.Needs.{needs}
@@ -11,24 +11,9 @@ returns : tie.Need-returns
 unfolding fixedLeaf pick
 returns c = rw (eq-eqb _ _ (c .if1 .taken))
 
-sub-if2 : tie.Need-sub-if2
-sub-if2 c = search needs
-
-add-if2 : tie.Need-add-if2
-add-if2 c = search needs
-
 returns-2 : tie.Need-returns-2
 unfolding fixedLeaf pick
 returns-2 c = rw (ne-eqb _ _ (c .before .if1 .left), lt-ltb _ _ (c .if2 .taken))
-
-u32-at-requires : tie.Need-u32-at-requires
-u32-at-requires c κs = search needs
-
-cast-if3 : tie.Need-cast-if3
-cast-if3 c = search needs
-
-add-t10 : tie.Need-add-t10
-add-t10 c = search needs
 
 returns-3 : tie.Need-returns-3
 unfolding fixedLeaf pick word
@@ -45,11 +30,11 @@ fixed-leaf-spec =
     tie.close
     (tie.spec
     returns
-    sub-if2
-    add-if2
+    (λ c. search needs)
+    (λ c. search needs)
     returns-2
-    u32-at-requires
-    cast-if3
-    add-t10
+    (λ c κs. search needs)
+    (λ c. search needs)
+    (λ c. search needs)
     returns-3
     returns-4)

@@ -1,4 +1,4 @@
--- `value_leaves::other_leaves` meets its contract: what is left leads to the same place. Assumes nothing.
+-- `value_leaves::other_leaves` meets its contract: what is left leads to the same place.
 use native.Mathlib.Omega.{arith}
 use mathlib.Core.Path.{ap, _∙_}
 use Rattle.plan_nodes.proofs.Nodes.{at-ref}
@@ -18,26 +18,23 @@ abbrev μ-loop : tie.MeasureT-loop
 kind-at-requires : tie.Need-kind-at-requires Inv-loop μ-loop
 kind-at-requires c κs = c .before .before .before .pre .0 .node
 
-gap-of-requires : tie.Need-gap-of-requires Inv-loop μ-loop
-gap-of-requires c κs = search needs
-
 loop-holds : tie.Need-loop-holds Inv-loop μ-loop
 loop-holds c =
     going-start _ _ _ _ _ _ _ _ _ (c .before .before .before .before .before .pre .5) (c .before .before .before .before .before .pre .6)
 
 ref-of-requires : tie.Need-ref-of-requires Inv-loop μ-loop
-ref-of-requires c κs =
-    (c .before .before .before .before .before .before .before .pre .0 .node, c .before .before .before .before .before .before .before .pre .2 _ (omega (arith, c .before .loop .inv .0, c .loop-test .taken)))
+ref-of-requires c κs = (
+  c .before .before .before .before .before .before .before .pre .0 .node,
+  c .before .before .before .before .before .before .before .pre .2 _ (omega (arith, c .before .loop .inv .0, c .loop-test .taken)),
+)
 
 leaf-at-requires : tie.Need-leaf-at-requires Inv-loop μ-loop
-leaf-at-requires c κs =
-    (at-ref _ _ _ _ (c .before .before .before .before .before .before .before .before .pre .0 .node) (c .ref-of .ensures) .0, c .before .before .loop .inv .2, omega (arith, c .before .before .before .before .before .before .before .before .pre .4), rw (c .before .before .before .gap-of .ensures) (gap-few _))
-
-enum-known-leaf : tie.Need-enum-known-leaf Inv-loop μ-loop
-enum-known-leaf c = search needs
-
-enum-told : tie.Need-enum-told Inv-loop μ-loop
-enum-told c = search needs
+leaf-at-requires c κs = (
+  at-ref _ _ _ _ (c .before .before .before .before .before .before .before .before .pre .0 .node) (c .ref-of .ensures) .0,
+  c .before .before .loop .inv .2,
+  omega (arith, c .before .before .before .before .before .before .before .before .pre .4),
+  rw (c .before .before .before .gap-of .ensures) (gap-few _),
+)
 
 same-length : tie.Need-same-length Inv-loop μ-loop
 same-length c = c .before .before .before .before .before .loop .inv .4
@@ -48,37 +45,79 @@ returns c =
 
 add-put-entry : tie.Need-add-put-entry Inv-loop μ-loop
 add-put-entry c =
-    let t = leaf-fits _ _ _ _ _ _ _ (c .before .before .before .before .before .before .before .loop .inv .2) (c .before .before .before .before .leaf-at .ensures) (c .before .before .leaf .given .1) in
+    let t =
+    leaf-fits _ _ _ _ _ _ _ (c .before .before .before .before .before .before .before .loop .inv .2) (c .before .before .before .before .leaf-at .ensures) (c .before .before .leaf .given .1) in
     omega (arith, t, c .before .before .before .before .before .before .before .before .before .before .before .before .before .pre .4)
 
 put-entry-requires : tie.Need-put-entry-requires Inv-loop μ-loop
 put-entry-requires c κs =
-    let t = leaf-fits _ _ _ _ _ _ _ (c .before .before .before .before .before .before .before .loop .inv .2) (c .before .before .before .before .leaf-at .ensures) (c .before .before .leaf .given .1) in
-    let r = at-ref _ _ _ _ (c .before .before .before .before .before .before .before .before .before .before .before .before .before .pre .0 .node) (c .before .before .before .before .before .ref-of .ensures) .0 in
-    (omega (arith, c .before .before .before .before .before .before .before .loop .inv .2, c .before .before .before .before .before .before .before .loop .inv .3, c .before .before .before .before .before .before .before .before .before .before .before .before .before .pre .4), r .small, omega (arith, c .before .before .before .before .before .before .before .loop .inv .0, c .before .before .before .before .before .before .loop-test .taken, c .before .before .before .before .before .before .before .before .before .before .before .before .before .pre .3), omega (arith, t, c .before .before .before .before .before .before .before .before .before .before .before .before .before .pre .4), omega (arith, t, c .before .before .before .before .before .before .before .before .before .before .before .before .before .pre .4), omega arith)
+    let t =
+    leaf-fits _ _ _ _ _ _ _ (c .before .before .before .before .before .before .before .loop .inv .2) (c .before .before .before .before .leaf-at .ensures) (c .before .before .leaf .given .1) in
+    let r =
+    at-ref _ _ _ _
+    (c .before .before .before .before .before .before .before .before .before .before .before .before .before .pre .0 .node)
+    (c .before .before .before .before .before .ref-of .ensures) .0
+    in (
+      omega (
+        arith,
+        c .before .before .before .before .before .before .before .loop .inv .2,
+        c .before .before .before .before .before .before .before .loop .inv .3,
+        c .before .before .before .before .before .before .before .before .before .before .before .before .before .pre .4,
+      ),
+      r .small,
+      omega (
+        arith,
+        c .before .before .before .before .before .before .before .loop .inv .0,
+        c .before .before .before .before .before .before .loop-test .taken,
+        c .before .before .before .before .before .before .before .before .before .before .before .before .before .pre .3,
+      ),
+      omega (arith, t, c .before .before .before .before .before .before .before .before .before .before .before .before .before .pre .4),
+      omega (arith, t, c .before .before .before .before .before .before .before .before .before .before .before .before .before .pre .4),
+      omega arith,
+    )
 
 add-to : tie.Need-add-to Inv-loop μ-loop
 add-to c =
-    omega (arith, c .before .before .before .before .before .before .before .before .before .before .loop .inv .2, c .before .before .before .before .before .before .before .before .before .before .loop .inv .3, c .before .before .before .before .before .before .before .before .before .before .before .before .before .before .before .before .pre .4)
+    omega (
+      arith,
+      c .before .before .before .before .before .before .before .before .before .before .loop .inv .2,
+      c .before .before .before .before .before .before .before .before .before .before .loop .inv .3,
+      c .before .before .before .before .before .before .before .before .before .before .before .before .before .before .before .before .pre .4,
+    )
 
 add-pos : tie.Need-add-pos Inv-loop μ-loop
 add-pos c =
-    let t = leaf-fits _ _ _ _ _ _ _ (c .before .before .before .before .before .before .before .before .before .before .loop .inv .2) (c .before .before .before .before .before .before .before .leaf-at .ensures) (c .before .before .before .before .before .leaf .given .1) in
+    let t =
+    leaf-fits _ _ _ _ _ _ _ (c .before .before .before .before .before .before .before .before .before .before .loop .inv .2)
+    (c .before .before .before .before .before .before .before .leaf-at .ensures)
+    (c .before .before .before .before .before .leaf .given .1)
+    in
     omega (arith, t, c .before .before .before .before .before .before .before .before .before .before .before .before .before .before .before .before .pre .4)
 
 add-i : tie.Need-add-i Inv-loop μ-loop
 add-i c =
-    omega (arith, c .before .before .before .before .before .before .before .before .before .before .loop .inv .0, c .before .before .before .before .before .before .before .before .before .loop-test .taken, c .before .before .before .before .before .before .before .before .before .before .before .before .before .before .before .before .pre .3)
-
-sub-left : tie.Need-sub-left Inv-loop μ-loop
-sub-left c = search needs
+    omega (
+      arith,
+      c .before .before .before .before .before .before .before .before .before .before .loop .inv .0,
+      c .before .before .before .before .before .before .before .before .before .loop-test .taken,
+      c .before .before .before .before .before .before .before .before .before .before .before .before .before .before .before .before .pre .3,
+    )
 
 loop-less : tie.Need-loop-less Inv-loop μ-loop
 loop-less c = omega arith
 
 loop-again : tie.Need-loop-again Inv-loop μ-loop
 loop-again c =
-    going-other _ _ _ _ _ _ _ _ _ _ _ _ _ _ (c .before .before .before .before .before .before .before .before .before .before .loop .inv) (c .before .before .before .before .before .before .before .before .before .loop-test .taken) (c .before .before .before .before .before .before .before .before .before .before .before .before .before .before .before .before .pre .0) (c .before .before .before .before .before .before .before .before .before .before .before .before .before .before .before .before .pre .1) _ (c .before .before .before .before .before .before .before .before .before .before .before .gap-of .ensures ∙ ap gapOf (c .before .before .before .before .before .before .before .before .before .before .before .before .kind-at .ensures .is)) _ (c .before .before .before .before .before .before .before .before .ref-of .ensures) _ _ _ (c .before .before .before .before .before .before .before .leaf-at .ensures) (c .before .before .before .before .before .leaf .given .1) _ (c .before .before .put-entry .ensures) (c .before .before .put-entry .kept .0)
+    going-other _ _ _ _ _ _ _ _ _ _ _ _ _ _ (c .before .before .before .before .before .before .before .before .before .before .loop .inv)
+    (c .before .before .before .before .before .before .before .before .before .loop-test .taken)
+    (c .before .before .before .before .before .before .before .before .before .before .before .before .before .before .before .before .pre .0)
+    (c .before .before .before .before .before .before .before .before .before .before .before .before .before .before .before .before .pre .1) _
+    (c .before .before .before .before .before .before .before .before .before .before .before .gap-of .ensures
+    ∙ ap gapOf (c .before .before .before .before .before .before .before .before .before .before .before .before .kind-at .ensures .is))
+    _ (c .before .before .before .before .before .before .before .before .ref-of .ensures) _ _ _
+    (c .before .before .before .before .before .before .before .leaf-at .ensures)
+    (c .before .before .before .before .before .leaf .given .1) _ (c .before .before .put-entry .ensures)
+    (c .before .before .put-entry .kept .0)
 
 same-length-2 : tie.Need-same-length-2 Inv-loop μ-loop
 same-length-2 c = c .before .loop .inv .4
@@ -93,12 +132,12 @@ other-leaves-spec =
     Inv-loop
     μ-loop
     kind-at-requires
-    gap-of-requires
+    (λ c κs. search needs)
     loop-holds
     ref-of-requires
     leaf-at-requires
-    enum-known-leaf
-    enum-told
+    (λ c. search needs)
+    (λ c. search needs)
     same-length
     returns
     add-put-entry
@@ -106,7 +145,7 @@ other-leaves-spec =
     add-to
     add-pos
     add-i
-    sub-left
+    (λ c. search needs)
     loop-less
     loop-again
     same-length-2

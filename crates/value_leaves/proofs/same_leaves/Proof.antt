@@ -1,4 +1,4 @@
--- `value_leaves::same_leaves` meets its contract: what is left leads to the same place. Assumes nothing.
+-- `value_leaves::same_leaves` meets its contract: what is left leads to the same place.
 use native.Mathlib.Omega.{arith}
 use Rattle.plan_nodes.proofs.Nodes.{at-ref}
 use Rattle.value_leaves.proofs.Single.{standing}
@@ -26,12 +26,6 @@ loop-holds c =
 fixed-leaf-requires : tie.Need-fixed-leaf-requires Inv-loop μ-loop
 fixed-leaf-requires c κs = (c .before .loop .inv .2, c .before .before .fixed-at .ensures .small)
 
-enum-known-leaf : tie.Need-enum-known-leaf Inv-loop μ-loop
-enum-known-leaf c = search needs
-
-enum-told : tie.Need-enum-told Inv-loop μ-loop
-enum-told c = search needs
-
 same-length : tie.Need-same-length Inv-loop μ-loop
 same-length c = c .before .before .before .before .loop .inv .4
 
@@ -46,12 +40,36 @@ add-put-entry c =
 put-entry-requires : tie.Need-put-entry-requires Inv-loop μ-loop
 put-entry-requires c κs =
     let x = standing _ _ _ _ (c .before .before .before .before .fixed-leaf .ensures) _ _ (c .before .before .leaf .given .1) in
-    let r = at-ref _ _ _ _ (c .before .before .before .before .before .before .before .before .before .before .before .before .pre .0) (c .before .before .before .before .before .before .before .before .ref-of .ensures) .0 in
-    (omega (arith, c .before .before .before .before .before .before .loop .inv .2, c .before .before .before .before .before .before .loop .inv .3, c .before .before .before .before .before .before .before .before .before .before .before .before .pre .3), r .small, omega (arith, c .before .before .before .before .before .before .loop .inv .0, c .before .before .before .before .before .loop-test .taken, c .before .before .before .before .before .before .before .before .before .before .before .before .pre .2), omega (arith, x .0 .fits, x .1, c .before .before .before .before .before .before .before .before .before .before .before .before .pre .3), omega (arith, x .2, c .before .before .before .before .before .before .before .fixed-at .ensures .small), omega arith)
+    let r =
+    at-ref _ _ _ _ (c .before .before .before .before .before .before .before .before .before .before .before .before .pre .0)
+    (c .before .before .before .before .before .before .before .before .ref-of .ensures) .0
+    in (
+      omega (
+        arith,
+        c .before .before .before .before .before .before .loop .inv .2,
+        c .before .before .before .before .before .before .loop .inv .3,
+        c .before .before .before .before .before .before .before .before .before .before .before .before .pre .3,
+      ),
+      r .small,
+      omega (
+        arith,
+        c .before .before .before .before .before .before .loop .inv .0,
+        c .before .before .before .before .before .loop-test .taken,
+        c .before .before .before .before .before .before .before .before .before .before .before .before .pre .2,
+      ),
+      omega (arith, x .0 .fits, x .1, c .before .before .before .before .before .before .before .before .before .before .before .before .pre .3),
+      omega (arith, x .2, c .before .before .before .before .before .before .before .fixed-at .ensures .small),
+      omega arith,
+    )
 
 add-to : tie.Need-add-to Inv-loop μ-loop
 add-to c =
-    omega (arith, c .before .before .before .before .before .before .before .before .before .loop .inv .2, c .before .before .before .before .before .before .before .before .before .loop .inv .3, c .before .before .before .before .before .before .before .before .before .before .before .before .before .before .before .pre .3)
+    omega (
+      arith,
+      c .before .before .before .before .before .before .before .before .before .loop .inv .2,
+      c .before .before .before .before .before .before .before .before .before .loop .inv .3,
+      c .before .before .before .before .before .before .before .before .before .before .before .before .before .before .before .pre .3,
+    )
 
 add-pos : tie.Need-add-pos Inv-loop μ-loop
 add-pos c =
@@ -60,17 +78,27 @@ add-pos c =
 
 add-i : tie.Need-add-i Inv-loop μ-loop
 add-i c =
-    omega (arith, c .before .before .before .before .before .before .before .before .before .loop .inv .0, c .before .before .before .before .before .before .before .before .loop-test .taken, c .before .before .before .before .before .before .before .before .before .before .before .before .before .before .before .pre .2)
-
-sub-left : tie.Need-sub-left Inv-loop μ-loop
-sub-left c = search needs
+    omega (
+      arith,
+      c .before .before .before .before .before .before .before .before .before .loop .inv .0,
+      c .before .before .before .before .before .before .before .before .loop-test .taken,
+      c .before .before .before .before .before .before .before .before .before .before .before .before .before .before .before .pre .2,
+    )
 
 loop-less : tie.Need-loop-less Inv-loop μ-loop
 loop-less c = omega arith
 
 loop-again : tie.Need-loop-again Inv-loop μ-loop
 loop-again c =
-    going-same _ _ _ _ _ _ _ _ _ _ _ _ _ _ (c .before .before .before .before .before .before .before .before .before .loop .inv) (c .before .before .before .before .before .before .before .before .loop-test .taken) (c .before .before .before .before .before .before .before .before .before .before .before .before .before .before .before .pre .1) (c .before .before .before .before .before .before .before .before .before .before .before .before .before .before .before .pre .0) _ _ _ (c .before .before .before .before .before .before .before .before .before .before .fixed-at .ensures) (c .before .before .before .before .before .before .before .before .before .before .before .ref-of .ensures) _ (c .before .before .before .before .before .before .before .fixed-leaf .ensures) _ _ (c .before .before .before .before .before .leaf .given .1) _ (c .before .before .put-entry .ensures) (c .before .before .put-entry .kept .0)
+    going-same _ _ _ _ _ _ _ _ _ _ _ _ _ _ (c .before .before .before .before .before .before .before .before .before .loop .inv)
+    (c .before .before .before .before .before .before .before .before .loop-test .taken)
+    (c .before .before .before .before .before .before .before .before .before .before .before .before .before .before .before .pre .1)
+    (c .before .before .before .before .before .before .before .before .before .before .before .before .before .before .before .pre .0) _ _ _
+    (c .before .before .before .before .before .before .before .before .before .before .fixed-at .ensures)
+    (c .before .before .before .before .before .before .before .before .before .before .before .ref-of .ensures) _
+    (c .before .before .before .before .before .before .before .fixed-leaf .ensures) _ _
+    (c .before .before .before .before .before .leaf .given .1) _ (c .before .before .put-entry .ensures)
+    (c .before .before .put-entry .kept .0)
 
 same-length-2 : tie.Need-same-length-2 Inv-loop μ-loop
 same-length-2 c = c .before .loop .inv .4
@@ -88,8 +116,8 @@ same-leaves-spec =
     fixed-at-requires
     loop-holds
     fixed-leaf-requires
-    enum-known-leaf
-    enum-told
+    (λ c. search needs)
+    (λ c. search needs)
     same-length
     returns
     add-put-entry
@@ -97,7 +125,7 @@ same-leaves-spec =
     add-to
     add-pos
     add-i
-    sub-left
+    (λ c. search needs)
     loop-less
     loop-again
     same-length-2

@@ -20,24 +20,6 @@ fixed-at-requires : tie.Need-fixed-at-requires
 fixed-at-requires c κs =
     at-ref _ _ _ _ (c .before .before .before .before .before .before .before .pre .0 .node) (c .ref-of .ensures) .0
 
-same-leaves-requires : tie.Need-same-leaves-requires
-same-leaves-requires c κs = search needs
-
-same-length : tie.Need-same-length
-same-length c = search needs
-
-returns-2 : tie.Need-returns-2
-returns-2 c = search needs
-
-other-leaves-requires : tie.Need-other-leaves-requires
-other-leaves-requires c κs = search needs
-
-same-length-2 : tie.Need-same-length-2
-same-length-2 c = search needs
-
-returns-3 : tie.Need-returns-3
-returns-3 c = search needs
-
 pub walk-leaves-spec : {M : Type 1} → statement M
 walk-leaves-spec =
     tie.close
@@ -46,9 +28,9 @@ walk-leaves-spec =
     returns
     ref-of-requires
     fixed-at-requires
-    same-leaves-requires
-    same-length
-    returns-2
-    other-leaves-requires
-    same-length-2
-    returns-3)
+    (λ c κs. search needs)
+    (λ c. search needs)
+    (λ c. search needs)
+    (λ c κs. search needs)
+    (λ c. search needs)
+    (λ c. search needs))

@@ -1,4 +1,4 @@
--- `value_openings::count_opening` meets its contract: the tests are those of `countOpening`, in its order. Assumes nothing.
+-- `value_openings::count_opening` meets its contract: the tests are those of `countOpening`, in its order.
 use borrow.Author.Tests.{lt-ltb, le-ltb, eq-eqb, ne-eqb}
 use borrow.Author.Needs.{needs}
 use Rattle.value_openings.proofs.count_opening.Statement.{statement}
@@ -9,12 +9,6 @@ use Rattle.protocol.specs.Heads.{countOpening, word}
 returns : tie.Need-returns
 unfolding countOpening word pick
 returns c = simp (lt-ltb _ _ (c .if1 .taken))
-
-u32-at-requires : tie.Need-u32-at-requires
-u32-at-requires c κs = search needs
-
-cast-count : tie.Need-cast-count
-cast-count c = search needs
 
 returns-2 : tie.Need-returns-2
 unfolding countOpening word pick
@@ -27,4 +21,4 @@ returns-3 c =
     simp (le-ltb _ _ (c .before .before .if1 .left), ← c .before .u32-at .ensures, ne-eqb _ _ (c .if2 .left))
 
 pub count-opening-spec : {M : Type 1} → statement M
-count-opening-spec = tie.close (tie.spec returns u32-at-requires cast-count returns-2 returns-3)
+count-opening-spec = tie.close (tie.spec returns (λ c κs. search needs) (λ c. search needs) returns-2 returns-3)

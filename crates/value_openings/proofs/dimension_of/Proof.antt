@@ -1,4 +1,4 @@
--- `value_openings::dimension_of` meets its contract: the tests are those of `dimension`, in its order. Assumes nothing.
+-- `value_openings::dimension_of` meets its contract: the tests are those of `dimension`, in its order.
 use borrow.Author.Tests.{lt-ltb, le-ltb, le-leb, lt-leb, eq-eqb, ne-eqb}
 use borrow.Author.Needs.{needs}
 use Rattle.value_openings.proofs.dimension_of.Statement.{statement}
@@ -9,9 +9,6 @@ use Rattle.protocol.specs.Heads.{word, negative, dimension}
 returns : tie.Need-returns
 unfolding dimension word negative pick
 returns c = simp (lt-ltb _ _ (c .if1 .taken))
-
-u32-at-requires : tie.Need-u32-at-requires
-u32-at-requires c κs = search needs
 
 returns-2 : tie.Need-returns-2
 unfolding dimension word negative pick
@@ -26,34 +23,50 @@ returns-3 c =
 returns-4 : tie.Need-returns-4
 unfolding dimension word negative pick
 returns-4 c =
-    simp (le-ltb _ _ (c .before .before .before .before .if1 .left), ← c .before .before .before .u32-at .ensures, ne-eqb _ _ (c .before .before .if2 .left), lt-leb _ _ (c .before .if3 .left), lt-ltb _ _ (c .if4 .taken))
-
-u32-at-requires-2 : tie.Need-u32-at-requires-2
-u32-at-requires-2 c κs = search needs
-
-cast-t6 : tie.Need-cast-t6
-cast-t6 c = search needs
+    simp (
+      le-ltb _ _ (c .before .before .before .before .if1 .left),
+      ← c .before .before .before .u32-at .ensures,
+      ne-eqb _ _ (c .before .before .if2 .left),
+      lt-leb _ _ (c .before .if3 .left),
+      lt-ltb _ _ (c .if4 .taken),
+    )
 
 returns-5 : tie.Need-returns-5
 unfolding dimension word negative pick
 returns-5 c =
-    simp (le-ltb _ _ (c .before .before .before .before .before .before .if1 .left), ← c .before .before .before .before .before .u32-at .ensures, ne-eqb _ _ (c .before .before .before .before .if2 .left), lt-leb _ _ (c .before .before .before .if3 .left), le-ltb _ _ (c .before .before .if4 .left), ← c .before .u32-at2 .ensures, eq-eqb _ _ (c .if5 .taken))
+    simp (
+      le-ltb _ _ (c .before .before .before .before .before .before .if1 .left),
+      ← c .before .before .before .before .before .u32-at .ensures,
+      ne-eqb _ _ (c .before .before .before .before .if2 .left),
+      lt-leb _ _ (c .before .before .before .if3 .left),
+      le-ltb _ _ (c .before .before .if4 .left),
+      ← c .before .u32-at2 .ensures,
+      eq-eqb _ _ (c .if5 .taken),
+    )
 
 returns-6 : tie.Need-returns-6
 unfolding dimension word negative pick
 returns-6 c =
-    simp (le-ltb _ _ (c .before .before .before .before .before .before .if1 .left), ← c .before .before .before .before .before .u32-at .ensures, ne-eqb _ _ (c .before .before .before .before .if2 .left), lt-leb _ _ (c .before .before .before .if3 .left), le-ltb _ _ (c .before .before .if4 .left), ← c .before .u32-at2 .ensures, ne-eqb _ _ (c .if5 .left))
+    simp (
+      le-ltb _ _ (c .before .before .before .before .before .before .if1 .left),
+      ← c .before .before .before .before .before .u32-at .ensures,
+      ne-eqb _ _ (c .before .before .before .before .if2 .left),
+      lt-leb _ _ (c .before .before .before .if3 .left),
+      le-ltb _ _ (c .before .before .if4 .left),
+      ← c .before .u32-at2 .ensures,
+      ne-eqb _ _ (c .if5 .left),
+    )
 
 pub dimension-of-spec : {M : Type 1} → statement M
 dimension-of-spec =
     tie.close
     (tie.spec
     returns
-    u32-at-requires
+    (λ c κs. search needs)
     returns-2
     returns-3
     returns-4
-    u32-at-requires-2
-    cast-t6
+    (λ c κs. search needs)
+    (λ c. search needs)
     returns-5
     returns-6)

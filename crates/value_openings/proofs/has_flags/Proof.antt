@@ -1,15 +1,9 @@
--- `value_openings::has_flags` meets its contract, by its one test. Assumes nothing.
+-- `value_openings::has_flags` meets its contract, by its one test.
 use mathlib.Core.Path.{sym, _∙_}
 use borrow.Author.Needs.{needs}
 use Rattle.value_openings.proofs.has_flags.Statement.{statement}
 use Rattle.value_openings.proofs.has_flags.Tie as tie
 use Rattle.protocol.specs.Numbers.{pick}
-
-has-flag-requires : tie.Need-has-flag-requires
-has-flag-requires c κs = search needs
-
-has-flag-requires-2 : tie.Need-has-flag-requires-2
-has-flag-requires-2 c κs = search needs
 
 returns : tie.Need-returns
 unfolding pick
@@ -21,4 +15,4 @@ unfolding pick
 returns-2 c = simp (sym (c .before .has-flag .ensures) ∙ c .if1 .left)
 
 pub has-flags-spec : {M : Type 1} → statement M
-has-flags-spec = tie.close (tie.spec has-flag-requires has-flag-requires-2 returns returns-2)
+has-flags-spec = tie.close (tie.spec (λ c κs. search needs) (λ c κs. search needs) returns returns-2)

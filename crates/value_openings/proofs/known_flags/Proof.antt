@@ -1,4 +1,4 @@
--- `value_openings::known_flags` meets its contract: the tests are those of `rangeFlags`, in its order. Assumes nothing.
+-- `value_openings::known_flags` meets its contract: the tests are those of `rangeFlags`, in its order.
 use mathlib.Core.Path.{sym, _∙_}
 use borrow.Author.Tests.{eq-eqb, ne-eqb, le-leb, lt-leb}
 use borrow.Author.Needs.{needs}
@@ -11,9 +11,6 @@ returns : tie.Need-returns
 unfolding rangeFlags pick
 returns c = simp (eq-eqb _ _ (c .if1 .taken))
 
-has-flag-requires : tie.Need-has-flag-requires
-has-flag-requires c κs = search needs
-
 returns-2 : tie.Need-returns-2
 unfolding rangeFlags pick
 returns-2 c =
@@ -24,31 +21,36 @@ unfolding rangeFlags pick
 returns-3 c =
     simp (ne-eqb _ _ (c .before .before .before .if1 .left), sym (c .before .before .has-flag .ensures) ∙ c .before .if2 .left, le-leb _ _ (c .if3 .taken))
 
-has-flags-requires : tie.Need-has-flags-requires
-has-flags-requires c κs = search needs
-
 returns-4 : tie.Need-returns-4
 unfolding rangeFlags pick
 returns-4 c =
-    simp (ne-eqb _ _ (c .before .before .before .before .before .if1 .left), sym (c .before .before .before .before .has-flag .ensures) ∙ c .before .before .before .if2 .left, lt-leb _ _ (c .before .before .if3 .left), sym (c .before .has-flags .ensures) ∙ c .if4 .taken)
-
-has-flags-requires-2 : tie.Need-has-flags-requires-2
-has-flags-requires-2 c κs = search needs
+    simp (
+      ne-eqb _ _ (c .before .before .before .before .before .if1 .left),
+      sym (c .before .before .before .before .has-flag .ensures) ∙ c .before .before .before .if2 .left,
+      lt-leb _ _ (c .before .before .if3 .left),
+      sym (c .before .has-flags .ensures) ∙ c .if4 .taken,
+    )
 
 returns-5 : tie.Need-returns-5
 unfolding rangeFlags pick
 returns-5 c =
-    simp (ne-eqb _ _ (c .before .before .before .before .before .before .if1 .left), sym (c .before .before .before .before .before .has-flag .ensures) ∙ c .before .before .before .before .if2 .left, lt-leb _ _ (c .before .before .before .if3 .left), sym (c .before .before .has-flags .ensures) ∙ c .before .if4 .left, ← c .has-flags2 .ensures)
+    simp (
+      ne-eqb _ _ (c .before .before .before .before .before .before .if1 .left),
+      sym (c .before .before .before .before .before .has-flag .ensures) ∙ c .before .before .before .before .if2 .left,
+      lt-leb _ _ (c .before .before .before .if3 .left),
+      sym (c .before .before .has-flags .ensures) ∙ c .before .if4 .left,
+      ← c .has-flags2 .ensures,
+    )
 
 pub known-flags-spec : {M : Type 1} → statement M
 known-flags-spec =
     tie.close
     (tie.spec
     returns
-    has-flag-requires
+    (λ c κs. search needs)
     returns-2
     returns-3
-    has-flags-requires
+    (λ c κs. search needs)
     returns-4
-    has-flags-requires-2
+    (λ c κs. search needs)
     returns-5)

@@ -1,4 +1,4 @@
--- `value_openings::range_opening` meets its contract: the tests are those of `rangeOpening`, in its order. Assumes nothing.
+-- `value_openings::range_opening` meets its contract: the tests are those of `rangeOpening`, in its order.
 use mathlib.Core.Path.{sym, _∙_}
 use borrow.Author.Tests.{lt-ltb, le-ltb}
 use borrow.Author.Needs.{needs}
@@ -10,15 +10,6 @@ use Rattle.protocol.specs.Heads.{rangeOpening}
 returns : tie.Need-returns
 unfolding rangeOpening pick
 returns c = simp (lt-ltb _ _ (c .if1 .taken))
-
-shared-slice-read-f : tie.Need-shared-slice-read-f
-shared-slice-read-f c = search needs
-
-known-flags-requires : tie.Need-known-flags-requires
-known-flags-requires c κs = search needs
-
-bounds-of-requires : tie.Need-bounds-of-requires
-bounds-of-requires c κs = search needs
 
 returns-2 : tie.Need-returns-2
 unfolding rangeOpening pick
@@ -35,8 +26,8 @@ range-opening-spec =
     tie.close
     (tie.spec
     returns
-    shared-slice-read-f
-    known-flags-requires
-    bounds-of-requires
+    (λ c. search needs)
+    (λ c κs. search needs)
+    (λ c κs. search needs)
     returns-2
     returns-3)

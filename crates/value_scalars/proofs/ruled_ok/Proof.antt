@@ -8,21 +8,6 @@ use Rattle.value_scalars.proofs.ruled_ok.Tie as tie
 use Rattle.protocol.specs.Numbers.{pick}
 use Rattle.protocol.specs.Scalars.{scalar, formatRule, formats, ruleOf}
 
-is-utf8-requires : tie.Need-is-utf8-requires
-is-utf8-requires c κs = search needs
-
-decimal-ok-requires : tie.Need-decimal-ok-requires
-decimal-ok-requires c κs = search needs
-
-duration-ok-requires : tie.Need-duration-ok-requires
-duration-ok-requires c κs = search needs
-
-json-ok-requires : tie.Need-json-ok-requires
-json-ok-requires c κs = search needs
-
-bigint-ok-requires : tie.Need-bigint-ok-requires
-bigint-ok-requires c κs = search needs
-
 returns : tie.Need-returns
 unfolding scalar formatRule formats ruleOf
 returns c = scalar-at 1 _ _ _ (c .before .match .keys1) (c .is-utf8 .ensures)
@@ -56,11 +41,11 @@ pub ruled-ok-spec : {M : Type 1} → statement M
 ruled-ok-spec =
     tie.close
     (tie.spec
-    is-utf8-requires
-    decimal-ok-requires
-    duration-ok-requires
-    json-ok-requires
-    bigint-ok-requires
+    (λ c κs. search needs)
+    (λ c κs. search needs)
+    (λ c κs. search needs)
+    (λ c κs. search needs)
+    (λ c κs. search needs)
     returns
     returns-2
     returns-3

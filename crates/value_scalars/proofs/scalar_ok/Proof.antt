@@ -5,15 +5,9 @@ use Rattle.value_scalars.proofs.scalar_ok.Statement.{statement}
 use Rattle.value_scalars.proofs.scalar_ok.Tie as tie
 use Rattle.protocol.specs.Scalars.{ofSize, scalar, formatRule, formats, ruleOf}
 
-fixed-size-requires : tie.Need-fixed-size-requires
-fixed-size-requires c κs = search needs
-
 returns : tie.Need-returns
 unfolding ofSize
 returns c = sym (c .before .fixed-size .ensures .rule (c .if1 .taken) _)
-
-bool-ok-requires : tie.Need-bool-ok-requires
-bool-ok-requires c κs = search needs
 
 returns-2 : tie.Need-returns-2
 unfolding scalar formatRule formats ruleOf
@@ -22,16 +16,13 @@ returns-2 c = scalar-at 9 _ _ _ (c .before .if2 .taken) (c .bool-ok .ensures)
 ruled-ok-requires : tie.Need-ruled-ok-requires
 ruled-ok-requires c κs = (no-size _ _ (c .before .before .fixed-size .ensures) (c .before .if1 .left), c .if2 .left)
 
-returns-3 : tie.Need-returns-3
-returns-3 c = search needs
-
 pub scalar-ok-spec : {M : Type 1} → statement M
 scalar-ok-spec =
     tie.close
     (tie.spec
-    fixed-size-requires
+    (λ c κs. search needs)
     returns
-    bool-ok-requires
+    (λ c κs. search needs)
     returns-2
     ruled-ok-requires
-    returns-3)
+    (λ c. search needs))

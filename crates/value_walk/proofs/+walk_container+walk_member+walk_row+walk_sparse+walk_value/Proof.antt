@@ -1,6 +1,9 @@
 use Rattle.value_leaves.proofs.Stretches.{Left, left-next, from-end}
 use Rattle.value_leaves.proofs.Gathering.{gathers-stop, gathers-go}
-use Rattle.value_parts.proofs.Members.{opening-holds, is-row, opened, inner-kind, same-kind, value-wrong, value-sparse, value-row, member-fault, member-absent, member-present, absent-in, present-in, end-in, within-present, within-absent, reached-in, refused-within, fault-within, end-within, object-below, row-at, known-in, sparse-twice, sparse-turn, part-size}
+use Rattle.value_parts.proofs.Members.{opening-holds, is-row, opened, inner-kind, same-kind, value-wrong, value-sparse, value-row}
+use Rattle.value_parts.proofs.Members.{member-fault, member-absent, member-present, absent-in, present-in, end-in, within-present}
+use Rattle.value_parts.proofs.Members.{within-absent, reached-in, refused-within, fault-within, end-within, object-below, row-at, known-in}
+use Rattle.value_parts.proofs.Members.{sparse-twice, sparse-turn, part-size}
 use lib.ListN.{length, length-take, length-drop}
 use mathlib.Core.Path.{_≡_, refl, sym, _∙_}
 use native.Mathlib.Omega.{arith}
@@ -125,20 +128,82 @@ walk-value-below t =
     and 4 walk-value-kinds.ps (falls 4 walk-value-kinds.ps _<_ μ-walk-value t) walk-value.Pre
 
 abbrev walk-container-claims : ℕ → walk-container-lts.Claims
-walk-container-claims t =
-    (open-node-reads.Asked, open-node-reads.Learnt, opening-fault-reads.Asked, opening-fault-reads.Learnt, refused-reads.Asked, refused-reads.Learnt, put-entry-reads.Asked, put-entry-reads.Learnt, sparse-leaves-reads.Asked, sparse-leaves-reads.Learnt, walk-sparse-below t, walk-sparse.Post, walk-row-below t, walk-row.Post)
+walk-container-claims t = (
+  open-node-reads.Asked,
+  open-node-reads.Learnt,
+  opening-fault-reads.Asked,
+  opening-fault-reads.Learnt,
+  refused-reads.Asked,
+  refused-reads.Learnt,
+  put-entry-reads.Asked,
+  put-entry-reads.Learnt,
+  sparse-leaves-reads.Asked,
+  sparse-leaves-reads.Learnt,
+  walk-sparse-below t,
+  walk-sparse.Post,
+  walk-row-below t,
+  walk-row.Post,
+)
 
 abbrev walk-member-claims : ℕ → walk-member-lts.Claims
-walk-member-claims t =
-    (head-fault-reads.Asked, head-fault-reads.Learnt, refused-reads.Asked, refused-reads.Learnt, ref-of-reads.Asked, ref-of-reads.Learnt, walk-absent-reads.Asked, walk-absent-reads.Learnt, kind-at-reads.Asked, kind-at-reads.Learnt, is-leaf-reads.Asked, is-leaf-reads.Learnt, walk-leaf-reads.Asked, walk-leaf-reads.Learnt, walk-value-below t, walk-value.Post)
+walk-member-claims t = (
+  head-fault-reads.Asked,
+  head-fault-reads.Learnt,
+  refused-reads.Asked,
+  refused-reads.Learnt,
+  ref-of-reads.Asked,
+  ref-of-reads.Learnt,
+  walk-absent-reads.Asked,
+  walk-absent-reads.Learnt,
+  kind-at-reads.Asked,
+  kind-at-reads.Learnt,
+  is-leaf-reads.Asked,
+  is-leaf-reads.Learnt,
+  walk-leaf-reads.Asked,
+  walk-leaf-reads.Learnt,
+  walk-value-below t,
+  walk-value.Post,
+)
 
 abbrev walk-row-claims : ℕ → walk-row-lts.Claims
-walk-row-claims t =
-    (kind-at-reads.Asked, kind-at-reads.Learnt, walk-leaves-reads.Asked, walk-leaves-reads.Learnt, row-head-reads.Asked, row-head-reads.Learnt, walk-member-below t, walk-member.Post, end-of-reads.Asked, end-of-reads.Learnt, end-elements-reads.Asked, end-elements-reads.Learnt)
+walk-row-claims t = (
+  kind-at-reads.Asked,
+  kind-at-reads.Learnt,
+  walk-leaves-reads.Asked,
+  walk-leaves-reads.Learnt,
+  row-head-reads.Asked,
+  row-head-reads.Learnt,
+  walk-member-below t,
+  walk-member.Post,
+  end-of-reads.Asked,
+  end-of-reads.Learnt,
+  end-elements-reads.Asked,
+  end-elements-reads.Learnt,
+)
 
 abbrev walk-sparse-claims : ℕ → walk-sparse-lts.Claims
-walk-sparse-claims t =
-    (index-at-reads.Asked, index-at-reads.Learnt, index-fault-reads.Asked, index-fault-reads.Learnt, refused-reads.Asked, refused-reads.Learnt, mark-reads.Asked, mark-reads.Learnt, count-given-reads.Asked, count-given-reads.Learnt, sparse-head-reads.Asked, sparse-head-reads.Learnt, walk-member-below t, walk-member.Post, end-of-reads.Asked, end-of-reads.Learnt, needed-of-reads.Asked, needed-of-reads.Learnt, end-elements-reads.Asked, end-elements-reads.Learnt)
+walk-sparse-claims t = (
+  index-at-reads.Asked,
+  index-at-reads.Learnt,
+  index-fault-reads.Asked,
+  index-fault-reads.Learnt,
+  refused-reads.Asked,
+  refused-reads.Learnt,
+  mark-reads.Asked,
+  mark-reads.Learnt,
+  count-given-reads.Asked,
+  count-given-reads.Learnt,
+  sparse-head-reads.Asked,
+  sparse-head-reads.Learnt,
+  walk-member-below t,
+  walk-member.Post,
+  end-of-reads.Asked,
+  end-of-reads.Learnt,
+  needed-of-reads.Asked,
+  needed-of-reads.Learnt,
+  end-elements-reads.Asked,
+  end-elements-reads.Learnt,
+)
 
 abbrev walk-value-claims : ℕ → walk-value-lts.Claims
 walk-value-claims t =
@@ -148,15 +213,6 @@ walk-container-open-node-requires : (t : ℕ) → walk-container-lts.Need-open-n
 walk-container-open-node-requires t c κs =
     (c .before .before .before .before .pre .1 .0, c .before .before .before .before .pre .1 .5)
 
-walk-container-enum-known-opening : (t : ℕ) → walk-container-lts.Need-enum-known-opening (walk-container-claims t) (walk-container-at t) walk-container.Post
-walk-container-enum-known-opening t c = search needs
-
-walk-container-enum-told : (t : ℕ) → walk-container-lts.Need-enum-told (walk-container-claims t) (walk-container-at t) walk-container.Post
-walk-container-enum-told t c = search needs
-
-walk-container-opening-fault-requires : (t : ℕ) → walk-container-lts.Need-opening-fault-requires (walk-container-claims t) (walk-container-at t) walk-container.Post
-walk-container-opening-fault-requires t c κs = search needs
-
 walk-container-refused-requires : (t : ℕ) → walk-container-lts.Need-refused-requires (walk-container-claims t) (walk-container-at t) walk-container.Post
 walk-container-refused-requires t c κs =
     omega (arith, c .before .before .before .before .before .before .before .before .pre .1 .2)
@@ -164,19 +220,50 @@ walk-container-refused-requires t c κs =
 walk-container-returns : (t : ℕ) → walk-container-lts.Need-returns (walk-container-claims t) (walk-container-at t) walk-container.Post
 unfolding walkOf
 walk-container-returns t c =
-    let k = c .before .before .before .before .before .before .before .before .before .pre .1 .5 in (rw (c .refused .ensures, c .before .opening-fault .ensures) (value-wrong _ _ (c .before .before .before .before .before .before .before .before .before .pre .1 .0) _ k _ _ _ _ _ _ (c .before .before .before .before .open-node .ensures) _ (c .before .before .enum-told .given .1)), refused-within _ _ _ _ (c .refused .ensures))
+    let k = c .before .before .before .before .before .before .before .before .before .pre .1 .5 in (
+      rw (c .refused .ensures, c .before .opening-fault .ensures)
+          (value-wrong _ _ (c .before .before .before .before .before .before .before .before .before .pre .1 .0) _ k _ _ _ _ _ _
+          (c .before .before .before .before .open-node .ensures) _ (c .before .before .enum-told .given .1)),
+      refused-within _ _ _ _ (c .refused .ensures),
+    )
 
 walk-container-put-entry-requires : (t : ℕ) → walk-container-lts.Need-put-entry-requires (walk-container-claims t) (walk-container-at t) walk-container.Post
 walk-container-put-entry-requires t c κs =
-    let k = c .before .before .before .before .before .before .before .before .before .pre .1 .5 in let o = opened _ _ (c .before .before .before .before .before .before .before .before .before .pre .1 .0) _ k _ _ _ _ (sym (c .before .before .before .before .open-node .ensures) ∙ c .before .before .opening .given .1) in (omega (arith, c .before .before .before .before .before .before .before .before .before .pre .1 .2, c .before .before .before .before .before .before .before .before .before .pre .1 .3), c .before .before .before .before .before .before .before .before .before .pre .1 .0 .small, c .before .before .before .before .before .before .before .before .before .pre .1 .1, omega (arith, c .before .before .before .before .before .before .before .before .before .pre .1 .2), omega (arith, c .before .before .before .before .before .before .before .before .before .pre .1 .2), omega (arith, o .0))
+    let k = c .before .before .before .before .before .before .before .before .before .pre .1 .5 in
+    let o =
+    opened _ _ (c .before .before .before .before .before .before .before .before .before .pre .1 .0) _ k _ _ _ _
+    (sym (c .before .before .before .before .open-node .ensures) ∙ c .before .before .opening .given .1)
+    in (
+      omega (arith, c .before .before .before .before .before .before .before .before .before .pre .1 .2, c .before .before .before .before .before .before .before .before .before .pre .1 .3),
+      c .before .before .before .before .before .before .before .before .before .pre .1 .0 .small,
+      c .before .before .before .before .before .before .before .before .before .pre .1 .1,
+      omega (arith, c .before .before .before .before .before .before .before .before .before .pre .1 .2),
+      omega (arith, c .before .before .before .before .before .before .before .before .before .pre .1 .2),
+      omega (arith, o .0),
+    )
 
 walk-container-add-to : (t : ℕ) → walk-container-lts.Need-add-to (walk-container-claims t) (walk-container-at t) walk-container.Post
 walk-container-add-to t c =
-    omega (arith, c .before .before .before .before .before .before .before .before .before .before .before .before .pre .1 .2, c .before .before .before .before .before .before .before .before .before .before .before .before .pre .1 .3)
+    omega (
+      arith,
+      c .before .before .before .before .before .before .before .before .before .before .before .before .pre .1 .2,
+      c .before .before .before .before .before .before .before .before .before .before .before .before .pre .1 .3,
+    )
 
 walk-container-sparse-leaves-requires : (t : ℕ) → walk-container-lts.Need-sparse-leaves-requires (walk-container-claims t) (walk-container-at t) walk-container.Post
 walk-container-sparse-leaves-requires t c κs =
-    let k = c .before .before .before .before .before .before .before .before .before .before .before .before .before .before .pre .1 .5 in let o = opened _ _ (c .before .before .before .before .before .before .before .before .before .before .before .before .before .before .pre .1 .0) _ k _ _ _ _ (sym (c .before .before .before .before .before .before .before .before .before .open-node .ensures) ∙ c .before .before .before .before .before .before .before .opening .given .1) in (c .before .before .before .before .before .before .before .before .before .before .before .before .before .before .pre .1 .0, sym (c .before .before .before .before .before .before .before .before .before .before .before .before .before .before .pre .1 .5 .is) ∙ c .before .if1 .taken, c .before .before .before .before .before .before .before .before .before .before .before .before .before .before .pre .1 .2, o .1, omega (arith, c .before .before .before .before .before .before .before .before .before .before .before .before .before .before .pre .1 .3))
+    let k = c .before .before .before .before .before .before .before .before .before .before .before .before .before .before .pre .1 .5 in
+    let o =
+    opened _ _
+    (c .before .before .before .before .before .before .before .before .before .before .before .before .before .before .pre .1 .0) _ k _ _ _ _
+    (sym (c .before .before .before .before .before .before .before .before .before .open-node .ensures) ∙ c .before .before .before .before .before .before .before .opening .given .1)
+    in (
+      c .before .before .before .before .before .before .before .before .before .before .before .before .before .before .pre .1 .0,
+      sym (c .before .before .before .before .before .before .before .before .before .before .before .before .before .before .pre .1 .5 .is) ∙ c .before .if1 .taken,
+      c .before .before .before .before .before .before .before .before .before .before .before .before .before .before .pre .1 .2,
+      o .1,
+      omega (arith, c .before .before .before .before .before .before .before .before .before .before .before .before .before .before .pre .1 .3),
+    )
 
 walk-container-refused-requires-2 : (t : ℕ) → walk-container-lts.Need-refused-requires-2 (walk-container-claims t) (walk-container-at t) walk-container.Post
 walk-container-refused-requires-2 t c κs =
@@ -189,23 +276,82 @@ walk-container-same-length t c =
 walk-container-returns-2 : (t : ℕ) → walk-container-lts.Need-returns-2 (walk-container-claims t) (walk-container-at t) walk-container.Post
 unfolding walkOf
 walk-container-returns-2 t c =
-    let k = c .before .before .before .before .before .before .before .before .before .before .before .before .before .before .before .before .before .before .before .pre .1 .5 in (rw (c .refused2 .ensures) (sym (gathers-stop _ _ _ _ _ _ _ _ _ _ _ _ _ _ _ (c .before .before .before .before .sparse-leaves .ensures) (c .before .if2 .taken)) ∙ value-sparse _ _ (c .before .before .before .before .before .before .before .before .before .before .before .before .before .before .before .before .before .before .before .pre .1 .0) _ k _ _ _ _ _ _ (c .before .before .before .before .before .before .before .before .before .before .before .before .before .before .open-node .ensures) _ _ _ (c .before .before .before .before .before .before .before .before .before .before .before .before .opening .given .1) _ (c .before .before .before .before .before .before .before .before .before .put-entry .ensures) (sym (c .before .before .before .before .before .before .before .before .before .before .before .before .before .before .before .before .before .before .before .pre .1 .5 .is) ∙ c .before .before .before .before .before .before .if1 .taken)), refused-within _ _ _ _ (c .refused2 .ensures))
+    let k = c .before .before .before .before .before .before .before .before .before .before .before .before .before .before .before .before .before .before .before .pre .1 .5 in (
+      rw (c .refused2 .ensures) (sym (gathers-stop _ _ _ _ _ _ _ _ _ _ _ _ _ _ _ (c .before .before .before .before .sparse-leaves .ensures) (c .before .if2 .taken))
+          ∙ value-sparse _ _
+          (c .before .before .before .before .before .before .before .before .before .before .before .before .before .before .before .before .before .before .before .pre .1 .0) _ k _ _ _ _ _ _
+          (c .before .before .before .before .before .before .before .before .before .before .before .before .before .before .open-node .ensures) _ _ _
+          (c .before .before .before .before .before .before .before .before .before .before .before .before .opening .given .1) _
+          (c .before .before .before .before .before .before .before .before .before .put-entry .ensures)
+          (sym (c .before .before .before .before .before .before .before .before .before .before .before .before .before .before .before .before .before .before .before .pre .1 .5 .is)
+          ∙ c .before .before .before .before .before .before .if1 .taken)),
+      refused-within _ _ _ _ (c .refused2 .ensures),
+    )
 
 walk-container-walk-sparse-requires : (t : ℕ) → walk-container-lts.Need-walk-sparse-requires (walk-container-claims t) (walk-container-at t) walk-container.Post
-walk-container-walk-sparse-requires t c κs =
-    (omega (arith, c .before .before .before .before .before .before .before .before .before .before .before .before .before .before .before .before .before .before .before .pre .0), (c .before .before .before .before .before .before .before .before .before .before .before .before .before .before .before .before .before .before .before .pre .1 .0, sym (c .before .before .before .before .before .before .before .before .before .before .before .before .before .before .before .before .before .before .before .pre .1 .5 .is) ∙ c .before .before .before .before .before .before .if1 .taken, c .before .before .before .before .before .before .before .before .before .before .before .before .before .before .before .before .before .before .before .pre .1 .2, c .before .before .before .before .sparse-leaves .ensures .inside, c .before .before .before .before .sparse-leaves .ensures .few, c .before .before .before .before .before .before .before .before .before .before .before .before .before .before .before .before .before .before .before .pre .1 .4, c .before .before .before .before .sparse-leaves .ensures .counted (c .before .if2 .left)))
+walk-container-walk-sparse-requires t c κs = (
+  omega (arith, c .before .before .before .before .before .before .before .before .before .before .before .before .before .before .before .before .before .before .before .pre .0),
+  (
+    c .before .before .before .before .before .before .before .before .before .before .before .before .before .before .before .before .before .before .before .pre .1 .0,
+    sym (c .before .before .before .before .before .before .before .before .before .before .before .before .before .before .before .before .before .before .before .pre .1 .5 .is)
+        ∙ c .before .before .before .before .before .before .if1 .taken,
+    c .before .before .before .before .before .before .before .before .before .before .before .before .before .before .before .before .before .before .before .pre .1 .2,
+    c .before .before .before .before .sparse-leaves .ensures .inside,
+    c .before .before .before .before .sparse-leaves .ensures .few,
+    c .before .before .before .before .before .before .before .before .before .before .before .before .before .before .before .before .before .before .before .pre .1 .4,
+    c .before .before .before .before .sparse-leaves .ensures .counted (c .before .if2 .left),
+  ),
+)
 
 walk-container-same-length-2 : (t : ℕ) → walk-container-lts.Need-same-length-2 (walk-container-claims t) (walk-container-at t) walk-container.Post
 walk-container-same-length-2 t c =
-    c .before .before .walk-sparse .kept .1 .1 .1 .1 .1 .1 .0 ∙ c .before .before .before .before .before .before .before .sparse-leaves .kept .1 .1 .1 .1 .1 .1 .0 ∙ c .before .before .before .before .before .before .before .before .before .before .before .before .put-entry .kept .0
+    c .before .before .walk-sparse .kept .1 .1 .1 .1 .1 .1 .0
+    ∙ c .before .before .before .before .before .before .before .sparse-leaves .kept .1 .1 .1 .1 .1 .1 .0
+    ∙ c .before .before .before .before .before .before .before .before .before .before .before .before .put-entry .kept .0
 
 walk-container-returns-3 : (t : ℕ) → walk-container-lts.Need-returns-3 (walk-container-claims t) (walk-container-at t) walk-container.Post
 walk-container-returns-3 t c =
-    let k = c .before .before .before .before .before .before .before .before .before .before .before .before .before .before .before .before .before .before .before .before .before .before .pre .1 .5 in (c .before .before .walk-sparse .ensures .0 ∙ sym (gathers-go _ _ _ _ _ _ _ _ _ _ _ _ _ _ _ (c .before .before .before .before .before .before .before .sparse-leaves .ensures) (c .before .before .before .before .if2 .left)) ∙ value-sparse _ _ (c .before .before .before .before .before .before .before .before .before .before .before .before .before .before .before .before .before .before .before .before .before .before .pre .1 .0) _ k _ _ _ _ _ _ (c .before .before .before .before .before .before .before .before .before .before .before .before .before .before .before .before .before .open-node .ensures) _ _ _ (c .before .before .before .before .before .before .before .before .before .before .before .before .before .before .before .opening .given .1) _ (c .before .before .before .before .before .before .before .before .before .before .before .before .put-entry .ensures) (sym (c .before .before .before .before .before .before .before .before .before .before .before .before .before .before .before .before .before .before .before .before .before .before .pre .1 .5 .is) ∙ c .before .before .before .before .before .before .before .before .before .if1 .taken), c .before .before .walk-sparse .ensures .1)
+    let k =
+    c .before .before .before .before .before .before .before .before .before .before .before .before .before .before .before .before .before .before .before .before .before .before .pre .1 .5 in (
+      c .before .before .walk-sparse .ensures .0
+          ∙ sym (gathers-go _ _ _ _ _ _ _ _ _ _ _ _ _ _ _ (c .before .before .before .before .before .before .before .sparse-leaves .ensures) (c .before .before .before .before .if2 .left))
+          ∙ value-sparse _ _
+          (c .before .before .before .before .before .before .before .before .before .before .before .before .before .before .before .before .before .before .before .before .before .before .pre .1 .0)
+          _ k _ _ _ _ _ _
+          (c .before .before .before .before .before .before .before .before .before .before .before .before .before .before .before .before .before .open-node .ensures) _ _ _
+          (c .before .before .before .before .before .before .before .before .before .before .before .before .before .before .before .opening .given .1) _
+          (c .before .before .before .before .before .before .before .before .before .before .before .before .put-entry .ensures)
+          (sym (c .before .before .before .before .before .before .before .before .before .before .before .before .before .before .before
+          .before .before .before .before .before .before .before .pre .1 .5 .is)
+          ∙ c .before .before .before .before .before .before .before .before .before .if1 .taken),
+      c .before .before .walk-sparse .ensures .1,
+    )
 
 walk-container-walk-row-requires : (t : ℕ) → walk-container-lts.Need-walk-row-requires (walk-container-claims t) (walk-container-at t) walk-container.Post
 walk-container-walk-row-requires t c κs =
-    let k = c .before .before .before .before .before .before .before .before .before .before .before .before .before .before .pre .1 .5 in let o = opened _ _ (c .before .before .before .before .before .before .before .before .before .before .before .before .before .before .pre .1 .0) _ k _ _ _ _ (sym (c .before .before .before .before .before .before .before .before .before .open-node .ensures) ∙ c .before .before .before .before .before .before .before .opening .given .1) in (omega (arith, c .before .before .before .before .before .before .before .before .before .before .before .before .before .before .pre .0), (c .before .before .before .before .before .before .before .before .before .before .before .before .before .before .pre .1 .0, same-kind _ _ _ _ k refl, (λ e. c .before .if1 .left (c .before .before .before .before .before .before .before .before .before .before .before .before .before .before .pre .1 .5 .is ∙ e)), opening-holds _ _ _ _ _ (is-row _ _ (c .before .before .before .before .before .before .before .before .before .before .before .before .before .before .pre .1 .0) _ k (λ e. c .before .if1 .left (c .before .before .before .before .before .before .before .before .before .before .before .before .before .before .pre .1 .5 .is ∙ e))) (sym (c .before .before .before .before .before .before .before .before .before .open-node .ensures) ∙ c .before .before .before .before .before .before .before .opening .given .1), o .0, c .before .before .before .before .before .before .before .before .before .before .before .before .before .before .pre .1 .2, o .1, omega (arith, c .before .before .before .before .before .before .before .before .before .before .before .before .before .before .pre .1 .3), c .before .before .before .before .before .before .before .before .before .before .before .before .before .before .pre .1 .4))
+    let k = c .before .before .before .before .before .before .before .before .before .before .before .before .before .before .pre .1 .5 in
+    let o =
+    opened _ _
+    (c .before .before .before .before .before .before .before .before .before .before .before .before .before .before .pre .1 .0) _ k _ _ _ _
+    (sym (c .before .before .before .before .before .before .before .before .before .open-node .ensures) ∙ c .before .before .before .before .before .before .before .opening .given .1)
+    in (
+      omega (arith, c .before .before .before .before .before .before .before .before .before .before .before .before .before .before .pre .0),
+      (
+        c .before .before .before .before .before .before .before .before .before .before .before .before .before .before .pre .1 .0,
+        same-kind _ _ _ _ k refl,
+        (λ e. c .before .if1 .left (c .before .before .before .before .before .before .before .before .before .before .before .before .before .before .pre .1 .5 .is ∙ e)),
+        opening-holds _ _ _ _ _
+            (is-row _ _
+            (c .before .before .before .before .before .before .before .before .before .before .before .before .before .before .pre .1 .0) _ k
+            (λ e. c .before .if1 .left (c .before .before .before .before .before .before .before .before .before .before .before .before .before .before .pre .1 .5 .is ∙ e)))
+            (sym (c .before .before .before .before .before .before .before .before .before .open-node .ensures) ∙ c .before .before .before .before .before .before .before .opening .given .1),
+        o .0,
+        c .before .before .before .before .before .before .before .before .before .before .before .before .before .before .pre .1 .2,
+        o .1,
+        omega (arith, c .before .before .before .before .before .before .before .before .before .before .before .before .before .before .pre .1 .3),
+        c .before .before .before .before .before .before .before .before .before .before .before .before .before .before .pre .1 .4,
+      ),
+    )
 
 walk-container-same-length-3 : (t : ℕ) → walk-container-lts.Need-same-length-3 (walk-container-claims t) (walk-container-at t) walk-container.Post
 walk-container-same-length-3 t c =
@@ -213,46 +359,74 @@ walk-container-same-length-3 t c =
 
 walk-container-returns-4 : (t : ℕ) → walk-container-lts.Need-returns-4 (walk-container-claims t) (walk-container-at t) walk-container.Post
 walk-container-returns-4 t c =
-    let k = c .before .before .before .before .before .before .before .before .before .before .before .before .before .before .before .before .before .pre .1 .5 in (c .before .before .walk-row .ensures .0 ∙ value-row _ _ (c .before .before .before .before .before .before .before .before .before .before .before .before .before .before .before .before .before .pre .1 .0) _ k _ _ _ _ _ _ (c .before .before .before .before .before .before .before .before .before .before .before .before .open-node .ensures) _ _ _ (c .before .before .before .before .before .before .before .before .before .before .opening .given .1) _ (c .before .before .before .before .before .before .before .put-entry .ensures) (λ e. c .before .before .before .before .if1 .left (c .before .before .before .before .before .before .before .before .before .before .before .before .before .before .before .before .before .pre .1 .5 .is ∙ e)), c .before .before .walk-row .ensures .1)
-
-walk-member-enum-known-head : (t : ℕ) → walk-member-lts.Need-enum-known-head (walk-member-claims t) (walk-member-at t) walk-member.Post
-walk-member-enum-known-head t c = search needs
-
-walk-member-enum-known-head-2 : (t : ℕ) → walk-member-lts.Need-enum-known-head-2 (walk-member-claims t) (walk-member-at t) walk-member.Post
-walk-member-enum-known-head-2 t c = search needs
-
-walk-member-head-fault-requires : (t : ℕ) → walk-member-lts.Need-head-fault-requires (walk-member-claims t) (walk-member-at t) walk-member.Post
-walk-member-head-fault-requires t c κs = search needs
+    let k = c .before .before .before .before .before .before .before .before .before .before .before .before .before .before .before .before .before .pre .1 .5 in (
+      c .before .before .walk-row .ensures .0
+          ∙ value-row _ _
+          (c .before .before .before .before .before .before .before .before .before .before .before .before .before .before .before .before .before .pre .1 .0) _ k _ _ _ _ _ _
+          (c .before .before .before .before .before .before .before .before .before .before .before .before .open-node .ensures) _ _ _
+          (c .before .before .before .before .before .before .before .before .before .before .opening .given .1) _
+          (c .before .before .before .before .before .before .before .put-entry .ensures)
+          (λ e. c .before .before .before .before .if1 .left
+          (c .before .before .before .before .before .before .before .before .before .before .before .before .before .before .before .before .before .pre .1 .5 .is ∙ e)),
+      c .before .before .walk-row .ensures .1,
+    )
 
 walk-member-refused-requires : (t : ℕ) → walk-member-lts.Need-refused-requires (walk-member-claims t) (walk-member-at t) walk-member.Post
 walk-member-refused-requires t c κs = omega (arith, c .before .before .before .before .before .before .before .pre .1 .1)
 
 walk-member-returns : (t : ℕ) → walk-member-lts.Need-returns (walk-member-claims t) (walk-member-at t) walk-member.Post
-walk-member-returns t c =
-    (member-fault _ _ _ _ _ _ _ (c .before .before .before .match .keys2) (c .before .before .match2 .keys2) _ (rw (c .before .head-fault .ensures) at (c .refused .ensures)), fault-within _ _ _ _ _ (c .refused .ensures))
+walk-member-returns t c = (
+  member-fault _ _ _ _ _ _ _ (c .before .before .before .match .keys2) (c .before .before .match2 .keys2) _ (rw (c .before .head-fault .ensures) at (c .refused .ensures)),
+  fault-within _ _ _ _ _ (c .refused .ensures),
+)
 
 walk-member-ref-of-requires : (t : ℕ) → walk-member-lts.Need-ref-of-requires (walk-member-claims t) (walk-member-at t) walk-member.Post
-walk-member-ref-of-requires t c κs =
-    (c .before .before .before .before .before .before .before .before .pre .1 .0, absent-in _ _ _ _ (c .before .before .before .before .before .before .before .before .pre .1 .2) _ _ (c .before .head2 .given .1) .0)
+walk-member-ref-of-requires t c κs = (
+  c .before .before .before .before .before .before .before .before .pre .1 .0,
+  absent-in _ _ _ _ (c .before .before .before .before .before .before .before .before .pre .1 .2) _ _ (c .before .head2 .given .1) .0,
+)
 
 walk-member-add-walk-absent : (t : ℕ) → walk-member-lts.Need-add-walk-absent (walk-member-claims t) (walk-member-at t) walk-member.Post
 walk-member-add-walk-absent t c =
-    let f = absent-in _ _ _ _ (c .before .before .before .before .before .before .before .before .before .pre .1 .2) _ _ (c .before .before .head2 .given .1) in omega (arith, f .2, c .before .before .before .before .before .before .before .before .before .pre .1 .1)
+    let f = absent-in _ _ _ _ (c .before .before .before .before .before .before .before .before .before .pre .1 .2) _ _ (c .before .before .head2 .given .1) in
+    omega (arith, f .2, c .before .before .before .before .before .before .before .before .before .pre .1 .1)
 
 walk-member-walk-absent-requires : (t : ℕ) → walk-member-lts.Need-walk-absent-requires (walk-member-claims t) (walk-member-at t) walk-member.Post
 walk-member-walk-absent-requires t c κs =
-    let f = absent-in _ _ _ _ (c .before .before .before .before .before .before .before .before .before .before .pre .1 .2) _ _ (c .before .before .before .head2 .given .1) in let r = at-ref _ _ _ _ (c .before .before .before .before .before .before .before .before .before .before .pre .1 .0) (c .before .ref-of .ensures) in (r .0 .small, f .3, omega (arith, f .2, c .before .before .before .before .before .before .before .before .before .before .pre .1 .1), omega (arith, f .1, f .2, c .before .before .before .before .before .before .before .before .before .before .pre .1 .1, c .before .before .before .before .before .before .before .before .before .before .pre .1 .3))
+    let f = absent-in _ _ _ _ (c .before .before .before .before .before .before .before .before .before .before .pre .1 .2) _ _ (c .before .before .before .head2 .given .1) in
+    let r = at-ref _ _ _ _ (c .before .before .before .before .before .before .before .before .before .before .pre .1 .0) (c .before .ref-of .ensures) in (
+      r .0 .small,
+      f .3,
+      omega (arith, f .2, c .before .before .before .before .before .before .before .before .before .before .pre .1 .1),
+      omega (
+        arith,
+        f .1,
+        f .2,
+        c .before .before .before .before .before .before .before .before .before .before .pre .1 .1,
+        c .before .before .before .before .before .before .before .before .before .before .pre .1 .3,
+      ),
+    )
 
 walk-member-same-length : (t : ℕ) → walk-member-lts.Need-same-length (walk-member-claims t) (walk-member-at t) walk-member.Post
 walk-member-same-length t c = c .before .before .walk-absent .kept .1 .1 .1 .0
 
 walk-member-returns-2 : (t : ℕ) → walk-member-lts.Need-returns-2 (walk-member-claims t) (walk-member-at t) walk-member.Post
-walk-member-returns-2 t c =
-    (c .before .before .walk-absent .ensures .0 ∙ member-absent _ _ _ _ _ _ _ _ _ _ (c .before .before .before .before .ref-of .ensures) (c .before .before .before .before .before .before .head2 .given .1), within-absent _ _ _ _ _ _ _ (c .before .before .walk-absent .ensures .1) (c .before .before .before .before .before .before .head2 .given .1) (absent-in _ _ _ _ (c .before .before .before .before .before .before .before .before .before .before .before .before .before .pre .1 .2) _ _ (c .before .before .before .before .before .before .head2 .given .1) .1) (c .before .before .before .before .before .before .before .before .before .before .before .before .before .pre .1 .3))
+walk-member-returns-2 t c = (
+  c .before .before .walk-absent .ensures .0
+      ∙ member-absent _ _ _ _ _ _ _ _ _ _ (c .before .before .before .before .ref-of .ensures) (c .before .before .before .before .before .before .head2 .given .1),
+  within-absent _ _ _ _ _ _ _ (c .before .before .walk-absent .ensures .1)
+      (c .before .before .before .before .before .before .head2 .given .1)
+      (absent-in _ _ _ _
+      (c .before .before .before .before .before .before .before .before .before .before .before .before .before .pre .1 .2) _ _
+      (c .before .before .before .before .before .before .head2 .given .1) .1)
+      (c .before .before .before .before .before .before .before .before .before .before .before .before .before .pre .1 .3),
+)
 
 walk-member-ref-of-requires-2 : (t : ℕ) → walk-member-lts.Need-ref-of-requires-2 (walk-member-claims t) (walk-member-at t) walk-member.Post
-walk-member-ref-of-requires-2 t c κs =
-    (c .before .before .before .before .before .before .before .pre .1 .0, present-in _ _ _ _ (c .before .before .before .before .before .before .before .pre .1 .2) _ _ _ (c .before .head .given .1) .0)
+walk-member-ref-of-requires-2 t c κs = (
+  c .before .before .before .before .before .before .before .pre .1 .0,
+  present-in _ _ _ _ (c .before .before .before .before .before .before .before .pre .1 .2) _ _ _ (c .before .head .given .1) .0,
+)
 
 walk-member-kind-at-requires : (t : ℕ) → walk-member-lts.Need-kind-at-requires (walk-member-claims t) (walk-member-at t) walk-member.Post
 walk-member-kind-at-requires t c κs =
@@ -260,13 +434,8 @@ walk-member-kind-at-requires t c κs =
 
 walk-member-add-end : (t : ℕ) → walk-member-lts.Need-add-end (walk-member-claims t) (walk-member-at t) walk-member.Post
 walk-member-add-end t c =
-    let f = present-in _ _ _ _ (c .before .before .before .before .before .before .before .before .before .pre .1 .2) _ _ _ (c .before .before .before .head .given .1) in omega (arith, f .2, c .before .before .before .before .before .before .before .before .before .pre .1 .1)
-
-walk-member-sub-bytes : (t : ℕ) → walk-member-lts.Need-sub-bytes (walk-member-claims t) (walk-member-at t) walk-member.Post
-walk-member-sub-bytes t c = search needs
-
-walk-member-part-bytes-start : (t : ℕ) → walk-member-lts.Need-part-bytes-start (walk-member-claims t) (walk-member-at t) walk-member.Post
-walk-member-part-bytes-start t c = search needs
+    let f = present-in _ _ _ _ (c .before .before .before .before .before .before .before .before .before .pre .1 .2) _ _ _ (c .before .before .before .head .given .1) in
+    omega (arith, f .2, c .before .before .before .before .before .before .before .before .before .pre .1 .1)
 
 walk-member-part-bytes-end : (t : ℕ) → walk-member-lts.Need-part-bytes-end (walk-member-claims t) (walk-member-at t) walk-member.Post
 walk-member-part-bytes-end t c =
@@ -274,32 +443,82 @@ walk-member-part-bytes-end t c =
 
 walk-member-add-place : (t : ℕ) → walk-member-lts.Need-add-place (walk-member-claims t) (walk-member-at t) walk-member.Post
 walk-member-add-place t c =
-    let f = present-in _ _ _ _ (c .before .before .before .before .before .before .before .before .before .before .pre .1 .2) _ _ _ (c .before .before .before .before .head .given .1) in omega (arith, f .2, c .before .before .before .before .before .before .before .before .before .before .pre .1 .1)
-
-walk-member-is-leaf-requires : (t : ℕ) → walk-member-lts.Need-is-leaf-requires (walk-member-claims t) (walk-member-at t) walk-member.Post
-walk-member-is-leaf-requires t c κs = search needs
+    let f = present-in _ _ _ _ (c .before .before .before .before .before .before .before .before .before .before .pre .1 .2) _ _ _ (c .before .before .before .before .head .given .1) in
+    omega (arith, f .2, c .before .before .before .before .before .before .before .before .before .before .pre .1 .1)
 
 walk-member-walk-leaf-requires : (t : ℕ) → walk-member-lts.Need-walk-leaf-requires (walk-member-claims t) (walk-member-at t) walk-member.Post
 walk-member-walk-leaf-requires t c κs =
-    let f = present-in _ _ _ _ (c .before .before .before .before .before .before .before .before .before .before .before .before .before .pre .1 .2) _ _ _ (c .before .before .before .before .before .before .before .head .given .1) in let r = at-ref _ _ _ _ (c .before .before .before .before .before .before .before .before .before .before .before .before .before .pre .1 .0) (c .before .before .before .before .before .ref-of2 .ensures) in (r .0, c .before .before .before .before .kind-at .ensures .is, sym (c .before .before .is-leaf .ensures) ∙ c .before .if1 .taken, f .3, simp (length-take, length-drop) (omega (arith, f .2, c .before .before .before .before .before .before .before .before .before .before .before .before .before .pre .1 .1)), omega (arith, f .1, c .before .before .before .before .before .before .before .before .before .before .before .before .before .pre .1 .3))
+    let f =
+    present-in _ _ _ _
+    (c .before .before .before .before .before .before .before .before .before .before .before .before .before .pre .1 .2) _ _ _
+    (c .before .before .before .before .before .before .before .head .given .1)
+    in
+    let r =
+    at-ref _ _ _ _
+    (c .before .before .before .before .before .before .before .before .before .before .before .before .before .pre .1 .0)
+    (c .before .before .before .before .before .ref-of2 .ensures)
+    in (
+      r .0,
+      c .before .before .before .before .kind-at .ensures .is,
+      sym (c .before .before .is-leaf .ensures) ∙ c .before .if1 .taken,
+      f .3,
+      simp (length-take, length-drop) (omega (arith, f .2, c .before .before .before .before .before .before .before .before .before .before .before .before .before .pre .1 .1)),
+      omega (arith, f .1, c .before .before .before .before .before .before .before .before .before .before .before .before .before .pre .1 .3),
+    )
 
 walk-member-same-length-2 : (t : ℕ) → walk-member-lts.Need-same-length-2 (walk-member-claims t) (walk-member-at t) walk-member.Post
 walk-member-same-length-2 t c = c .before .before .walk-leaf .kept .1 .1 .1 .1 .1 .1 .0
 
 walk-member-returns-3 : (t : ℕ) → walk-member-lts.Need-returns-3 (walk-member-claims t) (walk-member-at t) walk-member.Post
-walk-member-returns-3 t c =
-    (c .before .before .walk-leaf .ensures .0 ∙ member-present _ _ _ _ _ _ _ _ _ _ (c .before .before .before .before .before .before .before .before .ref-of2 .ensures) _ (c .before .before .before .before .before .before .before .before .before .before .head .given .1), within-present _ _ _ _ _ _ _ (c .before .before .before .before .before .before .before .before .before .before .head .given .1) (part-size _ _ _ (present-in _ _ _ _ (c .before .before .before .before .before .before .before .before .before .before .before .before .before .before .before .before .pre .1 .2) _ _ _ (c .before .before .before .before .before .before .before .before .before .before .head .given .1) .2)) (c .before .before .walk-leaf .ensures .1))
+walk-member-returns-3 t c = (
+  c .before .before .walk-leaf .ensures .0
+      ∙ member-present _ _ _ _ _ _ _ _ _ _ (c .before .before .before .before .before .before .before .before .ref-of2 .ensures) _
+      (c .before .before .before .before .before .before .before .before .before .before .head .given .1),
+  within-present _ _ _ _ _ _ _ (c .before .before .before .before .before .before .before .before .before .before .head .given .1)
+      (part-size _ _ _
+      (present-in _ _ _ _
+      (c .before .before .before .before .before .before .before .before .before .before .before .before .before .before .before .before .pre .1 .2) _ _ _
+      (c .before .before .before .before .before .before .before .before .before .before .head .given .1) .2))
+      (c .before .before .walk-leaf .ensures .1),
+)
 
 walk-member-walk-value-requires : (t : ℕ) → walk-member-lts.Need-walk-value-requires (walk-member-claims t) (walk-member-at t) walk-member.Post
 walk-member-walk-value-requires t c κs =
-    let f = present-in _ _ _ _ (c .before .before .before .before .before .before .before .before .before .before .before .before .before .pre .1 .2) _ _ _ (c .before .before .before .before .before .before .before .head .given .1) in let r = at-ref _ _ _ _ (c .before .before .before .before .before .before .before .before .before .before .before .before .before .pre .1 .0) (c .before .before .before .before .before .ref-of2 .ensures) in (omega (arith, c .before .before .before .before .before .before .before .before .before .before .before .before .before .pre .0, r .1), (r .0, f .3, simp (length-take, length-drop) (omega (arith, f .2, c .before .before .before .before .before .before .before .before .before .before .before .before .before .pre .1 .1)), omega (arith, f .1, c .before .before .before .before .before .before .before .before .before .before .before .before .before .pre .1 .3), c .before .before .before .before .before .before .before .before .before .before .before .before .before .pre .1 .4))
+    let f =
+    present-in _ _ _ _
+    (c .before .before .before .before .before .before .before .before .before .before .before .before .before .pre .1 .2) _ _ _
+    (c .before .before .before .before .before .before .before .head .given .1)
+    in
+    let r =
+    at-ref _ _ _ _
+    (c .before .before .before .before .before .before .before .before .before .before .before .before .before .pre .1 .0)
+    (c .before .before .before .before .before .ref-of2 .ensures)
+    in (
+      omega (arith, c .before .before .before .before .before .before .before .before .before .before .before .before .before .pre .0, r .1),
+      (
+        r .0,
+        f .3,
+        simp (length-take, length-drop) (omega (arith, f .2, c .before .before .before .before .before .before .before .before .before .before .before .before .before .pre .1 .1)),
+        omega (arith, f .1, c .before .before .before .before .before .before .before .before .before .before .before .before .before .pre .1 .3),
+        c .before .before .before .before .before .before .before .before .before .before .before .before .before .pre .1 .4,
+      ),
+    )
 
 walk-member-same-length-3 : (t : ℕ) → walk-member-lts.Need-same-length-3 (walk-member-claims t) (walk-member-at t) walk-member.Post
 walk-member-same-length-3 t c = c .before .before .walk-value .kept .1 .1 .1 .1 .1 .1 .0
 
 walk-member-returns-4 : (t : ℕ) → walk-member-lts.Need-returns-4 (walk-member-claims t) (walk-member-at t) walk-member.Post
-walk-member-returns-4 t c =
-    (c .before .before .walk-value .ensures .0 ∙ member-present _ _ _ _ _ _ _ _ _ _ (c .before .before .before .before .before .before .before .before .ref-of2 .ensures) _ (c .before .before .before .before .before .before .before .before .before .before .head .given .1), within-present _ _ _ _ _ _ _ (c .before .before .before .before .before .before .before .before .before .before .head .given .1) (part-size _ _ _ (present-in _ _ _ _ (c .before .before .before .before .before .before .before .before .before .before .before .before .before .before .before .before .pre .1 .2) _ _ _ (c .before .before .before .before .before .before .before .before .before .before .head .given .1) .2)) (c .before .before .walk-value .ensures .1))
+walk-member-returns-4 t c = (
+  c .before .before .walk-value .ensures .0
+      ∙ member-present _ _ _ _ _ _ _ _ _ _ (c .before .before .before .before .before .before .before .before .ref-of2 .ensures) _
+      (c .before .before .before .before .before .before .before .before .before .before .head .given .1),
+  within-present _ _ _ _ _ _ _ (c .before .before .before .before .before .before .before .before .before .before .head .given .1)
+      (part-size _ _ _
+      (present-in _ _ _ _
+      (c .before .before .before .before .before .before .before .before .before .before .before .before .before .before .before .before .pre .1 .2) _ _ _
+      (c .before .before .before .before .before .before .before .before .before .before .head .given .1) .2))
+      (c .before .before .walk-value .ensures .1),
+)
 
 abbrev walk-row-Inv-loop : walk-row-lts.InvT-loop
 walk-row-Inv-loop plan needs node count first base from part list₀ at kind end left₀ pos₀ to₀ list left pos to = Left plan node base part end left₀ pos₀ to₀ list₀ left pos to list
@@ -314,8 +533,18 @@ walk-row-add-end : (t : ℕ) → walk-row-lts.Need-add-end (walk-row-claims t) (
 walk-row-add-end t c = omega (arith, c .before .before .before .before .before .pre .1 .4)
 
 walk-row-walk-leaves-requires : (t : ℕ) → walk-row-lts.Need-walk-leaves-requires (walk-row-claims t) (walk-row-at t) walk-row.Post walk-row-Inv-loop walk-row-μ-loop
-walk-row-walk-leaves-requires t c κs =
-    (record { node = c .before .before .before .before .before .before .pre .1 .0; kind = c .before .before .before .before .before .before .pre .1 .1; dense = c .before .before .before .before .before .before .pre .1 .2 }, c .before .before .before .before .before .before .pre .1 .3, c .before .before .before .before .before .before .pre .1 .4, c .before .before .before .before .before .before .pre .1 .5, c .before .before .before .before .before .before .pre .1 .6, c .before .before .before .before .before .before .pre .1 .7)
+walk-row-walk-leaves-requires t c κs = (
+  record {
+    node = c .before .before .before .before .before .before .pre .1 .0;
+    kind = c .before .before .before .before .before .before .pre .1 .1;
+    dense = c .before .before .before .before .before .before .pre .1 .2;
+  },
+  c .before .before .before .before .before .before .pre .1 .3,
+  c .before .before .before .before .before .before .pre .1 .4,
+  c .before .before .before .before .before .before .pre .1 .5,
+  c .before .before .before .before .before .before .pre .1 .6,
+  c .before .before .before .before .before .before .pre .1 .7,
+)
 
 walk-row-loop-holds : (t : ℕ) → walk-row-lts.Need-loop-holds (walk-row-claims t) (walk-row-at t) walk-row.Post walk-row-Inv-loop walk-row-μ-loop
 walk-row-loop-holds t c =
@@ -325,44 +554,121 @@ walk-row-sub-i : (t : ℕ) → walk-row-lts.Need-sub-i (walk-row-claims t) (walk
 walk-row-sub-i t c = c .before .loop .inv .0
 
 walk-row-row-head-requires : (t : ℕ) → walk-row-lts.Need-row-head-requires (walk-row-claims t) (walk-row-at t) walk-row.Post walk-row-Inv-loop walk-row-μ-loop
-walk-row-row-head-requires t c κs =
-    (c .before .before .before .before .before .before .before .before .before .before .before .pre .1 .0, same-kind _ _ _ _ (c .before .before .before .before .before .before .before .before .before .before .before .pre .1 .1) (c .before .before .before .before .before .before .kind-at .ensures .is), (λ e. c .before .before .before .before .before .before .before .before .before .before .before .pre .1 .2 (sym (c .before .before .before .before .before .before .kind-at .ensures .is) ∙ e)), (λ e. object-below _ _ _ (sym (c .before .before .before .before .before .before .kind-at .ensures .is) ∙ e) (c .before .before .before .before .before .before .before .before .before .before .before .pre .1 .3 _ (omega (arith, c .before .loop .inv .0, c .loop-test .taken)))), c .before .loop .inv .1)
+walk-row-row-head-requires t c κs = (
+  c .before .before .before .before .before .before .before .before .before .before .before .pre .1 .0,
+  same-kind _ _ _ _ (c .before .before .before .before .before .before .before .before .before .before .before .pre .1 .1) (c .before .before .before .before .before .before .kind-at .ensures .is),
+  (λ e. c .before .before .before .before .before .before .before .before .before .before .before .pre .1 .2 (sym (c .before .before .before .before .before .before .kind-at .ensures .is) ∙ e)),
+  (λ e. object-below _ _ _ (sym (c .before .before .before .before .before .before .kind-at .ensures .is) ∙ e)
+      (c .before .before .before .before .before .before .before .before .before .before .before .pre .1 .3 _ (omega (arith, c .before .loop .inv .0, c .loop-test .taken)))),
+  c .before .loop .inv .1,
+)
 
 walk-row-walk-member-requires : (t : ℕ) → walk-row-lts.Need-walk-member-requires (walk-row-claims t) (walk-row-at t) walk-row.Post walk-row-Inv-loop walk-row-μ-loop
-walk-row-walk-member-requires t c κs =
-    (omega (arith, c .before .before .before .before .before .before .before .before .before .before .before .before .before .pre .0), (c .before .before .before .before .before .before .before .before .before .before .before .before .before .pre .1 .0, c .before .before .before .before .before .before .before .before .before .before .before .before .before .pre .1 .5, row-at _ _ (c .before .before .before .before .before .before .before .before .before .before .before .before .before .pre .1 .0) _ (c .before .before .before .before .before .before .before .before .before .before .before .before .before .pre .1 .1) (c .before .before .before .before .before .before .before .before .before .before .before .before .before .pre .1 .2) _ (c .before .before .before .before .before .before .before .before .before .before .before .before .before .pre .1 .3) (c .before .before .before .before .before .before .before .before .before .before .before .before .before .pre .1 .4) _ _ _ _ _ (from-end _ _ (c .before .before .before .loop .inv .0)) (c .before .before .loop-test .taken) (c .before .before .before .loop .inv .1) (c .before .row-head .ensures), c .before .before .before .loop .inv .2, c .before .before .before .before .before .before .before .before .before .before .before .before .before .pre .1 .8))
-
-walk-row-enum-known-step : (t : ℕ) → walk-row-lts.Need-enum-known-step (walk-row-claims t) (walk-row-at t) walk-row.Post walk-row-Inv-loop walk-row-μ-loop
-walk-row-enum-known-step t c = search needs
-
-walk-row-enum-told : (t : ℕ) → walk-row-lts.Need-enum-told (walk-row-claims t) (walk-row-at t) walk-row.Post walk-row-Inv-loop walk-row-μ-loop
-walk-row-enum-told t c = search needs
+walk-row-walk-member-requires t c κs = (
+  omega (arith, c .before .before .before .before .before .before .before .before .before .before .before .before .before .pre .0),
+  (
+    c .before .before .before .before .before .before .before .before .before .before .before .before .before .pre .1 .0,
+    c .before .before .before .before .before .before .before .before .before .before .before .before .before .pre .1 .5,
+    row-at _ _ (c .before .before .before .before .before .before .before .before .before .before .before .before .before .pre .1 .0) _
+        (c .before .before .before .before .before .before .before .before .before .before .before .before .before .pre .1 .1)
+        (c .before .before .before .before .before .before .before .before .before .before .before .before .before .pre .1 .2) _
+        (c .before .before .before .before .before .before .before .before .before .before .before .before .before .pre .1 .3)
+        (c .before .before .before .before .before .before .before .before .before .before .before .before .before .pre .1 .4) _ _ _ _ _
+        (from-end _ _ (c .before .before .before .loop .inv .0)) (c .before .before .loop-test .taken)
+        (c .before .before .before .loop .inv .1) (c .before .row-head .ensures),
+    c .before .before .before .loop .inv .2,
+    c .before .before .before .before .before .before .before .before .before .before .before .before .before .pre .1 .8,
+  ),
+)
 
 walk-row-same-length : (t : ℕ) → walk-row-lts.Need-same-length (walk-row-claims t) (walk-row-at t) walk-row.Post walk-row-Inv-loop walk-row-μ-loop
 walk-row-same-length t c =
-    c .before .before .before .before .walk-member .kept .1 .1 .1 .1 .1 .1 .1 .0 ∙ c .before .before .before .before .before .before .before .before .loop .inv .3 ∙ c .before .before .before .before .before .before .before .before .before .before .before .walk-leaves .kept .1 .1 .1 .1 .1 .1 .1 .0
+    c .before .before .before .before .walk-member .kept .1 .1 .1 .1 .1 .1 .1 .0
+    ∙ c .before .before .before .before .before .before .before .before .loop .inv .3
+    ∙ c .before .before .before .before .before .before .before .before .before .before .before .walk-leaves .kept .1 .1 .1 .1 .1 .1 .1 .0
 
 walk-row-returns : (t : ℕ) → walk-row-lts.Need-returns (walk-row-claims t) (walk-row-at t) walk-row.Post walk-row-Inv-loop walk-row-μ-loop
-walk-row-returns t c =
-    (turn-stop _ (single (look (c .before .before .before .before .before .before .before .before .before .before .before .before .before .before .before .before .before .before .args .plan .now))) _ _ _ (rowForm (look (c .before .before .before .before .before .before .before .before .before .before .before .before .before .before .before .before .before .before .args .plan .now) (c .before .before .before .before .before .before .before .before .before .before .before .before .before .before .before .before .before .before .args .node)) (c .before .before .before .before .before .before .before .before .before .before .before .before .before .before .before .before .before .before .args .part .now)) _ (c .before .before .before .before .before .before .before .before .loop .pos) _ _ _ (c .before .before .before .before .before .before .before .loop-test .taken) _ (c .before .before .before .before .before .before .row-head .ensures) _ _ (c .before .before .before .before .walk-member .ensures .0) _ _ (c .enum-told .given .1) ∙ sym (c .before .before .before .before .before .before .before .before .loop .inv .4) ∙ sym (c .before .before .before .before .before .before .before .before .before .before .before .walk-leaves .ensures .leads), refused-within _ _ _ _ (c .enum-told .given .1))
+walk-row-returns t c = (
+  turn-stop _
+      (single (look (c .before .before .before .before .before .before .before .before .before .before .before .before .before .before .before .before .before .before .args .plan .now))) _ _ _
+      (rowForm (look (c .before .before .before .before .before .before .before .before .before .before .before .before .before .before .before .before .before .before .args .plan .now)
+      (c .before .before .before .before .before .before .before .before .before .before .before .before .before .before .before .before .before .before .args .node))
+      (c .before .before .before .before .before .before .before .before .before .before .before .before .before .before .before .before .before .before .args .part .now))
+      _ (c .before .before .before .before .before .before .before .before .loop .pos) _ _ _
+      (c .before .before .before .before .before .before .before .loop-test .taken) _
+      (c .before .before .before .before .before .before .row-head .ensures) _ _
+      (c .before .before .before .before .walk-member .ensures .0) _ _ (c .enum-told .given .1)
+      ∙ sym (c .before .before .before .before .before .before .before .before .loop .inv .4)
+      ∙ sym (c .before .before .before .before .before .before .before .before .before .before .before .walk-leaves .ensures .leads),
+  refused-within _ _ _ _ (c .enum-told .given .1),
+)
 
 walk-row-end-of-requires : (t : ℕ) → walk-row-lts.Need-end-of-requires (walk-row-claims t) (walk-row-at t) walk-row.Post walk-row-Inv-loop walk-row-μ-loop
 walk-row-end-of-requires t c κs =
-    let h = row-at _ _ (c .before .before .before .before .before .before .before .before .before .before .before .before .before .before .before .before .before .before .before .pre .1 .0) _ (c .before .before .before .before .before .before .before .before .before .before .before .before .before .before .before .before .before .before .before .pre .1 .1) (c .before .before .before .before .before .before .before .before .before .before .before .before .before .before .before .before .before .before .before .pre .1 .2) _ (c .before .before .before .before .before .before .before .before .before .before .before .before .before .before .before .before .before .before .before .pre .1 .3) (c .before .before .before .before .before .before .before .before .before .before .before .before .before .before .before .before .before .before .before .pre .1 .4) _ _ _ _ _ (from-end _ _ (c .before .before .before .before .before .before .before .before .before .loop .inv .0)) (c .before .before .before .before .before .before .before .before .loop-test .taken) (c .before .before .before .before .before .before .before .before .before .loop .inv .1) (c .before .before .before .before .before .before .before .row-head .ensures) in omega (arith, end-in _ _ _ _ h, c .before .before .before .before .before .before .before .before .before .before .before .before .before .before .before .before .before .before .before .pre .1 .5)
-
-walk-row-cast-word : (t : ℕ) → walk-row-lts.Need-cast-word (walk-row-claims t) (walk-row-at t) walk-row.Post walk-row-Inv-loop walk-row-μ-loop
-walk-row-cast-word t c = search needs
-
-walk-row-sub-walk-leaves : (t : ℕ) → walk-row-lts.Need-sub-walk-leaves (walk-row-claims t) (walk-row-at t) walk-row.Post walk-row-Inv-loop walk-row-μ-loop
-walk-row-sub-walk-leaves t c = search needs
+    let h =
+    row-at _ _
+    (c .before .before .before .before .before .before .before .before .before .before .before .before .before .before .before .before .before .before .before .pre .1 .0) _
+    (c .before .before .before .before .before .before .before .before .before .before .before .before .before .before .before .before .before .before .before .pre .1 .1)
+    (c .before .before .before .before .before .before .before .before .before .before .before .before .before .before .before .before .before .before .before .pre .1 .2) _
+    (c .before .before .before .before .before .before .before .before .before .before .before .before .before .before .before .before .before .before .before .pre .1 .3)
+    (c .before .before .before .before .before .before .before .before .before .before .before .before .before .before .before .before .before .before .before .pre .1 .4) _ _ _ _ _
+    (from-end _ _ (c .before .before .before .before .before .before .before .before .before .loop .inv .0))
+    (c .before .before .before .before .before .before .before .before .loop-test .taken)
+    (c .before .before .before .before .before .before .before .before .before .loop .inv .1)
+    (c .before .before .before .before .before .before .before .row-head .ensures)
+    in
+    omega (
+      arith,
+      end-in _ _ _ _ h,
+      c .before .before .before .before .before .before .before .before .before .before .before .before .before .before .before .before .before .before .before .pre .1 .5,
+    )
 
 walk-row-add-walk-leaves : (t : ℕ) → walk-row-lts.Need-add-walk-leaves (walk-row-claims t) (walk-row-at t) walk-row.Post walk-row-Inv-loop walk-row-μ-loop
 walk-row-add-walk-leaves t c =
-    omega (arith, c .before .before .before .before .before .before .before .before .before .before .loop .inv .0, c .before .before .before .before .before .before .before .before .before .loop-test .taken, c .before .before .before .before .before .before .before .before .before .before .before .before .before .before .before .before .before .before .before .before .pre .1 .4)
+    omega (
+      arith,
+      c .before .before .before .before .before .before .before .before .before .before .loop .inv .0,
+      c .before .before .before .before .before .before .before .before .before .loop-test .taken,
+      c .before .before .before .before .before .before .before .before .before .before .before .before .before .before .before .before .before .before .before .before .pre .1 .4,
+    )
 
 walk-row-walk-leaves-requires-2 : (t : ℕ) → walk-row-lts.Need-walk-leaves-requires-2 (walk-row-claims t) (walk-row-at t) walk-row.Post walk-row-Inv-loop walk-row-μ-loop
 walk-row-walk-leaves-requires-2 t c κs =
-    let w = reached-in _ _ _ _ (c .before .before .before .step .given .1) (c .before .before .before .before .before .before .before .walk-member .ensures .1) in let h = row-at _ _ (c .before .before .before .before .before .before .before .before .before .before .before .before .before .before .before .before .before .before .before .before .before .pre .1 .0) _ (c .before .before .before .before .before .before .before .before .before .before .before .before .before .before .before .before .before .before .before .before .before .pre .1 .1) (c .before .before .before .before .before .before .before .before .before .before .before .before .before .before .before .before .before .before .before .before .before .pre .1 .2) _ (c .before .before .before .before .before .before .before .before .before .before .before .before .before .before .before .before .before .before .before .before .before .pre .1 .3) (c .before .before .before .before .before .before .before .before .before .before .before .before .before .before .before .before .before .before .before .before .before .pre .1 .4) _ _ _ _ _ (from-end _ _ (c .before .before .before .before .before .before .before .before .before .before .before .loop .inv .0)) (c .before .before .before .before .before .before .before .before .before .before .loop-test .taken) (c .before .before .before .before .before .before .before .before .before .before .before .loop .inv .1) (c .before .before .before .before .before .before .before .before .before .row-head .ensures) in (record { node = c .before .before .before .before .before .before .before .before .before .before .before .before .before .before .before .before .before .before .before .before .before .pre .1 .0; kind = c .before .before .before .before .before .before .before .before .before .before .before .before .before .before .before .before .before .before .before .before .before .pre .1 .1; dense = c .before .before .before .before .before .before .before .before .before .before .before .before .before .before .before .before .before .before .before .before .before .pre .1 .2 }, (λ i q. c .before .before .before .before .before .before .before .before .before .before .before .before .before .before .before .before .before .before .before .before .before .pre .1 .3 i (omega (arith, q, c .before .before .before .before .before .before .before .before .before .before .before .loop .inv .0, c .before .before .before .before .before .before .before .before .before .before .loop-test .taken))), omega (arith, c .before .before .before .before .before .before .before .before .before .before .before .loop .inv .0, c .before .before .before .before .before .before .before .before .before .before .loop-test .taken, c .before .before .before .before .before .before .before .before .before .before .before .before .before .before .before .before .before .before .before .before .before .pre .1 .4), c .before .before .before .before .before .before .before .before .before .before .before .before .before .before .before .before .before .before .before .before .before .pre .1 .5, rw (c .before .end-of .ensures) (end-in _ _ _ _ h), rw (c .before .end-of .ensures) (w .1))
+    let w = reached-in _ _ _ _ (c .before .before .before .step .given .1) (c .before .before .before .before .before .before .before .walk-member .ensures .1) in
+    let h =
+    row-at _ _
+    (c .before .before .before .before .before .before .before .before .before .before .before .before .before .before .before .before .before .before .before .before .before .pre .1 .0) _
+    (c .before .before .before .before .before .before .before .before .before .before .before .before .before .before .before .before .before .before .before .before .before .pre .1 .1)
+    (c .before .before .before .before .before .before .before .before .before .before .before .before .before .before .before .before .before .before .before .before .before .pre .1 .2) _
+    (c .before .before .before .before .before .before .before .before .before .before .before .before .before .before .before .before .before .before .before .before .before .pre .1 .3)
+    (c .before .before .before .before .before .before .before .before .before .before .before .before .before .before .before .before .before .before .before .before .before .pre .1 .4) _ _ _ _ _
+    (from-end _ _ (c .before .before .before .before .before .before .before .before .before .before .before .loop .inv .0))
+    (c .before .before .before .before .before .before .before .before .before .before .loop-test .taken)
+    (c .before .before .before .before .before .before .before .before .before .before .before .loop .inv .1)
+    (c .before .before .before .before .before .before .before .before .before .row-head .ensures)
+    in (
+      record {
+        node = c .before .before .before .before .before .before .before .before .before .before .before .before .before .before .before .before .before .before .before .before .before .pre .1 .0;
+        kind = c .before .before .before .before .before .before .before .before .before .before .before .before .before .before .before .before .before .before .before .before .before .pre .1 .1;
+        dense = c .before .before .before .before .before .before .before .before .before .before .before .before .before .before .before .before .before .before .before .before .before .pre .1 .2;
+      },
+      (λ i q. c .before .before .before .before .before .before .before .before .before .before .before .before .before .before .before .before .before .before .before .before .before .pre .1 .3 i
+          (omega (
+            arith,
+            q,
+            c .before .before .before .before .before .before .before .before .before .before .before .loop .inv .0,
+            c .before .before .before .before .before .before .before .before .before .before .loop-test .taken,
+          ))),
+      omega (
+        arith,
+        c .before .before .before .before .before .before .before .before .before .before .before .loop .inv .0,
+        c .before .before .before .before .before .before .before .before .before .before .loop-test .taken,
+        c .before .before .before .before .before .before .before .before .before .before .before .before .before .before .before .before .before .before .before .before .before .pre .1 .4,
+      ),
+      c .before .before .before .before .before .before .before .before .before .before .before .before .before .before .before .before .before .before .before .before .before .pre .1 .5,
+      rw (c .before .end-of .ensures) (end-in _ _ _ _ h),
+      rw (c .before .end-of .ensures) (w .1),
+    )
 
 walk-row-loop-less : (t : ℕ) → walk-row-lts.Need-loop-less (walk-row-claims t) (walk-row-at t) walk-row.Post walk-row-Inv-loop walk-row-μ-loop
 walk-row-loop-less t c =
@@ -370,23 +676,55 @@ walk-row-loop-less t c =
 
 walk-row-loop-again : (t : ℕ) → walk-row-lts.Need-loop-again (walk-row-claims t) (walk-row-at t) walk-row.Post walk-row-Inv-loop walk-row-μ-loop
 walk-row-loop-again t c =
-    left-next _ _ _ _ _ _ _ _ _ _ _ _ _ (c .before .before .before .before .before .before .before .before .before .before .before .before .before .before .loop .inv) (c .before .before .before .before .before .before .before .before .before .before .before .before .before .loop-test .taken) _ _ _ (turn-go _ (single (look (c .before .before .before .before .before .before .before .before .before .before .before .before .before .before .before .before .before .before .before .before .before .before .before .before .args .plan .now))) _ _ _ (rowForm (look (c .before .before .before .before .before .before .before .before .before .before .before .before .before .before .before .before .before .before .before .before .before .before .before .before .args .plan .now) (c .before .before .before .before .before .before .before .before .before .before .before .before .before .before .before .before .before .before .before .before .before .before .before .before .args .node)) (c .before .before .before .before .before .before .before .before .before .before .before .before .before .before .before .before .before .before .before .before .before .before .before .before .args .part .now)) _ (c .before .before .before .before .before .before .before .before .before .before .before .before .before .before .loop .pos) _ _ _ (c .before .before .before .before .before .before .before .before .before .before .before .before .before .loop-test .taken) _ (c .before .before .before .before .before .before .before .before .before .before .before .before .row-head .ensures) _ _ (c .before .before .before .before .before .before .before .before .before .before .walk-member .ensures .0) _ (c .before .before .before .before .before .before .step .given .1) _ refl _ (c .before .before .before .before .end-of .ensures)) (c .before .before .before .before .before .before .before .before .before .before .walk-member .kept .1 .1 .1 .1 .1 .1 .1 .0) _ _ _ _ (c .before .before .walk-leaves2 .ensures) (c .before .before .walk-leaves2 .kept .1 .1 .1 .1 .1 .1 .1 .0)
+    left-next _ _ _ _ _ _ _ _ _ _ _ _ _
+    (c .before .before .before .before .before .before .before .before .before .before .before .before .before .before .loop .inv)
+    (c .before .before .before .before .before .before .before .before .before .before .before .before .before .loop-test .taken) _ _ _
+    (turn-go _
+    (single (look (c .before .before .before .before .before .before .before .before .before .before .before .before .before .before
+    .before .before .before .before .before .before .before .before .before .before .args .plan .now))) _ _ _
+    (rowForm (look (c .before .before .before .before .before .before .before .before .before .before .before .before .before .before
+    .before .before .before .before .before .before .before .before .before .before .args .plan .now)
+    (c .before .before .before .before .before .before .before .before .before .before .before .before .before .before .before .before
+    .before .before .before .before .before .before .before .before .args .node))
+    (c .before .before .before .before .before .before .before .before .before .before .before .before .before .before .before .before
+    .before .before .before .before .before .before .before .before .args .part .now)) _
+    (c .before .before .before .before .before .before .before .before .before .before .before .before .before .before .loop .pos) _ _ _
+    (c .before .before .before .before .before .before .before .before .before .before .before .before .before .loop-test .taken) _
+    (c .before .before .before .before .before .before .before .before .before .before .before .before .row-head .ensures) _ _
+    (c .before .before .before .before .before .before .before .before .before .before .walk-member .ensures .0) _
+    (c .before .before .before .before .before .before .step .given .1) _ refl _ (c .before .before .before .before .end-of .ensures))
+    (c .before .before .before .before .before .before .before .before .before .before .walk-member .kept .1 .1 .1 .1 .1 .1 .1 .0) _ _ _ _
+    (c .before .before .walk-leaves2 .ensures) (c .before .before .walk-leaves2 .kept .1 .1 .1 .1 .1 .1 .1 .0)
 
 walk-row-end-elements-requires : (t : ℕ) → walk-row-lts.Need-end-elements-requires (walk-row-claims t) (walk-row-at t) walk-row.Post walk-row-Inv-loop walk-row-μ-loop
-walk-row-end-elements-requires t c κs =
-    (omega (arith, c .before .before .before .before .before .before .before .before .before .before .before .pre .1 .5), omega (arith, c .before .loop .inv .1, c .before .loop .inv .2, c .before .before .before .before .before .before .before .before .before .before .before .pre .1 .5))
+walk-row-end-elements-requires t c κs = (
+  omega (arith, c .before .before .before .before .before .before .before .before .before .before .before .pre .1 .5),
+  omega (arith, c .before .loop .inv .1, c .before .loop .inv .2, c .before .before .before .before .before .before .before .before .before .before .before .pre .1 .5),
+)
 
 walk-row-same-length-2 : (t : ℕ) → walk-row-lts.Need-same-length-2 (walk-row-claims t) (walk-row-at t) walk-row.Post walk-row-Inv-loop walk-row-μ-loop
 walk-row-same-length-2 t c =
     c .before .before .loop .inv .3 ∙ c .before .before .before .before .before .walk-leaves .kept .1 .1 .1 .1 .1 .1 .1 .0
 
 walk-row-returns-2 : (t : ℕ) → walk-row-lts.Need-returns-2 (walk-row-claims t) (walk-row-at t) walk-row.Post walk-row-Inv-loop walk-row-μ-loop
-walk-row-returns-2 t c =
-    (done _ (single (look (c .before .before .before .before .before .before .before .before .before .before .before .before .args .plan .now))) _ _ _ (rowForm (look (c .before .before .before .before .before .before .before .before .before .before .before .before .args .plan .now) (c .before .before .before .before .before .before .before .before .before .before .before .before .args .node)) (c .before .before .before .before .before .before .before .before .before .before .before .before .args .part .now)) _ (c .before .before .loop .pos) _ _ _ (c .before .loop-test .left) _ _ refl refl _ (c .end-elements .ensures) ∙ sym (c .before .before .loop .inv .4) ∙ sym (c .before .before .before .before .before .walk-leaves .ensures .leads), end-within _ _ _ _ _ _ (c .end-elements .ensures) (omega (arith, c .before .before .loop .inv .1, c .before .before .loop .inv .2)))
+walk-row-returns-2 t c = (
+  done _
+      (single (look (c .before .before .before .before .before .before .before .before .before .before .before .before .args .plan .now))) _ _ _
+      (rowForm (look (c .before .before .before .before .before .before .before .before .before .before .before .before .args .plan .now)
+      (c .before .before .before .before .before .before .before .before .before .before .before .before .args .node))
+      (c .before .before .before .before .before .before .before .before .before .before .before .before .args .part .now)) _
+      (c .before .before .loop .pos) _ _ _ (c .before .loop-test .left) _ _ refl refl _ (c .end-elements .ensures)
+      ∙ sym (c .before .before .loop .inv .4)
+      ∙ sym (c .before .before .before .before .before .walk-leaves .ensures .leads),
+  end-within _ _ _ _ _ _ (c .end-elements .ensures) (omega (arith, c .before .before .loop .inv .1, c .before .before .loop .inv .2)),
+)
 
 abbrev walk-sparse-Inv-loop : walk-sparse-lts.InvT-loop
 walk-sparse-Inv-loop plan needs node base part list₀ seen₀ given₀ left₀ pos₀ to₀ list seen given left pos to =
-    (pos ≤ length part) × (4 * to ≤ 5 * (base + pos) + 20) × (length list ≡ length list₀) × (led (elements (sparseForm (cardsAt plan node) part) (valueOf (look plan)) (refAt (look plan node)) base part left₀ (seen₀ .marks) pos₀) to₀ list₀ ≡ led (elements (sparseForm (cardsAt plan node) part) (valueOf (look plan)) (refAt (look plan node)) base part left (seen .marks) pos) to list) × Counted plan node (seen .marks) given
+    (pos ≤ length part) × (4 * to ≤ 5 * (base + pos) + 20) × (length list ≡ length list₀)
+    × (led (elements (sparseForm (cardsAt plan node) part) (valueOf (look plan)) (refAt (look plan node)) base part left₀ (seen₀ .marks) pos₀) to₀ list₀
+    ≡ led (elements (sparseForm (cardsAt plan node) part) (valueOf (look plan)) (refAt (look plan node)) base part left (seen .marks) pos) to list)
+    × Counted plan node (seen .marks) given
 
 abbrev walk-sparse-μ-loop : walk-sparse-lts.MeasureT-loop
 walk-sparse-μ-loop plan needs node base part list₀ seen₀ given₀ left₀ pos₀ to₀ list seen given left pos to = left
@@ -399,15 +737,6 @@ walk-sparse-index-at-requires : (t : ℕ) → walk-sparse-lts.Need-index-at-requ
 walk-sparse-index-at-requires t c κs =
     (c .before .before .before .before .before .before .before .pre .1 .0, c .before .before .before .before .before .before .before .pre .1 .1, c .before .loop .inv .0)
 
-walk-sparse-enum-known-index : (t : ℕ) → walk-sparse-lts.Need-enum-known-index (walk-sparse-claims t) (walk-sparse-at t) walk-sparse.Post walk-sparse-Inv-loop walk-sparse-μ-loop
-walk-sparse-enum-known-index t c = search needs
-
-walk-sparse-enum-told : (t : ℕ) → walk-sparse-lts.Need-enum-told (walk-sparse-claims t) (walk-sparse-at t) walk-sparse.Post walk-sparse-Inv-loop walk-sparse-μ-loop
-walk-sparse-enum-told t c = search needs
-
-walk-sparse-index-fault-requires : (t : ℕ) → walk-sparse-lts.Need-index-fault-requires (walk-sparse-claims t) (walk-sparse-at t) walk-sparse.Post walk-sparse-Inv-loop walk-sparse-μ-loop
-walk-sparse-index-fault-requires t c κs = search needs
-
 walk-sparse-refused-requires : (t : ℕ) → walk-sparse-lts.Need-refused-requires (walk-sparse-claims t) (walk-sparse-at t) walk-sparse.Post walk-sparse-Inv-loop walk-sparse-μ-loop
 walk-sparse-refused-requires t c κs =
     omega (arith, c .before .before .before .before .before .before .before .before .before .before .before .pre .1 .2)
@@ -416,12 +745,26 @@ walk-sparse-same-length : (t : ℕ) → walk-sparse-lts.Need-same-length (walk-s
 walk-sparse-same-length t c = c .before .before .before .before .before .before .loop .inv .2
 
 walk-sparse-returns : (t : ℕ) → walk-sparse-lts.Need-returns (walk-sparse-claims t) (walk-sparse-at t) walk-sparse.Post walk-sparse-Inv-loop walk-sparse-μ-loop
-walk-sparse-returns t c =
-    (turn-fault _ (single (look (c .before .before .before .before .before .before .before .before .before .before .before .before .args .plan .now))) _ _ _ (sparseForm (cardsAt (c .before .before .before .before .before .before .before .before .before .before .before .before .args .plan .now) (c .before .before .before .before .before .before .before .before .before .before .before .before .args .node)) (c .before .before .before .before .before .before .before .before .before .before .before .before .args .part .now)) (c .before .before .before .before .before .before .loop .seen .marks) (c .before .before .before .before .before .before .loop .pos) _ _ _ (c .before .before .before .before .before .loop-test .taken) _ (head-bad _ _ _ _ _ (sym (cards-length _ _)) _ _ _ (c .before .before .before .before .index-at .ensures) (c .before .before .enum-told .given .1) (c .before .index-fault .ensures)) _ (c .refused .ensures) ∙ sym (c .before .before .before .before .before .before .loop .inv .3), refused-within _ _ _ _ (c .refused .ensures))
+walk-sparse-returns t c = (
+  turn-fault _
+      (single (look (c .before .before .before .before .before .before .before .before .before .before .before .before .args .plan .now))) _ _ _
+      (sparseForm (cardsAt (c .before .before .before .before .before .before .before .before .before .before .before .before .args .plan .now)
+      (c .before .before .before .before .before .before .before .before .before .before .before .before .args .node))
+      (c .before .before .before .before .before .before .before .before .before .before .before .before .args .part .now))
+      (c .before .before .before .before .before .before .loop .seen .marks) (c .before .before .before .before .before .before .loop .pos) _ _ _
+      (c .before .before .before .before .before .loop-test .taken) _
+      (head-bad _ _ _ _ _ (sym (cards-length _ _)) _ _ _ (c .before .before .before .before .index-at .ensures) (c .before .before .enum-told .given .1) (c .before .index-fault .ensures)) _
+      (c .refused .ensures)
+      ∙ sym (c .before .before .before .before .before .before .loop .inv .3),
+  refused-within _ _ _ _ (c .refused .ensures),
+)
 
 walk-sparse-mark-requires : (t : ℕ) → walk-sparse-lts.Need-mark-requires (walk-sparse-claims t) (walk-sparse-at t) walk-sparse.Post walk-sparse-Inv-loop walk-sparse-μ-loop
 walk-sparse-mark-requires t c κs =
-    known-in _ _ (c .before .before .before .before .before .before .before .before .before .before .before .pre .1 .0) (c .before .before .before .before .before .before .before .before .before .before .before .pre .1 .1) _ _ _ _ refl _ (c .before .before .before .index-at .ensures) (c .before .index .given .1) (c .before .before .before .before .before .loop .inv .0) .1
+    known-in _ _ (c .before .before .before .before .before .before .before .before .before .before .before .pre .1 .0)
+    (c .before .before .before .before .before .before .before .before .before .before .before .pre .1 .1) _ _ _ _ refl _
+    (c .before .before .before .index-at .ensures) (c .before .index .given .1)
+    (c .before .before .before .before .before .loop .inv .0) .1
 
 walk-sparse-refused-requires-2 : (t : ℕ) → walk-sparse-lts.Need-refused-requires-2 (walk-sparse-claims t) (walk-sparse-at t) walk-sparse.Post walk-sparse-Inv-loop walk-sparse-μ-loop
 walk-sparse-refused-requires-2 t c κs =
@@ -431,86 +774,249 @@ walk-sparse-same-length-2 : (t : ℕ) → walk-sparse-lts.Need-same-length-2 (wa
 walk-sparse-same-length-2 t c = c .before .before .before .before .before .before .before .before .loop .inv .2
 
 walk-sparse-returns-2 : (t : ℕ) → walk-sparse-lts.Need-returns-2 (walk-sparse-claims t) (walk-sparse-at t) walk-sparse.Post walk-sparse-Inv-loop walk-sparse-μ-loop
-walk-sparse-returns-2 t c =
-    (turn-fault _ (single (look (c .before .before .before .before .before .before .before .before .before .before .before .before .before .before .args .plan .now))) _ _ _ (sparseForm (cardsAt (c .before .before .before .before .before .before .before .before .before .before .before .before .before .before .args .plan .now) (c .before .before .before .before .before .before .before .before .before .before .before .before .before .before .args .node)) (c .before .before .before .before .before .before .before .before .before .before .before .before .before .before .args .part .now)) (c .before .before .before .before .before .before .before .before .loop .seen .marks) (c .before .before .before .before .before .before .before .before .loop .pos) _ _ _ (c .before .before .before .before .before .before .before .loop-test .taken) _ (sparse-twice _ _ (c .before .before .before .before .before .before .before .before .before .before .before .before .before .before .pre .1 .0) (c .before .before .before .before .before .before .before .before .before .before .before .before .before .before .pre .1 .1) _ _ _ _ refl _ (c .before .before .before .before .before .before .index-at .ensures) (c .before .before .before .before .index .given .1) (c .before .before .before .before .before .before .before .before .loop .seen .marks) (sym (c .before .before .mark .ensures .0) ∙ c .before .if1 .taken)) _ (c .refused2 .ensures) ∙ sym (c .before .before .before .before .before .before .before .before .loop .inv .3), refused-within _ _ _ _ (c .refused2 .ensures))
+walk-sparse-returns-2 t c = (
+  turn-fault _
+      (single (look (c .before .before .before .before .before .before .before .before .before .before .before .before .before .before .args .plan .now))) _ _ _
+      (sparseForm (cardsAt (c .before .before .before .before .before .before .before .before .before .before .before .before .before .before .args .plan .now)
+      (c .before .before .before .before .before .before .before .before .before .before .before .before .before .before .args .node))
+      (c .before .before .before .before .before .before .before .before .before .before .before .before .before .before .args .part .now))
+      (c .before .before .before .before .before .before .before .before .loop .seen .marks)
+      (c .before .before .before .before .before .before .before .before .loop .pos) _ _ _
+      (c .before .before .before .before .before .before .before .loop-test .taken) _
+      (sparse-twice _ _
+      (c .before .before .before .before .before .before .before .before .before .before .before .before .before .before .pre .1 .0)
+      (c .before .before .before .before .before .before .before .before .before .before .before .before .before .before .pre .1 .1) _ _ _ _
+      refl _ (c .before .before .before .before .before .before .index-at .ensures) (c .before .before .before .before .index .given .1)
+      (c .before .before .before .before .before .before .before .before .loop .seen .marks)
+      (sym (c .before .before .mark .ensures .0) ∙ c .before .if1 .taken)) _
+      (c .refused2 .ensures)
+      ∙ sym (c .before .before .before .before .before .before .before .before .loop .inv .3),
+  refused-within _ _ _ _ (c .refused2 .ensures),
+)
 
 walk-sparse-count-given-requires : (t : ℕ) → walk-sparse-lts.Need-count-given-requires (walk-sparse-claims t) (walk-sparse-at t) walk-sparse.Post walk-sparse-Inv-loop walk-sparse-μ-loop
 walk-sparse-count-given-requires t c κs =
-    let i = known-in _ _ (c .before .before .before .before .before .before .before .before .before .before .before .before .before .pre .1 .0) (c .before .before .before .before .before .before .before .before .before .before .before .before .before .pre .1 .1) _ _ _ _ refl _ (c .before .before .before .before .before .index-at .ensures) (c .before .before .before .index .given .1) (c .before .before .before .before .before .before .before .loop .inv .0) in (c .before .before .before .before .before .before .before .before .before .before .before .before .before .pre .1 .0, c .before .before .before .before .before .before .before .before .before .before .before .before .before .pre .1 .1, i .0, counted-few _ _ _ _ (c .before .before .before .before .before .before .before .loop .inv .4) (c .before .before .before .before .before .before .before .before .before .before .before .before .before .pre .1 .0) (c .before .before .before .before .before .before .before .before .before .before .before .before .before .pre .1 .1))
+    let i =
+    known-in _ _ (c .before .before .before .before .before .before .before .before .before .before .before .before .before .pre .1 .0)
+    (c .before .before .before .before .before .before .before .before .before .before .before .before .before .pre .1 .1) _ _ _ _ refl _
+    (c .before .before .before .before .before .index-at .ensures) (c .before .before .before .index .given .1)
+    (c .before .before .before .before .before .before .before .loop .inv .0)
+    in (
+      c .before .before .before .before .before .before .before .before .before .before .before .before .before .pre .1 .0,
+      c .before .before .before .before .before .before .before .before .before .before .before .before .before .pre .1 .1,
+      i .0,
+      counted-few _ _ _ _ (c .before .before .before .before .before .before .before .loop .inv .4)
+          (c .before .before .before .before .before .before .before .before .before .before .before .before .before .pre .1 .0)
+          (c .before .before .before .before .before .before .before .before .before .before .before .before .before .pre .1 .1),
+    )
 
 walk-sparse-sparse-head-requires : (t : ℕ) → walk-sparse-lts.Need-sparse-head-requires (walk-sparse-claims t) (walk-sparse-at t) walk-sparse.Post walk-sparse-Inv-loop walk-sparse-μ-loop
 walk-sparse-sparse-head-requires t c κs =
-    let i = known-in _ _ (c .before .before .before .before .before .before .before .before .before .before .before .before .before .before .pre .1 .0) (c .before .before .before .before .before .before .before .before .before .before .before .before .before .before .pre .1 .1) _ _ _ _ refl _ (c .before .before .before .before .before .before .index-at .ensures) (c .before .before .before .before .index .given .1) (c .before .before .before .before .before .before .before .before .loop .inv .0) in (c .before .before .before .before .before .before .before .before .before .before .before .before .before .before .pre .1 .0, c .before .before .before .before .before .before .before .before .before .before .before .before .before .before .pre .1 .1, i .0, i .2)
+    let i =
+    known-in _ _
+    (c .before .before .before .before .before .before .before .before .before .before .before .before .before .before .pre .1 .0)
+    (c .before .before .before .before .before .before .before .before .before .before .before .before .before .before .pre .1 .1) _ _ _ _
+    refl _ (c .before .before .before .before .before .before .index-at .ensures) (c .before .before .before .before .index .given .1)
+    (c .before .before .before .before .before .before .before .before .loop .inv .0)
+    in (
+      c .before .before .before .before .before .before .before .before .before .before .before .before .before .before .pre .1 .0,
+      c .before .before .before .before .before .before .before .before .before .before .before .before .before .before .pre .1 .1,
+      i .0,
+      i .2,
+    )
 
 walk-sparse-walk-member-requires : (t : ℕ) → walk-sparse-lts.Need-walk-member-requires (walk-sparse-claims t) (walk-sparse-at t) walk-sparse.Post walk-sparse-Inv-loop walk-sparse-μ-loop
-walk-sparse-walk-member-requires t c κs =
-    (omega (arith, c .before .before .before .before .before .before .before .before .before .before .before .before .before .before .before .before .pre .0), (c .before .before .before .before .before .before .before .before .before .before .before .before .before .before .before .before .pre .1 .0, c .before .before .before .before .before .before .before .before .before .before .before .before .before .before .before .before .pre .1 .2, sparse-turn _ _ (c .before .before .before .before .before .before .before .before .before .before .before .before .before .before .before .before .pre .1 .0) (c .before .before .before .before .before .before .before .before .before .before .before .before .before .before .before .before .pre .1 .1) _ _ _ _ refl _ (c .before .before .before .before .before .before .before .before .index-at .ensures) (c .before .before .before .before .before .before .index .given .1) (c .before .before .before .before .before .before .before .before .before .before .loop .seen .marks) (sym (c .before .before .before .before .mark .ensures .0) ∙ c .before .before .before .if1 .left) _ (c .before .sparse-head .ensures) (c .before .before .before .before .before .before .before .before .before .before .loop .inv .0) .inside, c .before .before .before .before .before .before .before .before .before .before .loop .inv .1, c .before .before .before .before .before .before .before .before .before .before .before .before .before .before .before .before .pre .1 .5))
-
-walk-sparse-enum-known-step : (t : ℕ) → walk-sparse-lts.Need-enum-known-step (walk-sparse-claims t) (walk-sparse-at t) walk-sparse.Post walk-sparse-Inv-loop walk-sparse-μ-loop
-walk-sparse-enum-known-step t c = search needs
-
-walk-sparse-enum-told-2 : (t : ℕ) → walk-sparse-lts.Need-enum-told-2 (walk-sparse-claims t) (walk-sparse-at t) walk-sparse.Post walk-sparse-Inv-loop walk-sparse-μ-loop
-walk-sparse-enum-told-2 t c = search needs
+walk-sparse-walk-member-requires t c κs = (
+  omega (arith, c .before .before .before .before .before .before .before .before .before .before .before .before .before .before .before .before .pre .0),
+  (
+    c .before .before .before .before .before .before .before .before .before .before .before .before .before .before .before .before .pre .1 .0,
+    c .before .before .before .before .before .before .before .before .before .before .before .before .before .before .before .before .pre .1 .2,
+    sparse-turn _ _
+        (c .before .before .before .before .before .before .before .before .before .before .before .before .before .before .before .before .pre .1 .0)
+        (c .before .before .before .before .before .before .before .before .before .before .before .before .before .before .before .before .pre .1 .1) _ _ _ _
+        refl _ (c .before .before .before .before .before .before .before .before .index-at .ensures)
+        (c .before .before .before .before .before .before .index .given .1)
+        (c .before .before .before .before .before .before .before .before .before .before .loop .seen .marks)
+        (sym (c .before .before .before .before .mark .ensures .0) ∙ c .before .before .before .if1 .left) _
+        (c .before .sparse-head .ensures)
+        (c .before .before .before .before .before .before .before .before .before .before .loop .inv .0) .inside,
+    c .before .before .before .before .before .before .before .before .before .before .loop .inv .1,
+    c .before .before .before .before .before .before .before .before .before .before .before .before .before .before .before .before .pre .1 .5,
+  ),
+)
 
 walk-sparse-same-length-3 : (t : ℕ) → walk-sparse-lts.Need-same-length-3 (walk-sparse-claims t) (walk-sparse-at t) walk-sparse.Post walk-sparse-Inv-loop walk-sparse-μ-loop
 walk-sparse-same-length-3 t c =
-    c .before .before .before .before .walk-member .kept .1 .1 .1 .1 .1 .1 .1 .0 ∙ c .before .before .before .before .before .before .before .before .before .before .before .before .before .before .before .loop .inv .2
+    c .before .before .before .before .walk-member .kept .1 .1 .1 .1 .1 .1 .1 .0
+    ∙ c .before .before .before .before .before .before .before .before .before .before .before .before .before .before .before .loop .inv .2
 
 walk-sparse-returns-3 : (t : ℕ) → walk-sparse-lts.Need-returns-3 (walk-sparse-claims t) (walk-sparse-at t) walk-sparse.Post walk-sparse-Inv-loop walk-sparse-μ-loop
 walk-sparse-returns-3 t c =
-    let r = sparse-turn _ _ (c .before .before .before .before .before .before .before .before .before .before .before .before .before .before .before .before .before .before .before .before .before .pre .1 .0) (c .before .before .before .before .before .before .before .before .before .before .before .before .before .before .before .before .before .before .before .before .before .pre .1 .1) _ _ _ _ refl _ (c .before .before .before .before .before .before .before .before .before .before .before .before .before .index-at .ensures) (c .before .before .before .before .before .before .before .before .before .before .before .index .given .1) (c .before .before .before .before .before .before .before .before .before .before .before .before .before .before .before .loop .seen .marks) (sym (c .before .before .before .before .before .before .before .before .before .mark .ensures .0) ∙ c .before .before .before .before .before .before .before .before .if1 .left) _ (c .before .before .before .before .before .before .sparse-head .ensures) (c .before .before .before .before .before .before .before .before .before .before .before .before .before .before .before .loop .inv .0) in (turn-stop _ (single (look (c .before .before .before .before .before .before .before .before .before .before .before .before .before .before .before .before .before .before .before .before .before .args .plan .now))) _ _ _ (sparseForm (cardsAt (c .before .before .before .before .before .before .before .before .before .before .before .before .before .before .before .before .before .before .before .before .before .args .plan .now) (c .before .before .before .before .before .before .before .before .before .before .before .before .before .before .before .before .before .before .before .before .before .args .node)) (c .before .before .before .before .before .before .before .before .before .before .before .before .before .before .before .before .before .before .before .before .before .args .part .now)) (c .before .before .before .before .before .before .before .before .before .before .before .before .before .before .before .loop .seen .marks) (c .before .before .before .before .before .before .before .before .before .before .before .before .before .before .before .loop .pos) _ _ _ (c .before .before .before .before .before .before .before .before .before .before .before .before .before .before .loop-test .taken) _ (r .is) _ _ (c .before .before .before .before .walk-member .ensures .0) _ _ (c .enum-told2 .given .1) ∙ sym (c .before .before .before .before .before .before .before .before .before .before .before .before .before .before .before .loop .inv .3), refused-within _ _ _ _ (c .enum-told2 .given .1))
-
-walk-sparse-cast-to : (t : ℕ) → walk-sparse-lts.Need-cast-to (walk-sparse-claims t) (walk-sparse-at t) walk-sparse.Post walk-sparse-Inv-loop walk-sparse-μ-loop
-walk-sparse-cast-to t c = search needs
+    let r =
+    sparse-turn _ _
+    (c .before .before .before .before .before .before .before .before .before .before .before .before .before .before .before .before .before .before .before .before .before .pre .1 .0)
+    (c .before .before .before .before .before .before .before .before .before .before .before .before .before .before .before .before .before .before .before .before .before .pre .1 .1) _ _ _ _
+    refl _
+    (c .before .before .before .before .before .before .before .before .before .before .before .before .before .index-at .ensures)
+    (c .before .before .before .before .before .before .before .before .before .before .before .index .given .1)
+    (c .before .before .before .before .before .before .before .before .before .before .before .before .before .before .before .loop .seen .marks)
+    (sym (c .before .before .before .before .before .before .before .before .before .mark .ensures .0) ∙ c .before .before .before .before .before .before .before .before .if1 .left) _
+    (c .before .before .before .before .before .before .sparse-head .ensures)
+    (c .before .before .before .before .before .before .before .before .before .before .before .before .before .before .before .loop .inv .0)
+    in (
+      turn-stop _
+          (single (look (c .before .before .before .before .before .before .before .before .before .before .before .before .before .before
+          .before .before .before .before .before .before .before .args .plan .now))) _ _ _
+          (sparseForm (cardsAt
+          (c .before .before .before .before .before .before .before .before .before .before .before .before .before .before .before .before .before .before .before .before .before .args .plan .now)
+          (c .before .before .before .before .before .before .before .before .before .before .before .before .before .before .before .before .before .before .before .before .before .args .node))
+          (c .before .before .before .before .before .before .before .before .before .before .before .before .before .before .before .before .before .before .before .before .before .args .part .now))
+          (c .before .before .before .before .before .before .before .before .before .before .before .before .before .before .before .loop .seen .marks)
+          (c .before .before .before .before .before .before .before .before .before .before .before .before .before .before .before .loop .pos) _ _ _
+          (c .before .before .before .before .before .before .before .before .before .before .before .before .before .before .loop-test .taken) _
+          (r .is) _ _ (c .before .before .before .before .walk-member .ensures .0) _ _ (c .enum-told2 .given .1)
+          ∙ sym (c .before .before .before .before .before .before .before .before .before .before .before .before .before .before .before .loop .inv .3),
+      refused-within _ _ _ _ (c .enum-told2 .given .1),
+    )
 
 walk-sparse-end-of-requires : (t : ℕ) → walk-sparse-lts.Need-end-of-requires (walk-sparse-claims t) (walk-sparse-at t) walk-sparse.Post walk-sparse-Inv-loop walk-sparse-μ-loop
 walk-sparse-end-of-requires t c κs =
-    let r = sparse-turn _ _ (c .before .before .before .before .before .before .before .before .before .before .before .before .before .before .before .before .before .before .before .before .before .before .pre .1 .0) (c .before .before .before .before .before .before .before .before .before .before .before .before .before .before .before .before .before .before .before .before .before .before .pre .1 .1) _ _ _ _ refl _ (c .before .before .before .before .before .before .before .before .before .before .before .before .before .before .index-at .ensures) (c .before .before .before .before .before .before .before .before .before .before .before .before .index .given .1) (c .before .before .before .before .before .before .before .before .before .before .before .before .before .before .before .before .loop .seen .marks) (sym (c .before .before .before .before .before .before .before .before .before .before .mark .ensures .0) ∙ c .before .before .before .before .before .before .before .before .before .if1 .left) _ (c .before .before .before .before .before .before .before .sparse-head .ensures) (c .before .before .before .before .before .before .before .before .before .before .before .before .before .before .before .before .loop .inv .0) in omega (arith, end-in _ _ _ _ (r .inside), c .before .before .before .before .before .before .before .before .before .before .before .before .before .before .before .before .before .before .before .before .before .before .pre .1 .2)
-
-walk-sparse-sub-left : (t : ℕ) → walk-sparse-lts.Need-sub-left (walk-sparse-claims t) (walk-sparse-at t) walk-sparse.Post walk-sparse-Inv-loop walk-sparse-μ-loop
-walk-sparse-sub-left t c = search needs
+    let r =
+    sparse-turn _ _
+    (c .before .before .before .before .before .before .before .before .before .before .before .before .before .before .before .before .before .before .before .before .before .before .pre .1 .0)
+    (c .before .before .before .before .before .before .before .before .before .before .before .before .before .before .before .before .before .before .before .before .before .before .pre .1 .1) _
+    _ _ _ refl _
+    (c .before .before .before .before .before .before .before .before .before .before .before .before .before .before .index-at .ensures)
+    (c .before .before .before .before .before .before .before .before .before .before .before .before .index .given .1)
+    (c .before .before .before .before .before .before .before .before .before .before .before .before .before .before .before .before .loop .seen .marks)
+    (sym (c .before .before .before .before .before .before .before .before .before .before .mark .ensures .0)
+    ∙ c .before .before .before .before .before .before .before .before .before .if1 .left) _
+    (c .before .before .before .before .before .before .before .sparse-head .ensures)
+    (c .before .before .before .before .before .before .before .before .before .before .before .before .before .before .before .before .loop .inv .0)
+    in
+    omega (
+      arith,
+      end-in _ _ _ _ (r .inside),
+      c .before .before .before .before .before .before .before .before .before .before .before .before .before .before .before .before .before .before .before .before .before .before .pre .1 .2,
+    )
 
 walk-sparse-loop-less : (t : ℕ) → walk-sparse-lts.Need-loop-less (walk-sparse-claims t) (walk-sparse-at t) walk-sparse.Post walk-sparse-Inv-loop walk-sparse-μ-loop
 walk-sparse-loop-less t c = omega arith
 
 walk-sparse-loop-again : (t : ℕ) → walk-sparse-lts.Need-loop-again (walk-sparse-claims t) (walk-sparse-at t) walk-sparse.Post walk-sparse-Inv-loop walk-sparse-μ-loop
 walk-sparse-loop-again t c =
-    let i = known-in _ _ (c .before .before .before .before .before .before .before .before .before .before .before .before .before .before .before .before .before .before .before .before .before .before .before .pre .1 .0) (c .before .before .before .before .before .before .before .before .before .before .before .before .before .before .before .before .before .before .before .before .before .before .before .pre .1 .1) _ _ _ _ refl _ (c .before .before .before .before .before .before .before .before .before .before .before .before .before .before .before .index-at .ensures) (c .before .before .before .before .before .before .before .before .before .before .before .before .before .index .given .1) (c .before .before .before .before .before .before .before .before .before .before .before .before .before .before .before .before .before .loop .inv .0) in let w = reached-in _ _ _ _ (c .before .before .step .given .1) (c .before .before .before .before .before .before .walk-member .ensures .1) in let r = sparse-turn _ _ (c .before .before .before .before .before .before .before .before .before .before .before .before .before .before .before .before .before .before .before .before .before .before .before .pre .1 .0) (c .before .before .before .before .before .before .before .before .before .before .before .before .before .before .before .before .before .before .before .before .before .before .before .pre .1 .1) _ _ _ _ refl _ (c .before .before .before .before .before .before .before .before .before .before .before .before .before .before .before .index-at .ensures) (c .before .before .before .before .before .before .before .before .before .before .before .before .before .index .given .1) (c .before .before .before .before .before .before .before .before .before .before .before .before .before .before .before .before .before .loop .seen .marks) (sym (c .before .before .before .before .before .before .before .before .before .before .before .mark .ensures .0) ∙ c .before .before .before .before .before .before .before .before .before .before .if1 .left) _ (c .before .before .before .before .before .before .before .before .sparse-head .ensures) (c .before .before .before .before .before .before .before .before .before .before .before .before .before .before .before .before .before .loop .inv .0) in (rw (c .end-of .ensures) (end-in _ _ _ _ (r .inside)), rw (c .end-of .ensures) (w .1), c .before .before .before .before .before .before .walk-member .kept .1 .1 .1 .1 .1 .1 .1 .0 ∙ c .before .before .before .before .before .before .before .before .before .before .before .before .before .before .before .before .before .loop .inv .2, c .before .before .before .before .before .before .before .before .before .before .before .before .before .before .before .before .before .loop .inv .3 ∙ turn-go _ (single (look (c .before .before .before .before .before .before .before .before .before .before .before .before .before .before .before .before .before .before .before .before .before .before .before .args .plan .now))) _ _ _ (sparseForm (cardsAt (c .before .before .before .before .before .before .before .before .before .before .before .before .before .before .before .before .before .before .before .before .before .before .before .args .plan .now) (c .before .before .before .before .before .before .before .before .before .before .before .before .before .before .before .before .before .before .before .before .before .before .before .args .node)) (c .before .before .before .before .before .before .before .before .before .before .before .before .before .before .before .before .before .before .before .before .before .before .before .args .part .now)) (c .before .before .before .before .before .before .before .before .before .before .before .before .before .before .before .before .before .loop .seen .marks) (c .before .before .before .before .before .before .before .before .before .before .before .before .before .before .before .before .before .loop .pos) _ _ _ (c .before .before .before .before .before .before .before .before .before .before .before .before .before .before .before .before .loop-test .taken) _ (r .is) _ _ (c .before .before .before .before .before .before .walk-member .ensures .0) _ (c .before .before .step .given .1) _ (c .before .before .before .before .before .before .before .before .before .before .before .mark .ensures .1 ∙ r .next (w .0)) _ (c .end-of .ensures), counted-next _ _ _ _ (c .before .before .before .before .before .before .before .before .before .before .before .before .before .before .before .before .before .loop .inv .4) _ (i .0) (i .1) (sym (c .before .before .before .before .before .before .before .before .before .before .before .mark .ensures .0) ∙ c .before .before .before .before .before .before .before .before .before .before .if1 .left) _ (c .before .before .before .before .before .before .before .before .before .before .before .mark .ensures .1) _ (c .before .before .before .before .before .before .before .before .before .count-given .ensures))
+    let i =
+    known-in _ _
+    (c .before .before .before .before .before .before .before .before .before .before .before .before .before .before .before .before
+    .before .before .before .before .before .before .before .pre .1 .0)
+    (c .before .before .before .before .before .before .before .before .before .before .before .before .before .before .before .before
+    .before .before .before .before .before .before .before .pre .1 .1) _ _ _ _
+    refl _
+    (c .before .before .before .before .before .before .before .before .before .before .before .before .before .before .before .index-at .ensures)
+    (c .before .before .before .before .before .before .before .before .before .before .before .before .before .index .given .1)
+    (c .before .before .before .before .before .before .before .before .before .before .before .before .before .before .before .before .before .loop .inv .0)
+    in
+    let w = reached-in _ _ _ _ (c .before .before .step .given .1) (c .before .before .before .before .before .before .walk-member .ensures .1) in
+    let r =
+    sparse-turn _ _
+    (c .before .before .before .before .before .before .before .before .before .before .before .before .before .before .before .before
+    .before .before .before .before .before .before .before .pre .1 .0)
+    (c .before .before .before .before .before .before .before .before .before .before .before .before .before .before .before .before
+    .before .before .before .before .before .before .before .pre .1 .1) _ _ _ _
+    refl _
+    (c .before .before .before .before .before .before .before .before .before .before .before .before .before .before .before .index-at .ensures)
+    (c .before .before .before .before .before .before .before .before .before .before .before .before .before .index .given .1)
+    (c .before .before .before .before .before .before .before .before .before .before .before .before .before .before .before .before .before .loop .seen .marks)
+    (sym (c .before .before .before .before .before .before .before .before .before .before .before .mark .ensures .0)
+    ∙ c .before .before .before .before .before .before .before .before .before .before .if1 .left) _
+    (c .before .before .before .before .before .before .before .before .sparse-head .ensures)
+    (c .before .before .before .before .before .before .before .before .before .before .before .before .before .before .before .before .before .loop .inv .0)
+    in (
+      rw (c .end-of .ensures) (end-in _ _ _ _ (r .inside)),
+      rw (c .end-of .ensures) (w .1),
+      c .before .before .before .before .before .before .walk-member .kept .1 .1 .1 .1 .1 .1 .1 .0
+          ∙ c .before .before .before .before .before .before .before .before .before .before .before .before .before .before .before .before .before .loop .inv .2,
+      c .before .before .before .before .before .before .before .before .before .before .before .before .before .before .before .before .before .loop .inv .3
+          ∙ turn-go _
+          (single (look (c .before .before .before .before .before .before .before .before .before .before .before .before .before .before
+          .before .before .before .before .before .before .before .before .before .args .plan .now))) _ _ _
+          (sparseForm (cardsAt (c .before .before .before .before .before .before .before .before .before .before .before .before .before
+          .before .before .before .before .before .before .before .before .before .before .args .plan .now)
+          (c .before .before .before .before .before .before .before .before .before .before .before .before .before .before .before .before
+          .before .before .before .before .before .before .before .args .node))
+          (c .before .before .before .before .before .before .before .before .before .before .before .before .before .before .before .before
+          .before .before .before .before .before .before .before .args .part .now))
+          (c .before .before .before .before .before .before .before .before .before .before .before .before .before .before .before .before .before .loop .seen .marks)
+          (c .before .before .before .before .before .before .before .before .before .before .before .before .before .before .before .before .before .loop .pos) _ _ _
+          (c .before .before .before .before .before .before .before .before .before .before .before .before .before .before .before .before .loop-test .taken) _
+          (r .is) _ _ (c .before .before .before .before .before .before .walk-member .ensures .0) _ (c .before .before .step .given .1) _
+          (c .before .before .before .before .before .before .before .before .before .before .before .mark .ensures .1 ∙ r .next (w .0)) _
+          (c .end-of .ensures),
+      counted-next _ _ _ _
+          (c .before .before .before .before .before .before .before .before .before .before .before .before .before .before .before .before .before .loop .inv .4) _
+          (i .0) (i .1)
+          (sym (c .before .before .before .before .before .before .before .before .before .before .before .mark .ensures .0)
+          ∙ c .before .before .before .before .before .before .before .before .before .before .if1 .left) _
+          (c .before .before .before .before .before .before .before .before .before .before .before .mark .ensures .1) _
+          (c .before .before .before .before .before .before .before .before .before .count-given .ensures),
+    )
 
 walk-sparse-needed-of-requires : (t : ℕ) → walk-sparse-lts.Need-needed-of-requires (walk-sparse-claims t) (walk-sparse-at t) walk-sparse.Post walk-sparse-Inv-loop walk-sparse-μ-loop
-walk-sparse-needed-of-requires t c κs =
-    (c .before .before .before .before .before .before .before .pre .1 .0, c .before .before .before .before .before .before .before .pre .1 .1, c .before .before .before .before .before .before .before .pre .1 .5)
+walk-sparse-needed-of-requires t c κs = (
+  c .before .before .before .before .before .before .before .pre .1 .0,
+  c .before .before .before .before .before .before .before .pre .1 .1,
+  c .before .before .before .before .before .before .before .pre .1 .5,
+)
 
 walk-sparse-end-elements-requires : (t : ℕ) → walk-sparse-lts.Need-end-elements-requires (walk-sparse-claims t) (walk-sparse-at t) walk-sparse.Post walk-sparse-Inv-loop walk-sparse-μ-loop
-walk-sparse-end-elements-requires t c κs =
-    (omega (arith, c .before .before .before .before .before .before .before .before .pre .1 .2), omega (arith, c .before .before .loop .inv .0, c .before .before .loop .inv .1, c .before .before .before .before .before .before .before .before .pre .1 .2))
+walk-sparse-end-elements-requires t c κs = (
+  omega (arith, c .before .before .before .before .before .before .before .before .pre .1 .2),
+  omega (arith, c .before .before .loop .inv .0, c .before .before .loop .inv .1, c .before .before .before .before .before .before .before .before .pre .1 .2),
+)
 
 walk-sparse-same-length-4 : (t : ℕ) → walk-sparse-lts.Need-same-length-4 (walk-sparse-claims t) (walk-sparse-at t) walk-sparse.Post walk-sparse-Inv-loop walk-sparse-μ-loop
 walk-sparse-same-length-4 t c = c .before .before .before .loop .inv .2
 
 walk-sparse-returns-4 : (t : ℕ) → walk-sparse-lts.Need-returns-4 (walk-sparse-claims t) (walk-sparse-at t) walk-sparse.Post walk-sparse-Inv-loop walk-sparse-μ-loop
-walk-sparse-returns-4 t c =
-    (done _ (single (look (c .before .before .before .before .before .before .before .before .before .args .plan .now))) _ _ _ (sparseForm (cardsAt (c .before .before .before .before .before .before .before .before .before .args .plan .now) (c .before .before .before .before .before .before .before .before .before .args .node)) (c .before .before .before .before .before .before .before .before .before .args .part .now)) (c .before .before .before .loop .seen .marks) (c .before .before .before .loop .pos) _ _ _ (c .before .before .loop-test .left) _ _ refl (counted-end _ _ _ _ (c .before .before .before .loop .inv .4) _ (c .before .needed-of .ensures)) _ (c .end-elements .ensures) ∙ sym (c .before .before .before .loop .inv .3), end-within _ _ _ _ _ _ (c .end-elements .ensures) (omega (arith, c .before .before .before .loop .inv .0, c .before .before .before .loop .inv .1)))
+walk-sparse-returns-4 t c = (
+  done _ (single (look (c .before .before .before .before .before .before .before .before .before .args .plan .now))) _ _ _
+      (sparseForm (cardsAt (c .before .before .before .before .before .before .before .before .before .args .plan .now)
+      (c .before .before .before .before .before .before .before .before .before .args .node))
+      (c .before .before .before .before .before .before .before .before .before .args .part .now))
+      (c .before .before .before .loop .seen .marks) (c .before .before .before .loop .pos) _ _ _ (c .before .before .loop-test .left) _ _
+      refl (counted-end _ _ _ _ (c .before .before .before .loop .inv .4) _ (c .before .needed-of .ensures)) _ (c .end-elements .ensures)
+      ∙ sym (c .before .before .before .loop .inv .3),
+  end-within _ _ _ _ _ _ (c .end-elements .ensures) (omega (arith, c .before .before .before .loop .inv .0, c .before .before .before .loop .inv .1)),
+)
 
 walk-value-kind-at-requires : (t : ℕ) → walk-value-lts.Need-kind-at-requires (walk-value-claims t) (walk-value-at t) walk-value.Post
 walk-value-kind-at-requires t c κs = c .before .before .before .before .pre .1 .0
 
-walk-value-is-leaf-requires : (t : ℕ) → walk-value-lts.Need-is-leaf-requires (walk-value-claims t) (walk-value-at t) walk-value.Post
-walk-value-is-leaf-requires t c κs = search needs
-
 walk-value-walk-leaf-requires : (t : ℕ) → walk-value-lts.Need-walk-leaf-requires (walk-value-claims t) (walk-value-at t) walk-value.Post
-walk-value-walk-leaf-requires t c κs =
-    (c .before .before .before .before .before .before .before .before .pre .1 .0, c .before .before .before .kind-at .ensures .is, sym (c .before .before .is-leaf .ensures) ∙ c .before .if1 .taken, c .before .before .before .before .before .before .before .before .pre .1 .1, c .before .before .before .before .before .before .before .before .pre .1 .2, c .before .before .before .before .before .before .before .before .pre .1 .3)
-
-walk-value-same-length : (t : ℕ) → walk-value-lts.Need-same-length (walk-value-claims t) (walk-value-at t) walk-value.Post
-walk-value-same-length t c = search needs
+walk-value-walk-leaf-requires t c κs = (
+  c .before .before .before .before .before .before .before .before .pre .1 .0,
+  c .before .before .before .kind-at .ensures .is,
+  sym (c .before .before .is-leaf .ensures) ∙ c .before .if1 .taken,
+  c .before .before .before .before .before .before .before .before .pre .1 .1,
+  c .before .before .before .before .before .before .before .before .pre .1 .2,
+  c .before .before .before .before .before .before .before .before .pre .1 .3,
+)
 
 walk-value-returns : (t : ℕ) → walk-value-lts.Need-returns (walk-value-claims t) (walk-value-at t) walk-value.Post
 walk-value-returns t c = c .before .before .walk-leaf .ensures
 
 walk-value-walk-container-requires : (t : ℕ) → walk-value-lts.Need-walk-container-requires (walk-value-claims t) (walk-value-at t) walk-value.Post
-walk-value-walk-container-requires t c κs =
-    (omega (arith, c .before .before .before .before .before .before .before .before .pre .0), (c .before .before .before .before .before .before .before .before .pre .1 .0, c .before .before .before .before .before .before .before .before .pre .1 .1, c .before .before .before .before .before .before .before .before .pre .1 .2, c .before .before .before .before .before .before .before .before .pre .1 .3, c .before .before .before .before .before .before .before .before .pre .1 .4, inner-kind _ _ _ (c .before .before .before .kind-at .ensures) (sym (c .before .before .is-leaf .ensures) ∙ c .before .if1 .left)))
+walk-value-walk-container-requires t c κs = (
+  omega (arith, c .before .before .before .before .before .before .before .before .pre .0),
+  (
+    c .before .before .before .before .before .before .before .before .pre .1 .0,
+    c .before .before .before .before .before .before .before .before .pre .1 .1,
+    c .before .before .before .before .before .before .before .before .pre .1 .2,
+    c .before .before .before .before .before .before .before .before .pre .1 .3,
+    c .before .before .before .before .before .before .before .before .pre .1 .4,
+    inner-kind _ _ _ (c .before .before .before .kind-at .ensures) (sym (c .before .before .is-leaf .ensures) ∙ c .before .if1 .left),
+  ),
+)
 
 walk-value-same-length-2 : (t : ℕ) → walk-value-lts.Need-same-length-2 (walk-value-claims t) (walk-value-at t) walk-value.Post
 walk-value-same-length-2 t c = c .before .before .walk-container .kept .1 .1 .1 .1 .1 .1 .1 .0
@@ -545,9 +1051,9 @@ pub +walk-container+walk-member+walk-row+walk-sparse+walk-value-spec : {M : Type
     (walk-container-at t)
     walk-container.Post
     (walk-container-open-node-requires t)
-    (walk-container-enum-known-opening t)
-    (walk-container-enum-told t)
-    (walk-container-opening-fault-requires t)
+    (λ c. search needs)
+    (λ c. search needs)
+    (λ c κs. search needs)
     (walk-container-refused-requires t)
     (walk-container-returns t)
     (walk-container-put-entry-requires t)
@@ -582,9 +1088,9 @@ pub +walk-container+walk-member+walk-row+walk-sparse+walk-value-spec : {M : Type
     )
     (walk-member-at t)
     walk-member.Post
-    (walk-member-enum-known-head t)
-    (walk-member-enum-known-head-2 t)
-    (walk-member-head-fault-requires t)
+    (λ c. search needs)
+    (λ c. search needs)
+    (λ c κs. search needs)
     (walk-member-refused-requires t)
     (walk-member-returns t)
     (walk-member-ref-of-requires t)
@@ -595,11 +1101,11 @@ pub +walk-container+walk-member+walk-row+walk-sparse+walk-value-spec : {M : Type
     (walk-member-ref-of-requires-2 t)
     (walk-member-kind-at-requires t)
     (walk-member-add-end t)
-    (walk-member-sub-bytes t)
-    (walk-member-part-bytes-start t)
+    (λ c. search needs)
+    (λ c. search needs)
     (walk-member-part-bytes-end t)
     (walk-member-add-place t)
-    (walk-member-is-leaf-requires t)
+    (λ c κs. search needs)
     (walk-member-walk-leaf-requires t)
     (walk-member-same-length-2 t)
     (walk-member-returns-3 t)
@@ -631,13 +1137,13 @@ pub +walk-container+walk-member+walk-row+walk-sparse+walk-value-spec : {M : Type
     (walk-row-sub-i t)
     (walk-row-row-head-requires t)
     (walk-row-walk-member-requires t)
-    (walk-row-enum-known-step t)
-    (walk-row-enum-told t)
+    (λ c. search needs)
+    (λ c. search needs)
     (walk-row-same-length t)
     (walk-row-returns t)
     (walk-row-end-of-requires t)
-    (walk-row-cast-word t)
-    (walk-row-sub-walk-leaves t)
+    (λ c. search needs)
+    (λ c. search needs)
     (walk-row-add-walk-leaves t)
     (walk-row-walk-leaves-requires-2 t)
     (walk-row-loop-less t)
@@ -673,9 +1179,9 @@ pub +walk-container+walk-member+walk-row+walk-sparse+walk-value-spec : {M : Type
     walk-sparse-μ-loop
     (walk-sparse-loop-holds t)
     (walk-sparse-index-at-requires t)
-    (walk-sparse-enum-known-index t)
-    (walk-sparse-enum-told t)
-    (walk-sparse-index-fault-requires t)
+    (λ c. search needs)
+    (λ c. search needs)
+    (λ c κs. search needs)
     (walk-sparse-refused-requires t)
     (walk-sparse-same-length t)
     (walk-sparse-returns t)
@@ -686,13 +1192,13 @@ pub +walk-container+walk-member+walk-row+walk-sparse+walk-value-spec : {M : Type
     (walk-sparse-count-given-requires t)
     (walk-sparse-sparse-head-requires t)
     (walk-sparse-walk-member-requires t)
-    (walk-sparse-enum-known-step t)
-    (walk-sparse-enum-told-2 t)
+    (λ c. search needs)
+    (λ c. search needs)
     (walk-sparse-same-length-3 t)
     (walk-sparse-returns-3 t)
-    (walk-sparse-cast-to t)
+    (λ c. search needs)
     (walk-sparse-end-of-requires t)
-    (walk-sparse-sub-left t)
+    (λ c. search needs)
     (walk-sparse-loop-less t)
     (walk-sparse-loop-again t)
     (walk-sparse-needed-of-requires t)
@@ -712,9 +1218,9 @@ pub +walk-container+walk-member+walk-row+walk-sparse+walk-value-spec : {M : Type
     (walk-value-at t)
     walk-value.Post
     (walk-value-kind-at-requires t)
-    (walk-value-is-leaf-requires t)
+    (λ c κs. search needs)
     (walk-value-walk-leaf-requires t)
-    (walk-value-same-length t)
+    (λ c. search needs)
     (walk-value-returns t)
     (walk-value-walk-container-requires t)
     (walk-value-same-length-2 t)

@@ -5,22 +5,13 @@ use Rattle.value_walk.proofs.end_elements.Statement.{statement}
 use Rattle.value_walk.proofs.end_elements.Tie as tie
 use Rattle.protocol.specs.Numbers.{pick}
 
-refused-requires : tie.Need-refused-requires
-refused-requires c κs = search needs
-
 returns : tie.Need-returns
 unfolding endStep pick
 returns c = c .refused .ensures ∙ rw (c .before .before .if1 .taken, c .before .if2 .taken)
 
-cast-t7 : tie.Need-cast-t7
-cast-t7 c = search needs
-
 returns-2 : tie.Need-returns-2
 unfolding endStep pick
 returns-2 c = rw (c .before .if1 .taken, c .if2 .left)
-
-refused-requires-2 : tie.Need-refused-requires-2
-refused-requires-2 c κs = search needs
 
 returns-3 : tie.Need-returns-3
 unfolding endStep pick
@@ -28,4 +19,4 @@ returns-3 c = c .refused2 .ensures ∙ rw (c .before .if1 .left)
 
 pub end-elements-spec : {M : Type 1} → statement M
 end-elements-spec =
-    tie.close (tie.spec refused-requires returns cast-t7 returns-2 refused-requires-2 returns-3)
+    tie.close (tie.spec (λ c κs. search needs) returns (λ c. search needs) returns-2 (λ c κs. search needs) returns-3)

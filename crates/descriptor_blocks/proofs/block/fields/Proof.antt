@@ -1,4 +1,4 @@
--- `descriptor_blocks::block::fields` meets its contract. Assumes nothing.
+-- `descriptor_blocks::block::fields` meets its contract.
 use mathlib.Core.Path.{refl, _∙_}
 use Prim.Native.Nat.{_-_}
 use lib.ListN.{length}
@@ -19,44 +19,46 @@ loop-holds : tie.Need-loop-holds Inv-loop μ-loop
 loop-holds c =
     going-start _ _ _ _ _ _ (c .before .before .before .before .pre .2) (c .before .before .before .before .pre .3)
 
-shared-slice-read-code : tie.Need-shared-slice-read-code Inv-loop μ-loop
-shared-slice-read-code c = search needs
-
 same-length : tie.Need-same-length Inv-loop μ-loop
 same-length c = c .before .before .before .loop .inv .size
 
 returns : tie.Need-returns Inv-loop μ-loop
 unfolding walkOf
-returns c =
-    (going-stop _ _ _ _ _ _ _ _ _ (c .before .before .before .loop .inv) (c .before .before .loop-test .taken) _ refl (c .if1 .taken), going-inside _ _ _ _ _ _ _ _ _ (c .before .before .before .loop .inv))
+returns c = (
+  going-stop _ _ _ _ _ _ _ _ _ (c .before .before .before .loop .inv) (c .before .before .loop-test .taken) _ refl (c .if1 .taken),
+  going-inside _ _ _ _ _ _ _ _ _ (c .before .before .before .loop .inv),
+)
 
 read-requires : tie.Need-read-requires Inv-loop μ-loop
-read-requires c κs =
-    (c .before .before .before .before .before .before .before .before .before .pre .0, going-room _ _ _ _ _ _ _ _ _ (c .before .before .before .before .loop .inv) (c .before .before .before .loop-test .taken) _ refl (c .before .if1 .left) (c .before .before .before .before .before .before .before .before .before .pre .1), c .before .before .before .before .loop .inv .at, c .before .before .before .before .loop .inv .left)
-
-enum-known-part : tie.Need-enum-known-part Inv-loop μ-loop
-enum-known-part c = search needs
-
-enum-told : tie.Need-enum-told Inv-loop μ-loop
-enum-told c = search needs
+read-requires c κs = (
+  c .before .before .before .before .before .before .before .before .before .pre .0,
+  going-room _ _ _ _ _ _ _ _ _ (c .before .before .before .before .loop .inv) (c .before .before .before .loop-test .taken) _ refl
+      (c .before .if1 .left) (c .before .before .before .before .before .before .before .before .before .pre .1),
+  c .before .before .before .before .loop .inv .at,
+  c .before .before .before .before .loop .inv .left,
+)
 
 same-length-2 : tie.Need-same-length-2 Inv-loop μ-loop
 same-length-2 c =
     c .before .before .before .before .read .kept .1 .1 .1 .1 .1 .1 .0 ∙ c .before .before .before .before .before .before .before .before .before .loop .inv .size
 
 returns-2 : tie.Need-returns-2 Inv-loop μ-loop
-returns-2 c =
-    (going-halt _ _ _ _ _ _ _ _ _ (c .before .before .before .before .before .before .before .before .before .loop .inv) (c .before .before .before .before .before .before .before .before .loop-test .taken) _ refl (c .before .before .before .before .before .before .if1 .left) _ _ (c .before .before .before .before .read .ensures .0) _ (c .enum-told .given .1), fault-inside _ _ _ _ (c .enum-told .given .1))
-
-add-k : tie.Need-add-k Inv-loop μ-loop
-add-k c = search needs
-
-loop-less : tie.Need-loop-less Inv-loop μ-loop
-loop-less c = search needs
+returns-2 c = (
+  going-halt _ _ _ _ _ _ _ _ _ (c .before .before .before .before .before .before .before .before .before .loop .inv)
+      (c .before .before .before .before .before .before .before .before .loop-test .taken) _ refl
+      (c .before .before .before .before .before .before .if1 .left) _ _ (c .before .before .before .before .read .ensures .0) _
+      (c .enum-told .given .1),
+  fault-inside _ _ _ _ (c .enum-told .given .1),
+)
 
 loop-again : tie.Need-loop-again Inv-loop μ-loop
 loop-again c =
-    going-next _ _ _ _ _ _ _ _ _ (c .before .before .before .before .before .before .before .before .before .before .loop .inv) (c .before .before .before .before .before .before .before .before .before .loop-test .taken) _ refl (c .before .before .before .before .before .before .before .if1 .left) _ _ (c .before .before .before .before .before .read .ensures .0) _ (c .before .part .given .1) (c .before .before .before .before .before .read .ensures .1) (c .before .before .before .before .before .read .kept .1 .1 .1 .1 .1 .1 .0)
+    going-next _ _ _ _ _ _ _ _ _ (c .before .before .before .before .before .before .before .before .before .before .loop .inv)
+    (c .before .before .before .before .before .before .before .before .before .loop-test .taken) _ refl
+    (c .before .before .before .before .before .before .before .if1 .left) _ _
+    (c .before .before .before .before .before .read .ensures .0) _ (c .before .part .given .1)
+    (c .before .before .before .before .before .read .ensures .1)
+    (c .before .before .before .before .before .read .kept .1 .1 .1 .1 .1 .1 .0)
 
 same-length-3 : tie.Need-same-length-3 Inv-loop μ-loop
 same-length-3 c = c .before .loop .inv .size
@@ -73,16 +75,16 @@ fields-spec =
     Inv-loop
     μ-loop
     loop-holds
-    shared-slice-read-code
+    (λ c. search needs)
     same-length
     returns
     read-requires
-    enum-known-part
-    enum-told
+    (λ c. search needs)
+    (λ c. search needs)
     same-length-2
     returns-2
-    add-k
-    loop-less
+    (λ c. search needs)
+    (λ c. search needs)
     loop-again
     same-length-3
     returns-3)

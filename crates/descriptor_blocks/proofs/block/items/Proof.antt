@@ -1,4 +1,4 @@
--- `descriptor_blocks::block::items` meets its contract. Assumes nothing.
+-- `descriptor_blocks::block::items` meets its contract.
 use mathlib.Core.Path.{_∙_}
 use Prim.Native.Nat.{_-_}
 use native.Mathlib.Omega.{arith}
@@ -21,32 +21,34 @@ loop-holds c =
     counting-start _ _ _ _ _ _ (c .before .before .before .before .pre .2) (c .before .before .before .before .pre .3)
 
 fields-requires : tie.Need-fields-requires Inv-loop μ-loop
-fields-requires c κs =
-    (c .before .before .before .before .before .before .before .pre .0, counting-room _ _ _ _ _ _ _ _ _ (c .before .before .loop .inv) (c .before .before .loop .left - 1) (omega (arith, c .before .loop-test .taken)) (c .before .before .before .before .before .before .before .pre .1), c .before .before .loop .inv .at, c .before .before .loop .inv .few)
-
-enum-known-part : tie.Need-enum-known-part Inv-loop μ-loop
-enum-known-part c = search needs
-
-enum-told : tie.Need-enum-told Inv-loop μ-loop
-enum-told c = search needs
+fields-requires c κs = (
+  c .before .before .before .before .before .before .before .pre .0,
+  counting-room _ _ _ _ _ _ _ _ _ (c .before .before .loop .inv) (c .before .before .loop .left - 1)
+      (omega (arith, c .before .loop-test .taken)) (c .before .before .before .before .before .before .before .pre .1),
+  c .before .before .loop .inv .at,
+  c .before .before .loop .inv .few,
+)
 
 same-length : tie.Need-same-length Inv-loop μ-loop
 same-length c =
     c .before .before .before .before .fields .kept .1 .1 .1 .1 .1 .1 .0 ∙ c .before .before .before .before .before .before .before .loop .inv .size
 
 returns : tie.Need-returns Inv-loop μ-loop
-returns c =
-    (counting-halt _ _ _ _ _ _ _ _ _ (c .before .before .before .before .before .before .before .loop .inv) (c .before .before .before .before .before .before .before .loop .left - 1) (omega (arith, c .before .before .before .before .before .before .loop-test .taken)) _ _ (c .before .before .before .before .fields .ensures .0) _ (c .enum-told .given .1), fault-inside _ _ _ _ (c .enum-told .given .1))
-
-sub-left : tie.Need-sub-left Inv-loop μ-loop
-sub-left c = search needs
-
-loop-less : tie.Need-loop-less Inv-loop μ-loop
-loop-less c = search needs
+returns c = (
+  counting-halt _ _ _ _ _ _ _ _ _ (c .before .before .before .before .before .before .before .loop .inv)
+      (c .before .before .before .before .before .before .before .loop .left - 1)
+      (omega (arith, c .before .before .before .before .before .before .loop-test .taken)) _ _
+      (c .before .before .before .before .fields .ensures .0) _ (c .enum-told .given .1),
+  fault-inside _ _ _ _ (c .enum-told .given .1),
+)
 
 loop-again : tie.Need-loop-again Inv-loop μ-loop
 loop-again c =
-    counting-next _ _ _ _ _ _ _ _ _ (c .before .before .before .before .before .before .before .before .loop .inv) _ (omega (arith, c .before .before .before .before .before .before .before .loop-test .taken)) _ _ (c .before .before .before .before .before .fields .ensures .0) _ (c .before .part .given .1) (c .before .before .before .before .before .fields .ensures .1) (c .before .before .before .before .before .fields .kept .1 .1 .1 .1 .1 .1 .0)
+    counting-next _ _ _ _ _ _ _ _ _ (c .before .before .before .before .before .before .before .before .loop .inv) _
+    (omega (arith, c .before .before .before .before .before .before .before .loop-test .taken)) _ _
+    (c .before .before .before .before .before .fields .ensures .0) _ (c .before .part .given .1)
+    (c .before .before .before .before .before .fields .ensures .1)
+    (c .before .before .before .before .before .fields .kept .1 .1 .1 .1 .1 .1 .0)
 
 same-length-2 : tie.Need-same-length-2 Inv-loop μ-loop
 same-length-2 c = c .before .loop .inv .size
@@ -63,12 +65,12 @@ items-spec =
     μ-loop
     loop-holds
     fields-requires
-    enum-known-part
-    enum-told
+    (λ c. search needs)
+    (λ c. search needs)
     same-length
     returns
-    sub-left
-    loop-less
+    (λ c. search needs)
+    (λ c. search needs)
     loop-again
     same-length-2
     returns-2)

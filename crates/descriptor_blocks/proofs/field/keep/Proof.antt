@@ -1,4 +1,4 @@
--- `descriptor_blocks::field::keep` meets its contract. Assumes nothing.
+-- `descriptor_blocks::field::keep` meets its contract.
 use mathlib.Core.Path.{sym, _∙_}
 use native.Mathlib.Omega.{arith}
 use Rattle.descriptor_fields.specs.Fields.{decides, formatless}
@@ -8,41 +8,55 @@ use borrow.Author.Needs.{needs}
 use Rattle.descriptor_blocks.proofs.field.keep.Statement.{statement}
 use Rattle.descriptor_blocks.proofs.field.keep.Tie as tie
 
-extent-of-requires : tie.Need-extent-of-requires
-extent-of-requires c κs = search needs
-
-add-x : tie.Need-add-x
-add-x c = search needs
-
 format-of-requires : tie.Need-format-of-requires
 format-of-requires c κs =
-    omega (arith, c .before .before .before .before .pre .2, extent-id (c .before .before .before .before .args .d .now) (c .before .before .before .before .args .code) (c .before .before .before .before .args .x .at) (c .match .keys1))
-
-cast-x : tie.Need-cast-x
-cast-x c = search needs
+    omega (
+      arith,
+      c .before .before .before .before .pre .2,
+      extent-id (c .before .before .before .before .args .d .now) (c .before .before .before .before .args .code) (c .before .before .before .before .args .x .at) (c .match .keys1),
+    )
 
 number-at-requires : tie.Need-number-at-requires
 number-at-requires c κs =
-    omega (arith, c .before .before .before .before .pre .2, extent-number (c .before .before .before .before .args .d .now) (c .before .before .before .before .args .code) (c .before .before .before .before .args .x .at) (omega (arith, c .match .keys3)))
+    omega (
+      arith,
+      c .before .before .before .before .pre .2,
+      extent-number (c .before .before .before .before .args .d .now) (c .before .before .before .before .args .code) (c .before .before .before .before .args .x .at) (omega (arith, c .match .keys3)),
+    )
 
 number-at-requires-2 : tie.Need-number-at-requires-2
 number-at-requires-2 c κs =
-    omega (arith, c .before .before .before .before .pre .2, extent-number (c .before .before .before .before .args .d .now) (c .before .before .before .before .args .code) (c .before .before .before .before .args .x .at) (omega (arith, c .match .keys4)))
+    omega (
+      arith,
+      c .before .before .before .before .pre .2,
+      extent-number (c .before .before .before .before .args .d .now) (c .before .before .before .before .args .code) (c .before .before .before .before .args .x .at) (omega (arith, c .match .keys4)),
+    )
 
 number-at-requires-3 : tie.Need-number-at-requires-3
 number-at-requires-3 c κs =
-    omega (arith, c .before .before .before .before .pre .2, extent-number (c .before .before .before .before .args .d .now) (c .before .before .before .before .args .code) (c .before .before .before .before .args .x .at) (omega (arith, c .match .keys5)))
+    omega (
+      arith,
+      c .before .before .before .before .pre .2,
+      extent-number (c .before .before .before .before .args .d .now) (c .before .before .before .before .args .code) (c .before .before .before .before .args .x .at) (omega (arith, c .match .keys5)),
+    )
 
 number-at-requires-4 : tie.Need-number-at-requires-4
 number-at-requires-4 c κs =
-    omega (arith, c .before .before .before .before .pre .2, extent-number (c .before .before .before .before .args .d .now) (c .before .before .before .before .args .code) (c .before .before .before .before .args .x .at) (omega (arith, c .match .keys6)))
-
-is-deciding-requires : tie.Need-is-deciding-requires
-is-deciding-requires c κs = search needs
+    omega (
+      arith,
+      c .before .before .before .before .pre .2,
+      extent-number (c .before .before .before .before .args .d .now) (c .before .before .before .before .args .code) (c .before .before .before .before .args .x .at) (omega (arith, c .match .keys6)),
+    )
 
 number-at-requires-5 : tie.Need-number-at-requires-5
 number-at-requires-5 c κs =
-    omega (arith, c .before .before .before .before .before .before .pre .2, extent-number (c .before .before .before .before .before .before .args .d .now) (c .before .before .before .before .before .before .args .code) (c .before .before .before .before .before .before .args .x .at) (omega (arith, c .before .before .match .keys7)))
+    omega (
+      arith,
+      c .before .before .before .before .before .before .pre .2,
+      extent-number (c .before .before .before .before .before .before .args .d .now)
+          (c .before .before .before .before .before .before .args .code) (c .before .before .before .before .before .before .args .x .at)
+          (omega (arith, c .before .before .match .keys7)),
+    )
 
 format-at-requires : tie.Need-format-at-requires
 format-at-requires c κs = c .before .before .before .before .before .before .before .pre .0
@@ -73,7 +87,9 @@ returns-6 c =
 returns-7 : tie.Need-returns-7
 unfolding decides formatless
 returns-7 c =
-    kept-deciding _ _ _ _ _ _ (c .before .before .before .before .before .extent-of .ensures) _ (c .before .number-at5 .ensures) (c .before .before .before .before .match .keys7) (sym (c .before .before .before .is-deciding .ensures) ∙ c .before .before .if1 .taken) _ (c .format-at .ensures)
+    kept-deciding _ _ _ _ _ _ (c .before .before .before .before .before .extent-of .ensures) _ (c .before .number-at5 .ensures)
+    (c .before .before .before .before .match .keys7)
+    (sym (c .before .before .before .is-deciding .ensures) ∙ c .before .before .if1 .taken) _ (c .format-at .ensures)
 
 returns-8 : tie.Need-returns-8
 unfolding decides formatless
@@ -82,21 +98,23 @@ returns-8 c =
 
 returns-9 : tie.Need-returns-9
 returns-9 c =
-    kept-plain _ _ _ _ _ _ (c .before .extent-of .ensures) (c .match .rest .0 .0 .0 .0 .0 .0 .1) (c .match .rest .0 .0 .0 .0 .0 .1) (c .match .rest .0 .0 .0 .0 .1) (c .match .rest .0 .0 .0 .1) (c .match .rest .0 .0 .1) (c .match .rest .0 .1) (c .match .rest .1) (c .before .before .before .before .pre .1)
+    kept-plain _ _ _ _ _ _ (c .before .extent-of .ensures) (c .match .rest .0 .0 .0 .0 .0 .0 .1) (c .match .rest .0 .0 .0 .0 .0 .1)
+    (c .match .rest .0 .0 .0 .0 .1) (c .match .rest .0 .0 .0 .1) (c .match .rest .0 .0 .1) (c .match .rest .0 .1) (c .match .rest .1)
+    (c .before .before .before .before .pre .1)
 
 pub keep-spec : {M : Type 1} → statement M
 keep-spec =
     tie.close
     (tie.spec
-    extent-of-requires
-    add-x
+    (λ c κs. search needs)
+    (λ c. search needs)
     format-of-requires
-    cast-x
+    (λ c. search needs)
     number-at-requires
     number-at-requires-2
     number-at-requires-3
     number-at-requires-4
-    is-deciding-requires
+    (λ c κs. search needs)
     number-at-requires-5
     format-at-requires
     returns

@@ -1,4 +1,4 @@
--- `descriptor_blocks::field::keep_element` meets its contract. Assumes nothing.
+-- `descriptor_blocks::field::keep_element` meets its contract.
 use mathlib.Core.Path.{ap, _∙_}
 use native.Mathlib.Omega.{arith}
 use Prim.Native.Nat.{ℕ, _+_}
@@ -14,30 +14,9 @@ number-at-requires : tie.Need-number-at-requires
 number-at-requires c κs =
     omega (arith, c .before .before .before .pre .3, width-reference (c .before .before .before .args .code) (omega (arith, c .before .before .before .pre .2)))
 
-mul-k : tie.Need-mul-k
-mul-k c = search needs
-
-mul-elements : tie.Need-mul-elements
-mul-elements c = search needs
-
-slice-write-elements : tie.Need-slice-write-elements
-slice-write-elements c = search needs
-
-add-elements : tie.Need-add-elements
-add-elements c = search needs
-
-mul-elements-2 : tie.Need-mul-elements-2
-mul-elements-2 c = search needs
-
 slice-write-elements-2 : tie.Need-slice-write-elements-2
 slice-write-elements-2 c =
     simp length-set (omega (arith, c .before .before .before .before .before .pre .1 .room, c .before .before .before .before .before .pre .1 .few))
-
-add-elements-2 : tie.Need-add-elements-2
-add-elements-2 c = search needs
-
-mul-elements-3 : tie.Need-mul-elements-3
-mul-elements-3 c = search needs
 
 slice-write-elements-3 : tie.Need-slice-write-elements-3
 slice-write-elements-3 c =
@@ -46,39 +25,34 @@ slice-write-elements-3 c =
 height-at-requires : tie.Need-height-at-requires
 height-at-requires c κs = c .before .before .before .before .before .pre .0
 
-raised-requires : tie.Need-raised-requires
-raised-requires c κs = search needs
-
-add-x : tie.Need-add-x
-add-x c = search needs
-
-add-x-2 : tie.Need-add-x-2
-add-x-2 c = search needs
-
-same-length : tie.Need-same-length
-same-length c = search needs
-
 returns : tie.Need-returns
-returns c =
-    (kept-element _ _ _ _ _ (c .before .before .before .before .before .before .before .before .before .pre .2) _ (c .before .before .before .before .before .number-at .ensures) _ (c .before .before .raised .ensures ∙ ap (λ (h : ℕ). atLeast (c .before .before .before .before .before .before .before .before .before .args .x .height) (h + 1)) (c .before .before .before .height-at .ensures .0)), element-more _ _ _ _ _ (omega (arith, c .before .before .before .before .before .before .before .before .before .pre .1 .room, c .before .before .before .before .before .before .before .before .before .pre .1 .few)) ∙ grown-element _ _ _ (c .before .before .before .before .before .before .before .before .before .pre .2) _ (c .before .before .before .before .before .number-at .ensures) _)
+returns c = (
+  kept-element _ _ _ _ _ (c .before .before .before .before .before .before .before .before .before .pre .2) _
+      (c .before .before .before .before .before .number-at .ensures) _
+      (c .before .before .raised .ensures
+      ∙ ap (λ (h : ℕ). atLeast (c .before .before .before .before .before .before .before .before .before .args .x .height) (h + 1)) (c .before .before .before .height-at .ensures .0)),
+  element-more _ _ _ _ _
+      (omega (arith, c .before .before .before .before .before .before .before .before .before .pre .1 .room, c .before .before .before .before .before .before .before .before .before .pre .1 .few))
+      ∙ grown-element _ _ _ (c .before .before .before .before .before .before .before .before .before .pre .2) _ (c .before .before .before .before .before .number-at .ensures) _,
+)
 
 pub keep-element-spec : {M : Type 1} → statement M
 keep-element-spec =
     tie.close
     (tie.spec
     number-at-requires
-    mul-k
-    mul-elements
-    slice-write-elements
-    add-elements
-    mul-elements-2
+    (λ c. search needs)
+    (λ c. search needs)
+    (λ c. search needs)
+    (λ c. search needs)
+    (λ c. search needs)
     slice-write-elements-2
-    add-elements-2
-    mul-elements-3
+    (λ c. search needs)
+    (λ c. search needs)
     slice-write-elements-3
     height-at-requires
-    raised-requires
-    add-x
-    add-x-2
-    same-length
+    (λ c κs. search needs)
+    (λ c. search needs)
+    (λ c. search needs)
+    (λ c. search needs)
     returns)

@@ -1,4 +1,4 @@
--- `descriptor_blocks::field::raised` meets its contract. Assumes nothing.
+-- `descriptor_blocks::field::raised` meets its contract.
 use mathlib.Core.Path.{sym}
 use borrow.Author.Tests.{le-leb, lt-leb}
 use Rattle.wire.proofs.Picks.{pick-yes, pick-no}
@@ -6,12 +6,6 @@ use borrow.Author.Needs.{needs}
 use Rattle.descriptor_blocks.proofs.field.raised.Statement.{statement}
 use Rattle.descriptor_blocks.proofs.field.raised.Tie as tie
 use Rattle.protocol.specs.Numbers.{atLeast}
-
-add-if1 : tie.Need-add-if1
-add-if1 c = search needs
-
-add-result : tie.Need-add-result
-add-result c = search needs
 
 returns : tie.Need-returns
 unfolding atLeast
@@ -22,4 +16,4 @@ unfolding atLeast
 returns-2 c = sym (pick-no _ _ _ (lt-leb _ _ (c .if1 .left)))
 
 pub raised-spec : {M : Type 1} → statement M
-raised-spec = tie.close (tie.spec add-if1 add-result returns returns-2)
+raised-spec = tie.close (tie.spec (λ c. search needs) (λ c. search needs) returns returns-2)

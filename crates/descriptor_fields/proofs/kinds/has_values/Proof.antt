@@ -1,4 +1,4 @@
--- `descriptor_fields::kinds::has_values` meets its contract: each return follows the tests of the definition. Assumes nothing.
+-- `descriptor_fields::kinds::has_values` meets its contract: each return follows the tests of the definition.
 use mathlib.Core.Path.{sym, ap, _∙_}
 use borrow.Author.Tests.{ne-eqb}
 use Rattle.wire.proofs.Picks.{pick-no}

@@ -1,4 +1,4 @@
--- `descriptor_fields::kinds::is_known` meets its contract: each return follows the tests of the definition. Assumes nothing.
+-- `descriptor_fields::kinds::is_known` meets its contract: each return follows the tests of the definition.
 use mathlib.Core.Path.{sym, _∙_}
 use borrow.Author.Tests.{le-leb, lt-leb, lt-ltb, le-ltb, eq-eqb, ne-eqb}
 use Rattle.wire.proofs.Picks.{pick-yes, pick-no}
@@ -20,11 +20,19 @@ returns-3 c = sym (pick-no _ _ _ (lt-leb _ _ (c .before .before .if1 .left)) ∙
 
 returns-4 : tie.Need-returns-4
 unfolding knownTag
-returns-4 c = sym (pick-no _ _ _ (lt-leb _ _ (c .before .before .before .if1 .left)) ∙ pick-no _ _ _ (le-ltb _ _ (c .before .before .if2 .left)) ∙ pick-no _ _ _ (lt-leb _ _ (c .before .if3 .left)) ∙ pick-yes _ _ _ (eq-eqb _ _ (c .if4 .taken)))
+returns-4 c =
+    sym (pick-no _ _ _ (lt-leb _ _ (c .before .before .before .if1 .left))
+    ∙ pick-no _ _ _ (le-ltb _ _ (c .before .before .if2 .left))
+    ∙ pick-no _ _ _ (lt-leb _ _ (c .before .if3 .left))
+    ∙ pick-yes _ _ _ (eq-eqb _ _ (c .if4 .taken)))
 
 returns-5 : tie.Need-returns-5
 unfolding knownTag
-returns-5 c = sym (pick-no _ _ _ (lt-leb _ _ (c .before .before .before .if1 .left)) ∙ pick-no _ _ _ (le-ltb _ _ (c .before .before .if2 .left)) ∙ pick-no _ _ _ (lt-leb _ _ (c .before .if3 .left)) ∙ pick-no _ _ _ (ne-eqb _ _ (c .if4 .left)))
+returns-5 c =
+    sym (pick-no _ _ _ (lt-leb _ _ (c .before .before .before .if1 .left))
+    ∙ pick-no _ _ _ (le-ltb _ _ (c .before .before .if2 .left))
+    ∙ pick-no _ _ _ (lt-leb _ _ (c .before .if3 .left))
+    ∙ pick-no _ _ _ (ne-eqb _ _ (c .if4 .left)))
 
 pub is-known-spec : {M : Type 1} → statement M
 is-known-spec = tie.close (tie.spec returns returns-2 returns-3 returns-4 returns-5)

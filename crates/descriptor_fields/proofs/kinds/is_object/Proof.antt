@@ -1,4 +1,4 @@
--- `descriptor_fields::kinds::is_object` meets its contract: each return follows the tests of the definition. Assumes nothing.
+-- `descriptor_fields::kinds::is_object` meets its contract: each return follows the tests of the definition.
 use mathlib.Core.Path.{sym}
 use borrow.Author.Tests.{eq-eqb, ne-eqb}
 use Rattle.wire.proofs.Picks.{pick-yes, pick-no}

@@ -1,4 +1,4 @@
--- `descriptor_fields::kinds::layout_of` meets its contract: a tag that is matched computes; of the others no test holds. Assumes nothing.
+-- `descriptor_fields::kinds::layout_of` meets its contract: a tag that is matched computes; of the others no test holds.
 use mathlib.Core.Path.{ap, _∙_}
 use borrow.Author.Needs.{needs}
 use Rattle.descriptor_fields.specs.Layouts.{layout, padded, encoded}
@@ -37,4 +37,9 @@ layout-of-spec =
     (λ c. matched (c .before .match .keys10) (c .simple5 .ensures))
     (λ c. matched (c .before .match .keys11) (c .simple6 .ensures))
     (λ c. matched (c .before .match .keys12) (c .simple7 .ensures))
-    (λ c. let n = c .before .match .rest in c .typed6 .ensures ∙ ap encoded (unmatched _ (n .0 .0 .0 .0 .0 .0 .0 .0 .0 .0 .0 .1) (n .0 .0 .0 .0 .0 .0 .0 .0 .0 .0 .1) (n .0 .0 .0 .0 .0 .0 .0 .0 .0 .1) (n .0 .0 .0 .0 .0 .0 .0 .0 .1) (n .0 .0 .0 .0 .0 .0 .0 .1) (n .0 .0 .0 .0 .0 .0 .1) (n .0 .0 .0 .0 .0 .1) (n .0 .0 .0 .0 .1) (n .0 .0 .0 .1) (n .0 .0 .1) (n .0 .1) (n .1))))
+    (λ c. let n = c .before .match .rest in
+    c .typed6 .ensures
+    ∙ ap encoded
+    (unmatched _ (n .0 .0 .0 .0 .0 .0 .0 .0 .0 .0 .0 .1) (n .0 .0 .0 .0 .0 .0 .0 .0 .0 .0 .1) (n .0 .0 .0 .0 .0 .0 .0 .0 .0 .1)
+    (n .0 .0 .0 .0 .0 .0 .0 .0 .1) (n .0 .0 .0 .0 .0 .0 .0 .1) (n .0 .0 .0 .0 .0 .0 .1) (n .0 .0 .0 .0 .0 .1) (n .0 .0 .0 .0 .1)
+    (n .0 .0 .0 .1) (n .0 .0 .1) (n .0 .1) (n .1))))

@@ -1,4 +1,4 @@
--- `descriptor_fields::kinds::typed` meets its contract: both sides compute to the same. Assumes nothing.
+-- `descriptor_fields::kinds::typed` meets its contract: both sides compute to the same.
 use mathlib.Core.Path.{refl}
 use Rattle.descriptor_fields.specs.Layouts.{padded}
 use Rattle.descriptor_fields.proofs.kinds.typed.Statement.{statement}

@@ -1,4 +1,4 @@
--- `descriptor_fields::number::extent_of` meets its contract. Assumes nothing.
+-- `descriptor_fields::number::extent_of` meets its contract.
 use mathlib.Core.Path.{sym, _∙_}
 use borrow.Author.Tests.{le-leb, lt-leb, eq-eqb, ne-eqb}
 use Rattle.wire.proofs.Picks.{pick-yes, pick-no}
@@ -11,9 +11,6 @@ use Rattle.protocol.specs.Numbers.{pick}
 returns : tie.Need-returns
 unfolding extent
 returns c = sym (pick-yes _ _ _ (eq-eqb _ _ (c .if1 .taken)))
-
-text-extent-requires : tie.Need-text-extent-requires
-text-extent-requires c κs = search needs
 
 returns-2 : tie.Need-returns-2
 unfolding extent pick
@@ -28,13 +25,19 @@ returns-3 c =
 returns-4 : tie.Need-returns-4
 unfolding extent widthOf
 returns-4 c =
-    sym (pick-no _ _ _ (ne-eqb _ _ (c .before .before .before .if1 .left)) ∙ pick-no _ _ _ (lt-leb _ _ (c .before .before .if2 .left)) ∙ pick-no _ _ _ (lt-leb _ _ (c .before .if3 .left)) ∙ pick-yes _ _ _ (le-leb _ _ (c .if4 .taken)))
+    sym (pick-no _ _ _ (ne-eqb _ _ (c .before .before .before .if1 .left))
+    ∙ pick-no _ _ _ (lt-leb _ _ (c .before .before .if2 .left))
+    ∙ pick-no _ _ _ (lt-leb _ _ (c .before .if3 .left))
+    ∙ pick-yes _ _ _ (le-leb _ _ (c .if4 .taken)))
 
 returns-5 : tie.Need-returns-5
 unfolding extent widthOf
 returns-5 c =
-    sym (pick-no _ _ _ (ne-eqb _ _ (c .before .before .before .if1 .left)) ∙ pick-no _ _ _ (lt-leb _ _ (c .before .before .if2 .left)) ∙ pick-no _ _ _ (lt-leb _ _ (c .before .if3 .left)) ∙ pick-no _ _ _ (lt-leb _ _ (c .if4 .left)))
+    sym (pick-no _ _ _ (ne-eqb _ _ (c .before .before .before .if1 .left))
+    ∙ pick-no _ _ _ (lt-leb _ _ (c .before .before .if2 .left))
+    ∙ pick-no _ _ _ (lt-leb _ _ (c .before .if3 .left))
+    ∙ pick-no _ _ _ (lt-leb _ _ (c .if4 .left)))
 
 pub extent-of-spec : {M : Type 1} → statement M
 extent-of-spec =
-    tie.close (tie.spec returns text-extent-requires returns-2 returns-3 returns-4 returns-5)
+    tie.close (tie.spec returns (λ c κs. search needs) returns-2 returns-3 returns-4 returns-5)

@@ -1,13 +1,10 @@
--- `descriptor_fields::number::fault` meets its contract. Assumes nothing.
+-- `descriptor_fields::number::fault` meets its contract.
 use mathlib.Core.Path.{sym, _∙_}
 use Rattle.wire.proofs.Picks.{pick-yes, pick-no}
 use Rattle.descriptor_fields.specs.Fields.{numberFault}
 use borrow.Author.Needs.{needs}
 use Rattle.descriptor_fields.proofs.number.fault.Statement.{statement}
 use Rattle.descriptor_fields.proofs.number.fault.Tie as tie
-
-is-permitted-requires : tie.Need-is-permitted-requires
-is-permitted-requires c κs = search needs
 
 returns : tie.Need-returns
 unfolding numberFault
@@ -18,4 +15,4 @@ unfolding numberFault
 returns-2 c = sym (pick-no _ _ _ (sym (c .before .is-permitted .ensures) ∙ c .if1 .left))
 
 pub fault-spec : {M : Type 1} → statement M
-fault-spec = tie.close (tie.spec is-permitted-requires returns returns-2)
+fault-spec = tie.close (tie.spec (λ c κs. search needs) returns returns-2)

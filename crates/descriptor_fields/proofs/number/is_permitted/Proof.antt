@@ -1,4 +1,4 @@
--- `descriptor_fields::number::is_permitted` meets its contract. Assumes nothing.
+-- `descriptor_fields::number::is_permitted` meets its contract.
 use mathlib.Core.Path.{sym, _∙_}
 use borrow.Author.Tests.{le-leb, lt-leb, ne-eqb}
 use Rattle.wire.proofs.Picks.{pick-yes, pick-no}
@@ -11,12 +11,6 @@ use Rattle.protocol.specs.Numbers.{pick}
 returns : tie.Need-returns
 unfolding permits
 returns c = sym (pick-yes _ _ _ (le-leb _ _ (c .if1 .taken)))
-
-is-operation-requires : tie.Need-is-operation-requires
-is-operation-requires c κs = search needs
-
-is-cardinality-requires : tie.Need-is-cardinality-requires
-is-cardinality-requires c κs = search needs
 
 returns-2 : tie.Need-returns-2
 unfolding permits pick
@@ -41,15 +35,20 @@ returns-6 c = rw (c .match .keys5)
 returns-7 : tie.Need-returns-7
 unfolding permits
 returns-7 c =
-    sym (pick-no _ _ _ (lt-leb _ _ (c .before .if1 .left)) ∙ pick-no _ _ _ (ne-eqb _ _ (c .match .rest .0 .0 .0 .0 .1)) ∙ pick-no _ _ _ (ne-eqb _ _ (c .match .rest .0 .0 .0 .1)) ∙ pick-no _ _ _ (ne-eqb _ _ (c .match .rest .0 .0 .1)) ∙ pick-no _ _ _ (ne-eqb _ _ (c .match .rest .0 .1)) ∙ pick-no _ _ _ (ne-eqb _ _ (c .match .rest .1)))
+    sym (pick-no _ _ _ (lt-leb _ _ (c .before .if1 .left))
+    ∙ pick-no _ _ _ (ne-eqb _ _ (c .match .rest .0 .0 .0 .0 .1))
+    ∙ pick-no _ _ _ (ne-eqb _ _ (c .match .rest .0 .0 .0 .1))
+    ∙ pick-no _ _ _ (ne-eqb _ _ (c .match .rest .0 .0 .1))
+    ∙ pick-no _ _ _ (ne-eqb _ _ (c .match .rest .0 .1))
+    ∙ pick-no _ _ _ (ne-eqb _ _ (c .match .rest .1)))
 
 pub is-permitted-spec : {M : Type 1} → statement M
 is-permitted-spec =
     tie.close
     (tie.spec
     returns
-    is-operation-requires
-    is-cardinality-requires
+    (λ c κs. search needs)
+    (λ c κs. search needs)
     returns-2
     returns-3
     returns-4

@@ -1,4 +1,4 @@
--- `descriptor_fields::number::number_at` meets its contract. Assumes nothing.
+-- `descriptor_fields::number::number_at` meets its contract.
 use mathlib.Core.Path.{sym, ap, _∙_}
 use Prim.Native.Nat.{ℕ}
 use native.Mathlib.Omega.{arith}
@@ -14,13 +14,13 @@ use Rattle.protocol.specs.Numbers.{be}
 shared-slice-read-join : tie.Need-shared-slice-read-join
 shared-slice-read-join c = omega (arith, c .before .before .before .pre, width-one _ (c .before .if1 .taken))
 
-join-requires : tie.Need-join-requires
-join-requires c κs = search needs
-
 returns : tie.Need-returns
 unfolding numberAt
 returns c =
-    join-one _ _ (c .join .ensures) ∙ sym (be-one (c .before .before .before .before .args .d .now) (c .before .before .before .before .args .at) (omega (arith, c .before .before .before .before .pre, width-one _ (c .before .before .if1 .taken)))) ∙ ap (λ (n : ℕ). be (take n (drop (c .before .before .before .before .args .at) (c .before .before .before .before .args .d .now)))) (sym (width-one _ (c .before .before .if1 .taken)))
+    join-one _ _ (c .join .ensures)
+    ∙ sym (be-one (c .before .before .before .before .args .d .now) (c .before .before .before .before .args .at)
+    (omega (arith, c .before .before .before .before .pre, width-one _ (c .before .before .if1 .taken))))
+    ∙ ap (λ (n : ℕ). be (take n (drop (c .before .before .before .before .args .at) (c .before .before .before .before .args .d .now)))) (sym (width-one _ (c .before .before .if1 .taken)))
 
 u32-at-requires : tie.Need-u32-at-requires
 u32-at-requires c κs =
@@ -29,7 +29,9 @@ u32-at-requires c κs =
 returns-2 : tie.Need-returns-2
 unfolding numberAt
 returns-2 c =
-    c .u32-at .ensures ∙ ap (λ (n : ℕ). be (take n (drop (c .before .before .before .before .args .at) (c .before .before .before .before .args .d .now)))) (sym (width-four _ (c .before .before .if1 .left) (c .before .if2 .taken)))
+    c .u32-at .ensures
+    ∙ ap (λ (n : ℕ). be (take n (drop (c .before .before .before .before .args .at) (c .before .before .before .before .args .d .now))))
+    (sym (width-four _ (c .before .before .if1 .left) (c .before .if2 .taken)))
 
 u16-at-requires : tie.Need-u16-at-requires
 u16-at-requires c κs = omega (arith, c .before .before .before .pre, width-reference _ (c .if2 .left))
@@ -37,14 +39,15 @@ u16-at-requires c κs = omega (arith, c .before .before .before .pre, width-refe
 returns-3 : tie.Need-returns-3
 unfolding numberAt
 returns-3 c =
-    c .u16-at .ensures .0 ∙ ap (λ (n : ℕ). be (take n (drop (c .before .before .before .before .args .at) (c .before .before .before .before .args .d .now)))) (sym (width-reference _ (c .before .if2 .left)))
+    c .u16-at .ensures .0
+    ∙ ap (λ (n : ℕ). be (take n (drop (c .before .before .before .before .args .at) (c .before .before .before .before .args .d .now)))) (sym (width-reference _ (c .before .if2 .left)))
 
 pub number-at-spec : {M : Type 1} → statement M
 number-at-spec =
     tie.close
     (tie.spec
     shared-slice-read-join
-    join-requires
+    (λ c κs. search needs)
     returns
     u32-at-requires
     returns-2

@@ -1,4 +1,4 @@
--- `descriptor_fields::number::text_extent` meets its contract. Assumes nothing.
+-- `descriptor_fields::number::text_extent` meets its contract.
 use mathlib.Core.Path.{sym, _∙_, ap}
 use Prim.Native.Nat.{ℕ, _+_}
 use borrow.Author.Tests.{le-leb, lt-leb}
@@ -9,21 +9,9 @@ use Rattle.descriptor_fields.proofs.number.text_extent.Statement.{state
 use Rattle.descriptor_fields.proofs.number.text_extent.Tie as tie
 use Rattle.protocol.specs.Numbers.{pick}
 
-add-if1 : tie.Need-add-if1
-add-if1 c = search needs
-
 returns : tie.Need-returns
 unfolding extent pick
 returns c = sym (pick-no _ _ _ (lt-leb _ _ (c .if1 .taken)))
-
-u32-at-requires : tie.Need-u32-at-requires
-u32-at-requires c κs = search needs
-
-cast-result : tie.Need-cast-result
-cast-result c = search needs
-
-add-result : tie.Need-add-result
-add-result c = search needs
 
 returns-2 : tie.Need-returns-2
 unfolding extent pick
@@ -32,4 +20,4 @@ returns-2 c =
 
 pub text-extent-spec : {M : Type 1} → statement M
 text-extent-spec =
-    tie.close (tie.spec add-if1 returns u32-at-requires cast-result add-result returns-2)
+    tie.close (tie.spec (λ c. search needs) returns (λ c κs. search needs) (λ c. search needs) (λ c. search needs) returns-2)

@@ -1,4 +1,4 @@
--- `descriptor_names::id::fault` meets its contract. Assumes nothing.
+-- `descriptor_names::id::fault` meets its contract.
 use mathlib.Core.Path.{sym, _∙_}
 use Rattle.wire.proofs.Picks.{pick-yes, pick-no}
 use Rattle.descriptor_fields.specs.Fields.{idFault}

@@ -1,4 +1,4 @@
--- `descriptor_names::id::find` meets its contract. Assumes nothing.
+-- `descriptor_names::id::find` meets its contract.
 use mathlib.Core.Path.{_≡_, ap, sym, _∙_}
 use mathlib.Core.Bool.{false}
 use Prim.Native.Nat.{ℕ, _+_, _-_, _*_, _≤_, _<_}
@@ -33,15 +33,23 @@ shared-slice-read-wide c = omega (arith, c .before .before .before .before .befo
 
 add-same : tie.Need-add-same Inv-loop μ-loop
 add-same c =
-    omega (arith, c .before .before .before .before .before .before .before .pre .0 .inside _ (c .before .before .loop-test .taken), c .before .before .before .before .before .before .before .pre .0 .short, c .wide .ensures)
+    omega (
+      arith,
+      c .before .before .before .before .before .before .before .pre .0 .inside _ (c .before .before .loop-test .taken),
+      c .before .before .before .before .before .before .before .pre .0 .short,
+      c .wide .ensures,
+    )
 
 same-requires : tie.Need-same-requires Inv-loop μ-loop
-same-requires c κs =
-    (omega (arith, c .before .before .before .before .before .before .before .pre .0 .inside _ (c .before .before .loop-test .taken), c .wide .ensures), c .before .before .before .before .before .before .before .pre .1)
+same-requires c κs = (
+  omega (arith, c .before .before .before .before .before .before .before .pre .0 .inside _ (c .before .before .loop-test .taken), c .wide .ensures),
+  c .before .before .before .before .before .before .before .pre .1,
+)
 
 returns : tie.Need-returns Inv-loop μ-loop
 returns c =
-    found-at _ _ _ _ _ (c .before .before .before .before .before .loop .inv .1) _ (c .before .before .before .before .loop-test .taken) (c .before .before .wide .ensures) (sym (c .before .same .ensures) ∙ c .if1 .taken)
+    found-at _ _ _ _ _ (c .before .before .before .before .before .loop .inv .1) _ (c .before .before .before .before .loop-test .taken)
+    (c .before .before .wide .ensures) (sym (c .before .same .ensures) ∙ c .if1 .taken)
 
 add-i : tie.Need-add-i Inv-loop μ-loop
 add-i c =
@@ -51,8 +59,20 @@ loop-less : tie.Need-loop-less Inv-loop μ-loop
 loop-less c = omega arith
 
 loop-again : tie.Need-loop-again Inv-loop μ-loop
-loop-again c =
-    (omega arith, one-more (λ (j : ℕ). eqb (idAt (c .before .before .before .before .before .before .before .before .before .args .d .now) (getD (c .before .before .before .before .before .before .before .before .before .args .known .now) (3 * j) 0 + 1)) (idAt (c .before .before .before .before .before .before .before .before .before .args .s .now) (c .before .before .before .before .before .before .before .before .before .args .at)) ≡ false) _ (c .before .before .before .before .before .loop .inv .1) (ap (λ (k : ℕ). eqb (idAt (c .before .before .before .before .before .before .before .before .before .args .d .now) (k + 1)) (idAt (c .before .before .before .before .before .before .before .before .before .args .s .now) (c .before .before .before .before .before .before .before .before .before .args .at))) (sym (c .before .before .wide .ensures)) ∙ sym (c .before .same .ensures) ∙ c .if1 .left))
+loop-again c = (
+  omega arith,
+  one-more (λ (j : ℕ). eqb
+      (idAt (c .before .before .before .before .before .before .before .before .before .args .d .now)
+      (getD (c .before .before .before .before .before .before .before .before .before .args .known .now) (3 * j) 0 + 1))
+      (idAt (c .before .before .before .before .before .before .before .before .before .args .s .now) (c .before .before .before .before .before .before .before .before .before .args .at))
+      ≡ false) _
+      (c .before .before .before .before .before .loop .inv .1)
+      (ap (λ (k : ℕ). eqb (idAt (c .before .before .before .before .before .before .before .before .before .args .d .now) (k + 1))
+      (idAt (c .before .before .before .before .before .before .before .before .before .args .s .now) (c .before .before .before .before .before .before .before .before .before .args .at)))
+      (sym (c .before .before .wide .ensures))
+      ∙ sym (c .before .same .ensures)
+      ∙ c .if1 .left),
+)
 
 returns-2 : tie.Need-returns-2 Inv-loop μ-loop
 returns-2 c = found-none _ _ _ _ _ (c .before .loop .inv .1) (c .loop-test .left)

@@ -1,4 +1,4 @@
--- `descriptor_names::id::format_of` meets its contract. Assumes nothing.
+-- `descriptor_names::id::format_of` meets its contract.
 use mathlib.Core.Path.{sym, ap, _∙_}
 use Prim.Native.Nat.{ℕ}
 use native.Mathlib.Omega.{arith}
@@ -8,48 +8,56 @@ use borrow.Author.Needs.{needs}
 use Rattle.descriptor_names.proofs.id.format_of.Statement.{statement}
 use Rattle.descriptor_names.proofs.id.format_of.Tie as tie
 
-uint-at-requires : tie.Need-uint-at-requires
-uint-at-requires c κs = search needs
-
 returns : tie.Need-returns
 returns c =
-    sym (format-big _ (id-large _ _ (λ (j : ℕ). c .before .before .shared-slice-known .given j .fits) (c .before .before .before .pre) (λ e. c .if1 .taken (c .before .uint-at .ensures ∙ e)) 0x130 (omega arith)))
-
-add-uint-at : tie.Need-add-uint-at
-add-uint-at c = search needs
-
-uint-at-requires-2 : tie.Need-uint-at-requires-2
-uint-at-requires-2 c κs = search needs
+    sym (format-big _
+    (id-large _ _ (λ (j : ℕ). c .before .before .shared-slice-known .given j .fits) (c .before .before .before .pre) (λ e. c .if1 .taken (c .before .uint-at .ensures ∙ e)) 0x130 (omega arith)))
 
 returns-2 : tie.Need-returns-2
 returns-2 c =
-    sym (ap formatOf (id-small _ _ (λ (j : ℕ). c .before .before .before .before .shared-slice-known .given j .fits) (c .before .before .before .before .before .pre) (sym (c .before .before .before .uint-at .ensures) ∙ c .before .before .if1 .left) ∙ sym (c .before .uint-at2 .ensures)) ∙ format-low _ (c .if2 .taken))
-
-cast-result : tie.Need-cast-result
-cast-result c = search needs
+    sym (ap formatOf
+    (id-small _ _ (λ (j : ℕ). c .before .before .before .before .shared-slice-known .given j .fits)
+    (c .before .before .before .before .before .pre) (sym (c .before .before .before .uint-at .ensures) ∙ c .before .before .if1 .left)
+    ∙ sym (c .before .uint-at2 .ensures))
+    ∙ format-low _ (c .if2 .taken))
 
 returns-3 : tie.Need-returns-3
 returns-3 c =
-    sym (ap formatOf (id-small _ _ (λ (j : ℕ). c .before .before .before .before .before .shared-slice-known .given j .fits) (c .before .before .before .before .before .before .pre) (sym (c .before .before .before .before .uint-at .ensures) ∙ c .before .before .before .if1 .left) ∙ sym (c .before .before .uint-at2 .ensures)) ∙ format-row _ (c .before .if2 .left) (c .if3 .taken))
+    sym (ap formatOf
+    (id-small _ _ (λ (j : ℕ). c .before .before .before .before .before .shared-slice-known .given j .fits)
+    (c .before .before .before .before .before .before .pre)
+    (sym (c .before .before .before .before .uint-at .ensures) ∙ c .before .before .before .if1 .left)
+    ∙ sym (c .before .before .uint-at2 .ensures))
+    ∙ format-row _ (c .before .if2 .left) (c .if3 .taken))
 
 returns-4 : tie.Need-returns-4
 returns-4 c =
-    sym (ap formatOf (id-small _ _ (λ (j : ℕ). c .before .before .before .before .before .before .shared-slice-known .given j .fits) (c .before .before .before .before .before .before .before .pre) (sym (c .before .before .before .before .before .uint-at .ensures) ∙ c .before .before .before .before .if1 .left) ∙ sym (c .before .before .before .uint-at2 .ensures)) ∙ format-memory _ (c .before .before .if2 .left) (c .before .if3 .left) (c .if4 .taken))
+    sym (ap formatOf
+    (id-small _ _ (λ (j : ℕ). c .before .before .before .before .before .before .shared-slice-known .given j .fits)
+    (c .before .before .before .before .before .before .before .pre)
+    (sym (c .before .before .before .before .before .uint-at .ensures) ∙ c .before .before .before .before .if1 .left)
+    ∙ sym (c .before .before .before .uint-at2 .ensures))
+    ∙ format-memory _ (c .before .before .if2 .left) (c .before .if3 .left) (c .if4 .taken))
 
 returns-5 : tie.Need-returns-5
 returns-5 c =
-    sym (ap formatOf (id-small _ _ (λ (j : ℕ). c .before .before .before .before .before .before .shared-slice-known .given j .fits) (c .before .before .before .before .before .before .before .pre) (sym (c .before .before .before .before .before .uint-at .ensures) ∙ c .before .before .before .before .if1 .left) ∙ sym (c .before .before .before .uint-at2 .ensures)) ∙ format-none _ (c .before .before .if2 .left) (c .before .if3 .left) (c .if4 .left))
+    sym (ap formatOf
+    (id-small _ _ (λ (j : ℕ). c .before .before .before .before .before .before .shared-slice-known .given j .fits)
+    (c .before .before .before .before .before .before .before .pre)
+    (sym (c .before .before .before .before .before .uint-at .ensures) ∙ c .before .before .before .before .if1 .left)
+    ∙ sym (c .before .before .before .uint-at2 .ensures))
+    ∙ format-none _ (c .before .before .if2 .left) (c .before .if3 .left) (c .if4 .left))
 
 pub format-of-spec : {M : Type 1} → statement M
 format-of-spec =
     tie.close
     (tie.spec
-    uint-at-requires
+    (λ c κs. search needs)
     returns
-    add-uint-at
-    uint-at-requires-2
+    (λ c. search needs)
+    (λ c κs. search needs)
     returns-2
-    cast-result
+    (λ c. search needs)
     returns-3
     returns-4
     returns-5)

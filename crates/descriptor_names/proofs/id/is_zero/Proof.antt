@@ -1,4 +1,4 @@
--- `descriptor_names::id::is_zero` meets its contract. Assumes nothing.
+-- `descriptor_names::id::is_zero` meets its contract.
 use mathlib.Core.Path.{sym, ap, _∙_}
 use Prim.Native.Nat.{ℕ}
 use lib.Dec.{eqb}
@@ -7,18 +7,12 @@ use borrow.Author.Needs.{needs}
 use Rattle.descriptor_names.proofs.id.is_zero.Statement.{statement}
 use Rattle.descriptor_names.proofs.id.is_zero.Tie as tie
 
-uint-at-requires : tie.Need-uint-at-requires
-uint-at-requires c κs = search needs
-
-add-uint-at : tie.Need-add-uint-at
-add-uint-at c = search needs
-
-uint-at-requires-2 : tie.Need-uint-at-requires-2
-uint-at-requires-2 c κs = search needs
-
 returns : tie.Need-returns
 returns c =
-    ap (λ (n : ℕ). eqb n 0) (c .uint-at2 .ensures ∙ sym (id-small _ _ (λ (j : ℕ). c .before .before .before .shared-slice-known .given j .fits) (c .before .before .before .before .pre) (sym (c .before .before .uint-at .ensures) ∙ c .before .if1 .taken)))
+    ap (λ (n : ℕ). eqb n 0)
+    (c .uint-at2 .ensures
+    ∙ sym (id-small _ _ (λ (j : ℕ). c .before .before .before .shared-slice-known .given j .fits)
+    (c .before .before .before .before .pre) (sym (c .before .before .uint-at .ensures) ∙ c .before .if1 .taken)))
 
 returns-2 : tie.Need-returns-2
 returns-2 c =
@@ -26,4 +20,4 @@ returns-2 c =
 
 pub is-zero-spec : {M : Type 1} → statement M
 is-zero-spec =
-    tie.close (tie.spec uint-at-requires add-uint-at uint-at-requires-2 returns returns-2)
+    tie.close (tie.spec (λ c κs. search needs) (λ c. search needs) (λ c κs. search needs) returns returns-2)

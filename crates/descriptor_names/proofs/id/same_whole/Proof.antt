@@ -1,4 +1,4 @@
--- `descriptor_names::id::same_whole` meets its contract. Assumes nothing.
+-- `descriptor_names::id::same_whole` meets its contract.
 use mathlib.Core.Path.{sym, _∙_}
 use Prim.Native.Nat.{ℕ}
 use borrow.Author.Tests.{ne-eqb}
@@ -7,41 +7,34 @@ use borrow.Author.Needs.{needs}
 use Rattle.descriptor_names.proofs.id.same_whole.Statement.{statement}
 use Rattle.descriptor_names.proofs.id.same_whole.Tie as tie
 
-add-uint-at : tie.Need-add-uint-at
-add-uint-at c = search needs
-
-uint-at-requires : tie.Need-uint-at-requires
-uint-at-requires c κs = search needs
-
-add-uint-at-2 : tie.Need-add-uint-at-2
-add-uint-at-2 c = search needs
-
-uint-at-requires-2 : tie.Need-uint-at-requires-2
-uint-at-requires-2 c κs = search needs
-
-uint-at-requires-3 : tie.Need-uint-at-requires-3
-uint-at-requires-3 c κs = search needs
-
-uint-at-requires-4 : tie.Need-uint-at-requires-4
-uint-at-requires-4 c κs = search needs
-
 returns : tie.Need-returns
 returns c =
-    ids-eqb _ _ _ _ (λ (j : ℕ). c .before .before .before .before .before .before .shared-slice-known .given j .fits) (λ (j : ℕ). c .before .before .before .before .before .shared-slice-known2 .given j .fits) (c .before .before .before .before .before .before .before .pre .0) (c .before .before .before .before .before .before .before .pre .1) (sym (c .before .before .before .before .uint-at .ensures) ∙ c .before .before .if1 .taken ∙ c .before .before .before .uint-at2 .ensures) _ _ (c .before .uint-at3 .ensures) (c .uint-at4 .ensures)
+    ids-eqb _ _ _ _ (λ (j : ℕ). c .before .before .before .before .before .before .shared-slice-known .given j .fits)
+    (λ (j : ℕ). c .before .before .before .before .before .shared-slice-known2 .given j .fits)
+    (c .before .before .before .before .before .before .before .pre .0)
+    (c .before .before .before .before .before .before .before .pre .1)
+    (sym (c .before .before .before .before .uint-at .ensures) ∙ c .before .before .if1 .taken ∙ c .before .before .before .uint-at2 .ensures) _ _
+    (c .before .uint-at3 .ensures) (c .uint-at4 .ensures)
 
 returns-2 : tie.Need-returns-2
 returns-2 c =
-    sym (ne-eqb _ _ (λ e. c .if1 .left (c .before .before .uint-at .ensures ∙ ids-low _ _ _ _ (λ (j : ℕ). c .before .before .before .before .shared-slice-known .given j .fits) (λ (j : ℕ). c .before .before .before .shared-slice-known2 .given j .fits) (c .before .before .before .before .before .pre .0) (c .before .before .before .before .before .pre .1) e ∙ sym (c .before .uint-at2 .ensures))))
+    sym (ne-eqb _ _
+    (λ e. c .if1 .left
+    (c .before .before .uint-at .ensures
+    ∙ ids-low _ _ _ _ (λ (j : ℕ). c .before .before .before .before .shared-slice-known .given j .fits)
+    (λ (j : ℕ). c .before .before .before .shared-slice-known2 .given j .fits) (c .before .before .before .before .before .pre .0)
+    (c .before .before .before .before .before .pre .1) e
+    ∙ sym (c .before .uint-at2 .ensures))))
 
 pub same-whole-spec : {M : Type 1} → statement M
 same-whole-spec =
     tie.close
     (tie.spec
-    add-uint-at
-    uint-at-requires
-    add-uint-at-2
-    uint-at-requires-2
-    uint-at-requires-3
-    uint-at-requires-4
+    (λ c. search needs)
+    (λ c κs. search needs)
+    (λ c. search needs)
+    (λ c κs. search needs)
+    (λ c κs. search needs)
+    (λ c κs. search needs)
     returns
     returns-2)

@@ -1,4 +1,4 @@
--- `descriptor_names::text::is_named` meets its contract. Assumes nothing.
+-- `descriptor_names::text::is_named` meets its contract.
 use mathlib.Core.Path.{_≡_, sym, ap, ap₂, _∙_}
 use mathlib.Core.Bool.{false}
 use Prim.Native.Nat.{ℕ, _-_, _*_, _<_, _≤_}
@@ -25,38 +25,35 @@ content-requires c κs =
 loop-holds : tie.Need-loop-holds Inv-loop μ-loop
 loop-holds c = (omega arith, λ j h. absurd (omega arith))
 
-mul-wide : tie.Need-mul-wide Inv-loop μ-loop
-mul-wide c = search needs
-
-mul-wide-2 : tie.Need-mul-wide-2 Inv-loop μ-loop
-mul-wide-2 c = search needs
-
-shared-slice-read-wide : tie.Need-shared-slice-read-wide Inv-loop μ-loop
-shared-slice-read-wide c = search needs
-
-wide-requires : tie.Need-wide-requires Inv-loop μ-loop
-wide-requires c κs = search needs
-
 content-requires-2 : tie.Need-content-requires-2 Inv-loop μ-loop
 content-requires-2 c κs =
     (c .before .before .before .before .before .before .before .pre .0, omega (arith, c .wide .ensures, c .before .shared-slice-known3 .given (3 * c .before .before .before .loop .i) .fits))
 
-same-name-requires : tie.Need-same-name-requires Inv-loop μ-loop
-same-name-requires c κs = search needs
-
 returns : tie.Need-returns Inv-loop μ-loop
 returns c =
-    named-hit _ _ _ _ _ _ (c .before .before .before .before .before .loop-test .taken) (c .before .before .before .wide .ensures) (ap₂ sameBytes (sym (c .before .before .content2 .ensures)) (sym (c .before .before .before .before .before .before .before .content .ensures)) ∙ sym (c .before .same-name .ensures) ∙ c .if1 .taken)
-
-add-i : tie.Need-add-i Inv-loop μ-loop
-add-i c = search needs
-
-loop-less : tie.Need-loop-less Inv-loop μ-loop
-loop-less c = search needs
+    named-hit _ _ _ _ _ _ (c .before .before .before .before .before .loop-test .taken) (c .before .before .before .wide .ensures)
+    (ap₂ sameBytes (sym (c .before .before .content2 .ensures)) (sym (c .before .before .before .before .before .before .before .content .ensures))
+    ∙ sym (c .before .same-name .ensures)
+    ∙ c .if1 .taken)
 
 loop-again : tie.Need-loop-again Inv-loop μ-loop
-loop-again c =
-    (omega arith, one-more (λ (j : ℕ). sameBytes (textAt (c .before .before .before .before .before .before .before .before .before .before .args .d .now) (getD (c .before .before .before .before .before .before .before .before .before .before .args .elements .now) (3 * j) 0)) (textAt (c .before .before .before .before .before .before .before .before .before .before .args .d .now) (c .before .before .before .before .before .before .before .before .before .before .args .at)) ≡ false) _ (c .before .before .before .before .before .before .loop .inv .1) (ap (λ (k : ℕ). sameBytes (textAt (c .before .before .before .before .before .before .before .before .before .before .args .d .now) k) (textAt (c .before .before .before .before .before .before .before .before .before .before .args .d .now) (c .before .before .before .before .before .before .before .before .before .before .args .at))) (sym (c .before .before .before .wide .ensures)) ∙ ap₂ sameBytes (sym (c .before .before .content2 .ensures)) (sym (c .before .before .before .before .before .before .before .content .ensures)) ∙ sym (c .before .same-name .ensures) ∙ c .if1 .left))
+loop-again c = (
+  omega arith,
+  one-more (λ (j : ℕ). sameBytes
+      (textAt (c .before .before .before .before .before .before .before .before .before .before .args .d .now)
+      (getD (c .before .before .before .before .before .before .before .before .before .before .args .elements .now) (3 * j) 0))
+      (textAt (c .before .before .before .before .before .before .before .before .before .before .args .d .now)
+      (c .before .before .before .before .before .before .before .before .before .before .args .at))
+      ≡ false) _
+      (c .before .before .before .before .before .before .loop .inv .1)
+      (ap (λ (k : ℕ). sameBytes (textAt (c .before .before .before .before .before .before .before .before .before .before .args .d .now) k)
+      (textAt (c .before .before .before .before .before .before .before .before .before .before .args .d .now)
+      (c .before .before .before .before .before .before .before .before .before .before .args .at)))
+      (sym (c .before .before .before .wide .ensures))
+      ∙ ap₂ sameBytes (sym (c .before .before .content2 .ensures)) (sym (c .before .before .before .before .before .before .before .content .ensures))
+      ∙ sym (c .before .same-name .ensures)
+      ∙ c .if1 .left),
+)
 
 returns-2 : tie.Need-returns-2 Inv-loop μ-loop
 returns-2 c = named-none _ _ _ _ _ (c .loop-test .left) (c .before .loop .inv .1)
@@ -69,14 +66,14 @@ is-named-spec =
     μ-loop
     content-requires
     loop-holds
-    mul-wide
-    mul-wide-2
-    shared-slice-read-wide
-    wide-requires
+    (λ c. search needs)
+    (λ c. search needs)
+    (λ c. search needs)
+    (λ c κs. search needs)
     content-requires-2
-    same-name-requires
+    (λ c κs. search needs)
     returns
-    add-i
-    loop-less
+    (λ c. search needs)
+    (λ c. search needs)
     loop-again
     returns-2)

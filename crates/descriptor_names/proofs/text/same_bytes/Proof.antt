@@ -23,21 +23,13 @@ loop-holds : tie.Need-loop-holds Inv-loop μ-loop
 unfolding pick
 loop-holds c = (omega arith, c .if1 .left, refl)
 
-shared-slice-read-same : tie.Need-shared-slice-read-same Inv-loop μ-loop
-shared-slice-read-same c = search needs
-
-shared-slice-read-same-2 : tie.Need-shared-slice-read-same-2 Inv-loop μ-loop
-shared-slice-read-same-2 c = search needs
-
-add-i : tie.Need-add-i Inv-loop μ-loop
-add-i c = search needs
-
-loop-less : tie.Need-loop-less Inv-loop μ-loop
-loop-less c = search needs
-
 loop-again : tie.Need-loop-again Inv-loop μ-loop
-loop-again c =
-    (omega arith, c .before .before .before .loop .inv .1, c .before .before .before .loop .inv .2 ∙ same-next _ _ _ (c .before .before .loop-test .taken) (omega (arith, c .before .before .before .loop .inv .1, c .before .before .loop-test .taken)) (c .before .before .before .loop .same))
+loop-again c = (
+  omega arith,
+  c .before .before .before .loop .inv .1,
+  c .before .before .before .loop .inv .2
+      ∙ same-next _ _ _ (c .before .before .loop-test .taken) (omega (arith, c .before .before .before .loop .inv .1, c .before .before .loop-test .taken)) (c .before .before .before .loop .same),
+)
 
 returns-2 : tie.Need-returns-2 Inv-loop μ-loop
 returns-2 c =
@@ -51,9 +43,9 @@ same-bytes-spec =
     μ-loop
     returns
     loop-holds
-    shared-slice-read-same
-    shared-slice-read-same-2
-    add-i
-    loop-less
+    (λ c. search needs)
+    (λ c. search needs)
+    (λ c. search needs)
+    (λ c. search needs)
     loop-again
     returns-2)

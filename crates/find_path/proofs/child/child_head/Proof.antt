@@ -1,4 +1,4 @@
--- `find_path::child::child_head` meets its contract. Assumes nothing.
+-- `find_path::child::child_head` meets its contract.
 use mathlib.Core.Path.{sym, _∙_}
 use Rattle.value_parts.proofs.Members.{inner-kind}
 use Rattle.find_path.proofs.Seeks.{child-leaf, child-wrong, child-seek, child-opened, object-few}
@@ -9,9 +9,6 @@ use Rattle.find_path.proofs.child.child_head.Tie as tie
 kind-at-requires : tie.Need-kind-at-requires
 kind-at-requires c κs = c .before .before .pre .0
 
-is-leaf-requires : tie.Need-is-leaf-requires
-is-leaf-requires c κs = search needs
-
 returns : tie.Need-returns
 returns c =
     child-leaf _ _ _ _ _ (c .before .before .kind-at .ensures) (sym (c .before .is-leaf .ensures) ∙ c .if1 .taken)
@@ -20,20 +17,26 @@ open-node-requires : tie.Need-open-node-requires
 open-node-requires c κs =
     (c .before .before .before .before .before .pre .0, inner-kind _ _ _ (c .before .before .kind-at .ensures) (sym (c .before .is-leaf .ensures) ∙ c .if1 .left))
 
-enum-known-opening : tie.Need-enum-known-opening
-enum-known-opening c = search needs
-
-enum-told : tie.Need-enum-told
-enum-told c = search needs
-
 returns-2 : tie.Need-returns-2
 returns-2 c = child-wrong _ _ _ _ (c .before .before .open-node .ensures) _ _ (c .enum-told .given .1)
 
 seek-head-requires : tie.Need-seek-head-requires
 seek-head-requires c κs =
-    let k = inner-kind _ _ _ (c .before .before .before .before .before .before .kind-at .ensures) (sym (c .before .before .before .before .before .is-leaf .ensures) ∙ c .before .before .before .before .if1 .left) in
-    let o = child-opened _ _ _ _ (c .before .before .before .open-node .ensures) _ _ _ (c .before .opening .given .1) (c .before .before .before .before .before .before .before .before .before .pre .0) _ k in
-    (c .before .before .before .before .before .before .before .before .before .pre .0, k, object-few _ _ _ _ (c .before .before .before .open-node .ensures) _ _ _ (c .before .opening .given .1) _ k, o .0, c .before .before .before .before .before .before .before .before .before .pre .1, o .1)
+    let k =
+    inner-kind _ _ _ (c .before .before .before .before .before .before .kind-at .ensures)
+    (sym (c .before .before .before .before .before .is-leaf .ensures) ∙ c .before .before .before .before .if1 .left)
+    in
+    let o =
+    child-opened _ _ _ _ (c .before .before .before .open-node .ensures) _ _ _ (c .before .opening .given .1)
+    (c .before .before .before .before .before .before .before .before .before .pre .0) _ k
+    in (
+      c .before .before .before .before .before .before .before .before .before .pre .0,
+      k,
+      object-few _ _ _ _ (c .before .before .before .open-node .ensures) _ _ _ (c .before .opening .given .1) _ k,
+      o .0,
+      c .before .before .before .before .before .before .before .before .before .pre .1,
+      o .1,
+    )
 
 returns-3 : tie.Need-returns-3
 returns-3 c =
@@ -44,11 +47,11 @@ child-head-spec =
     tie.close
     (tie.spec
     kind-at-requires
-    is-leaf-requires
+    (λ c κs. search needs)
     returns
     open-node-requires
-    enum-known-opening
-    enum-told
+    (λ c. search needs)
+    (λ c. search needs)
     returns-2
     seek-head-requires
     returns-3)

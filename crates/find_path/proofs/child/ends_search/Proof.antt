@@ -1,15 +1,9 @@
--- `find_path::child::ends_search` meets its contract. Assumes nothing.
+-- `find_path::child::ends_search` meets its contract.
 use Rattle.find_path.specs.Descent.{ends}
 use Rattle.find_path.proofs.Seeks.{ends-fault}
 use borrow.Author.Needs.{needs}
 use Rattle.find_path.proofs.child.ends_search.Statement.{statement}
 use Rattle.find_path.proofs.child.ends_search.Tie as tie
-
-enum-known-head : tie.Need-enum-known-head
-enum-known-head c = search needs
-
-enum-known-head-2 : tie.Need-enum-known-head-2
-enum-known-head-2 c = search needs
 
 returns : tie.Need-returns
 returns c = ends-fault _ _ (c .before .match .keys2) (c .match2 .keys2)
@@ -24,4 +18,4 @@ returns-3 c = rw (c .before .head .given .1)
 
 pub ends-search-spec : {M : Type 1} → statement M
 ends-search-spec =
-    tie.close (tie.spec enum-known-head enum-known-head-2 returns returns-2 returns-3)
+    tie.close (tie.spec (λ c. search needs) (λ c. search needs) returns returns-2 returns-3)

@@ -1,4 +1,4 @@
--- `find_path::child::head_at` meets its contract: a sparse object's element by its index, another by its place. Assumes nothing.
+-- `find_path::child::head_at` meets its contract: a sparse object's element by its index, another by its place.
 use mathlib.Core.Path.{refl, sym, _∙_}
 use Rattle.value_parts.proofs.Members.{known-in}
 use Rattle.find_path.proofs.Seeks.{head-row, head-sparse-bad, head-sparse}
@@ -10,26 +10,32 @@ index-at-requires : tie.Need-index-at-requires
 index-at-requires c κs =
     (c .before .before .before .pre .0, sym (c .before .before .before .pre .1 .is) ∙ c .if1 .taken, c .before .before .before .pre .3)
 
-enum-known-index : tie.Need-enum-known-index
-enum-known-index c = search needs
-
-enum-told : tie.Need-enum-told
-enum-told c = search needs
-
-index-fault-requires : tie.Need-index-fault-requires
-index-fault-requires c κs = search needs
-
 returns : tie.Need-returns
 returns c =
-    head-sparse-bad _ _ (c .before .before .before .before .before .before .before .pre .0) _ (c .before .before .before .before .before .before .before .pre .1) _ _ _ (c .before .before .before .before .if1 .taken) _ refl _ (c .before .before .before .index-at .ensures) _ _ (c .before .enum-told .given .1) (c .index-fault .ensures)
+    head-sparse-bad _ _ (c .before .before .before .before .before .before .before .pre .0) _
+    (c .before .before .before .before .before .before .before .pre .1) _ _ _ (c .before .before .before .before .if1 .taken) _ refl _
+    (c .before .before .before .index-at .ensures) _ _ (c .before .enum-told .given .1) (c .index-fault .ensures)
 
 sparse-head-requires : tie.Need-sparse-head-requires
 sparse-head-requires c κs =
-    let i = known-in _ _ (c .before .before .before .before .before .before .before .pre .0) (sym (c .before .before .before .before .before .before .before .pre .1 .is) ∙ c .before .before .before .before .if1 .taken) _ _ _ _ refl _ (c .before .before .before .index-at .ensures) (c .before .index .given .1) (c .before .before .before .before .before .before .before .pre .3) in (c .before .before .before .before .before .before .before .pre .0, sym (c .before .before .before .before .before .before .before .pre .1 .is) ∙ c .before .before .before .before .if1 .taken, i .0, i .2)
+    let i =
+    known-in _ _ (c .before .before .before .before .before .before .before .pre .0)
+    (sym (c .before .before .before .before .before .before .before .pre .1 .is) ∙ c .before .before .before .before .if1 .taken) _ _ _ _
+    refl _ (c .before .before .before .index-at .ensures) (c .before .index .given .1)
+    (c .before .before .before .before .before .before .before .pre .3)
+    in (
+      c .before .before .before .before .before .before .before .pre .0,
+      sym (c .before .before .before .before .before .before .before .pre .1 .is) ∙ c .before .before .before .before .if1 .taken,
+      i .0,
+      i .2,
+    )
 
 returns-2 : tie.Need-returns-2
 returns-2 c =
-    head-sparse _ _ (c .before .before .before .before .before .before .before .before .pre .0) _ (c .before .before .before .before .before .before .before .before .pre .1) _ _ _ (c .before .before .before .before .before .if1 .taken) _ refl _ (c .before .before .before .before .index-at .ensures) _ (c .before .before .index .given .1) _ (c .sparse-head .ensures)
+    head-sparse _ _ (c .before .before .before .before .before .before .before .before .pre .0) _
+    (c .before .before .before .before .before .before .before .before .pre .1) _ _ _
+    (c .before .before .before .before .before .if1 .taken) _ refl _ (c .before .before .before .before .index-at .ensures) _
+    (c .before .before .index .given .1) _ (c .sparse-head .ensures)
 
 row-head-requires : tie.Need-row-head-requires
 row-head-requires c κs =
@@ -44,9 +50,9 @@ head-at-spec =
     tie.close
     (tie.spec
     index-at-requires
-    enum-known-index
-    enum-told
-    index-fault-requires
+    (λ c. search needs)
+    (λ c. search needs)
+    (λ c κs. search needs)
     returns
     sparse-head-requires
     returns-2

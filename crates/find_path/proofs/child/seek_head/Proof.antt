@@ -1,4 +1,4 @@
--- `find_path::child::seek_head` meets its contract. Assumes nothing.
+-- `find_path::child::seek_head` meets its contract.
 use mathlib.Core.Path.{_≡_, refl, sym, _∙_}
 use native.Mathlib.Omega.{arith}
 use Prim.Native.Nat.{_+_, _≤_}
@@ -21,15 +21,17 @@ loop-holds : tie.Need-loop-holds Inv-loop μ-loop
 loop-holds c = (c .before .before .pre .5, refl, refl)
 
 head-at-requires : tie.Need-head-at-requires Inv-loop μ-loop
-head-at-requires c κs =
-    (c .before .before .before .before .pre .0, c .before .before .before .before .pre .1, (λ e. let f = c .before .before .before .before .pre .2 e in omega (arith, f, c .before .loop .inv .1)), c .before .loop .inv .0)
-
-ends-search-requires : tie.Need-ends-search-requires Inv-loop μ-loop
-ends-search-requires c κs = search needs
+head-at-requires c κs = (
+  c .before .before .before .before .pre .0,
+  c .before .before .before .before .pre .1,
+  (λ e. let f = c .before .before .before .before .pre .2 e in omega (arith, f, c .before .loop .inv .1)),
+  c .before .loop .inv .0,
+)
 
 returns : tie.Need-returns Inv-loop μ-loop
 returns c =
-    seek-here _ _ _ _ _ _ (c .before .before .before .loop-test .taken) _ (c .before .before .head-at .ensures) (sym (c .before .ends-search .ensures) ∙ c .if1 .taken) ∙ sym (c .before .before .before .before .loop .inv .2)
+    seek-here _ _ _ _ _ _ (c .before .before .before .loop-test .taken) _ (c .before .before .head-at .ensures) (sym (c .before .ends-search .ensures) ∙ c .if1 .taken)
+    ∙ sym (c .before .before .before .before .loop .inv .2)
 
 end-of-requires : tie.Need-end-of-requires Inv-loop μ-loop
 end-of-requires c κs =
@@ -39,15 +41,15 @@ add-i : tie.Need-add-i Inv-loop μ-loop
 add-i c =
     omega (arith, c .before .before .before .before .before .loop .inv .1, c .before .before .before .before .before .before .before .before .pre .3)
 
-sub-left : tie.Need-sub-left Inv-loop μ-loop
-sub-left c = search needs
-
-loop-less : tie.Need-loop-less Inv-loop μ-loop
-loop-less c = search needs
-
 loop-again : tie.Need-loop-again Inv-loop μ-loop
-loop-again c =
-    (omega (arith, next-end _ _ _ _ _ (c .before .before .before .head-at .ensures) (c .before .before .before .before .before .loop .inv .0), c .end-of .ensures), omega (arith, c .before .before .before .before .before .loop .inv .1), c .before .before .before .before .before .loop .inv .2 ∙ seek-next _ _ _ _ _ _ (c .before .before .before .before .loop-test .taken) _ (c .before .before .before .head-at .ensures) (sym (c .before .before .ends-search .ensures) ∙ c .before .if1 .left) ∙ rw (c .end-of .ensures))
+loop-again c = (
+  omega (arith, next-end _ _ _ _ _ (c .before .before .before .head-at .ensures) (c .before .before .before .before .before .loop .inv .0), c .end-of .ensures),
+  omega (arith, c .before .before .before .before .before .loop .inv .1),
+  c .before .before .before .before .before .loop .inv .2
+      ∙ seek-next _ _ _ _ _ _ (c .before .before .before .before .loop-test .taken) _ (c .before .before .before .head-at .ensures)
+      (sym (c .before .before .ends-search .ensures) ∙ c .before .if1 .left)
+      ∙ rw (c .end-of .ensures),
+)
 
 returns-2 : tie.Need-returns-2 Inv-loop μ-loop
 returns-2 c = seek-none _ _ _ _ _ _ (c .loop-test .left) ∙ sym (c .before .loop .inv .2)
@@ -60,11 +62,11 @@ seek-head-spec =
     μ-loop
     loop-holds
     head-at-requires
-    ends-search-requires
+    (λ c κs. search needs)
     returns
     end-of-requires
     add-i
-    sub-left
-    loop-less
+    (λ c. search needs)
+    (λ c. search needs)
     loop-again
     returns-2)

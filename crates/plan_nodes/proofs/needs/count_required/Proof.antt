@@ -1,5 +1,5 @@
 -- `plan_nodes::needs::count_required` meets its contract. The loop's invariant: what was found is how many of the elements passed are required. The
--- measure is what is left of them. Assumes nothing.
+-- measure is what is left of them.
 use mathlib.Core.Logic.{⊎-elim}
 use mathlib.Core.Path.{_≡_, sym, _∙_}
 use Prim.Native.Nat.{_-_, _≤_}
@@ -36,26 +36,35 @@ mul-required-2 c = omega (arith, c .before .before .before .pre .1, c .before .b
 shared-slice-read-required : tie.Need-shared-slice-read-required Inv-loop μ-loop
 shared-slice-read-required c = omega (arith, c .before .before .before .before .pre .1)
 
-required-requires : tie.Need-required-requires Inv-loop μ-loop
-required-requires c κs = search needs
-
 add-found : tie.Need-add-found Inv-loop μ-loop
 add-found c =
-    omega (arith, c .before .before .before .before .loop .inv .1, needed-most (cardsAt (c .before .before .before .before .before .before .args .plan .now) (c .before .before .before .before .before .before .args .at)) (c .before .before .before .before .loop .i))
-
-add-i : tie.Need-add-i Inv-loop μ-loop
-add-i c = search needs
-
-loop-less : tie.Need-loop-less Inv-loop μ-loop
-loop-less c = search needs
+    omega (
+      arith,
+      c .before .before .before .before .loop .inv .1,
+      needed-most (cardsAt (c .before .before .before .before .before .before .args .plan .now) (c .before .before .before .before .before .before .args .at))
+          (c .before .before .before .before .loop .i),
+    )
 
 loop-again : tie.Need-loop-again Inv-loop μ-loop
-loop-again c =
-    (omega arith, ⊎-elim (λ h. h .1 ∙ count-yes (c .before .before .before .before .before .before .args .plan .now) (c .before .before .before .before .before .before .args .at) (c .before .before .before .before .loop .i) (c .before .before .before .before .loop .found) (omega (arith, c .before .before .before .before .before .before .pre .0)) (c .before .before .before .before .loop .inv .1) (sym (c .before .required .ensures) ∙ h .0 .taken)) (λ h. h .1 ∙ count-no (c .before .before .before .before .before .before .args .plan .now) (c .before .before .before .before .before .before .args .at) (c .before .before .before .before .loop .i) (c .before .before .before .before .loop .found) (omega (arith, c .before .before .before .before .before .before .pre .0)) (c .before .before .before .before .loop .inv .1) (sym (c .before .required .ensures) ∙ h .0 .left)) (c .if1 .came))
+loop-again c = (
+  omega arith,
+  ⊎-elim (λ h. h .1
+      ∙ count-yes (c .before .before .before .before .before .before .args .plan .now)
+      (c .before .before .before .before .before .before .args .at) (c .before .before .before .before .loop .i)
+      (c .before .before .before .before .loop .found) (omega (arith, c .before .before .before .before .before .before .pre .0))
+      (c .before .before .before .before .loop .inv .1) (sym (c .before .required .ensures) ∙ h .0 .taken))
+      (λ h. h .1
+      ∙ count-no (c .before .before .before .before .before .before .args .plan .now)
+      (c .before .before .before .before .before .before .args .at) (c .before .before .before .before .loop .i)
+      (c .before .before .before .before .loop .found) (omega (arith, c .before .before .before .before .before .before .pre .0))
+      (c .before .before .before .before .loop .inv .1) (sym (c .before .required .ensures) ∙ h .0 .left))
+      (c .if1 .came),
+)
 
 returns : tie.Need-returns Inv-loop μ-loop
 returns c =
-    count-end (c .before .before .before .args .plan .now) (c .before .before .before .args .at) (c .before .before .before .args .n) (c .before .loop .i) (c .before .loop .found) (c .before .before .before .pre .0) (omega arith) (c .before .loop .inv .1)
+    count-end (c .before .before .before .args .plan .now) (c .before .before .before .args .at) (c .before .before .before .args .n)
+    (c .before .loop .i) (c .before .loop .found) (c .before .before .before .pre .0) (omega arith) (c .before .loop .inv .1)
 
 pub count-required-spec : {M : Type 1} → statement M
 count-required-spec =
@@ -69,9 +78,9 @@ count-required-spec =
     add-required-2
     mul-required-2
     shared-slice-read-required
-    required-requires
+    (λ c κs. search needs)
     add-found
-    add-i
-    loop-less
+    (λ c. search needs)
+    (λ c. search needs)
     loop-again
     returns)

@@ -1,5 +1,5 @@
--- `plan_nodes::needs::fill` meets its contract. The loop's invariant: what is left of the plan leads to the same table. The measure is what
--- is left of the plan. Assumes nothing.
+-- `plan_nodes::needs::fill` meets its contract. The loop's invariant: what is left
+-- of the plan leads to the same table. The measure is what is left of the plan.
 use mathlib.Core.Logic.{⊎-elim}
 use Prim.Native.Nat.{_-_, _+_, _≤_}
 use native.Mathlib.Omega.{arith}
@@ -21,27 +21,20 @@ abbrev μ-loop : tie.MeasureT-loop
 loop-holds : tie.Need-loop-holds Inv-loop μ-loop
 loop-holds c = filling-start _ _
 
-size-at-requires : tie.Need-size-at-requires Inv-loop μ-loop
-size-at-requires c κs = search needs
-
-sub-if1 : tie.Need-sub-if1 Inv-loop μ-loop
-sub-if1 c = search needs
-
-same-length : tie.Need-same-length Inv-loop μ-loop
-same-length c = search needs
-
 returns : tie.Need-returns Inv-loop μ-loop
 returns c = filling-end _ _ _ _ _ (c .before .before .before .loop .inv) (omega (arith, c .before .size-at .ensures, c .if1 .taken))
 
-mul-if2 : tie.Need-mul-if2 Inv-loop μ-loop
-mul-if2 c = search needs
-
-shared-slice-read-if2 : tie.Need-shared-slice-read-if2 Inv-loop μ-loop
-shared-slice-read-if2 c = search needs
-
 put-pair-requires : tie.Need-put-pair-requires Inv-loop μ-loop
-put-pair-requires c κs =
-    (omega (arith, c .before .before .before .before .before .before .loop .inv .few, c .before .before .before .before .before .before .loop .inv .same), sparse-fits (c .before .before .before .before .before .before .loop .at) (getD (c .before .before .before .before .before .before .before .before .before .args .plan .now) (c .before .before .before .before .before .before .loop .at) 0) (getD (c .before .before .before .before .before .before .before .before .before .args .plan .now) (c .before .before .before .before .before .before .loop .at + 1) 0) (length (c .before .before .before .before .before .before .before .before .before .args .plan .now)) (omega (arith, c .before .before .before .before .size-at .ensures, c .before .before .before .if1 .left, c .before .before .before .before .before .loop-test .taken)) (c .before .if2 .taken), c .before .before .before .before .before .before .before .before .before .pre)
+put-pair-requires c κs = (
+  omega (arith, c .before .before .before .before .before .before .loop .inv .few, c .before .before .before .before .before .before .loop .inv .same),
+  sparse-fits (c .before .before .before .before .before .before .loop .at)
+      (getD (c .before .before .before .before .before .before .before .before .before .args .plan .now) (c .before .before .before .before .before .before .loop .at) 0)
+      (getD (c .before .before .before .before .before .before .before .before .before .args .plan .now) (c .before .before .before .before .before .before .loop .at + 1) 0)
+      (length (c .before .before .before .before .before .before .before .before .before .args .plan .now))
+      (omega (arith, c .before .before .before .before .size-at .ensures, c .before .before .before .if1 .left, c .before .before .before .before .before .loop-test .taken))
+      (c .before .if2 .taken),
+  c .before .before .before .before .before .before .before .before .before .pre,
+)
 
 add-at : tie.Need-add-at Inv-loop μ-loop
 add-at c =
@@ -49,26 +42,36 @@ add-at c =
 
 loop-less : tie.Need-loop-less Inv-loop μ-loop
 loop-less c =
-    omega (arith, c .before .before .before .before .loop-test .taken, c .before .before .before .size-at .ensures, c .before .before .if1 .left, size-positive (getD (c .before .before .before .before .before .before .before .before .args .plan .now) (c .before .before .before .before .before .loop .at) 0) (getD (c .before .before .before .before .before .before .before .before .args .plan .now) (c .before .before .before .before .before .loop .at + 1) 0))
+    omega (
+      arith,
+      c .before .before .before .before .loop-test .taken,
+      c .before .before .before .size-at .ensures,
+      c .before .before .if1 .left,
+      size-positive (getD (c .before .before .before .before .before .before .before .before .args .plan .now) (c .before .before .before .before .before .loop .at) 0)
+          (getD (c .before .before .before .before .before .before .before .before .args .plan .now) (c .before .before .before .before .before .loop .at + 1) 0),
+    )
 
 loop-again : tie.Need-loop-again Inv-loop μ-loop
 loop-again c =
     let a = c .before .before .before .before .before .before .before .before .args in
     let l = c .before .before .before .before .before .loop in
     let e = c .before .before .before .size-at .ensures in
-    let w : l .at + nodeSize (getD (a .plan .now) (l .at) 0) (getD (a .plan .now) (l .at + 1) 0) ≤ length (a .plan .now) = omega (arith, e, c .before .before .if1 .left, c .before .before .before .before .loop-test .taken) in
+    let w : l .at + nodeSize (getD (a .plan .now) (l .at) 0) (getD (a .plan .now) (l .at + 1) 0) ≤ length (a .plan .now) =
+    omega (arith, e, c .before .before .if1 .left, c .before .before .before .before .loop-test .taken) in
     rw e
     (⊎-elim
     (λ h. rw (h .5, h .6) (filling-sparse (a .plan .now) (l .at) (a .table .now) (l .table) (l .m) (l .inv) w (h .0 .taken) _ _ (h .2 .ensures)))
     (λ h. rw (h .1, h .2) (filling-other (a .plan .now) (l .at) (a .table .now) (l .table) (l .m) (l .inv) w (h .0 .left)))
     (c .if2 .came))
 
-same-length-2 : tie.Need-same-length-2 Inv-loop μ-loop
-same-length-2 c = search needs
-
 returns-2 : tie.Need-returns-2 Inv-loop μ-loop
 returns-2 c =
-    filling-end _ _ _ _ _ (c .before .loop .inv) (omega (arith, c .loop-test .left, size-positive (getD (c .before .before .before .before .args .plan .now) (c .before .loop .at) 0) (getD (c .before .before .before .before .args .plan .now) (c .before .loop .at + 1) 0)))
+    filling-end _ _ _ _ _ (c .before .loop .inv)
+    (omega (
+      arith,
+      c .loop-test .left,
+      size-positive (getD (c .before .before .before .before .args .plan .now) (c .before .loop .at) 0) (getD (c .before .before .before .before .args .plan .now) (c .before .loop .at + 1) 0),
+    ))
 
 pub fill-spec : {M : Type 1} → statement M
 fill-spec =
@@ -77,15 +80,15 @@ fill-spec =
     Inv-loop
     μ-loop
     loop-holds
-    size-at-requires
-    sub-if1
-    same-length
+    (λ c κs. search needs)
+    (λ c. search needs)
+    (λ c. search needs)
     returns
-    mul-if2
-    shared-slice-read-if2
+    (λ c. search needs)
+    (λ c. search needs)
     put-pair-requires
     add-at
     loop-less
     loop-again
-    same-length-2
+    (λ c. search needs)
     returns-2)

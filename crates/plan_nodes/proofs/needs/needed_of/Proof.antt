@@ -1,5 +1,5 @@
--- `plan_nodes::needs::needed_of` meets its contract. The loop's invariant: what is looked at stands in the table. The measure is what is left
--- between the two ends. Assumes nothing.
+-- `plan_nodes::needs::needed_of` meets its contract. The loop's invariant: what is
+-- looked at stands in the table. The measure is what is left between the two ends.
 use mathlib.Core.Path.{sym, _∙_}
 use Prim.Native.Nat.{_-_, _+_, _*_, _/_, _≤_}
 use native.Mathlib.Omega.{arith}
@@ -16,15 +16,6 @@ Inv-loop plan table node lo₀ hi₀ lo hi = 2 * hi ≤ length table
 abbrev μ-loop : tie.MeasureT-loop
 μ-loop plan table node lo₀ hi₀ lo hi = hi - lo
 
-loop-holds : tie.Need-loop-holds Inv-loop μ-loop
-loop-holds c = search needs
-
-sub-mid : tie.Need-sub-mid Inv-loop μ-loop
-sub-mid c = search needs
-
-add-mid : tie.Need-add-mid Inv-loop μ-loop
-add-mid c = search needs
-
 mul-wide : tie.Need-mul-wide Inv-loop μ-loop
 mul-wide c = omega (arith, c .before .loop .inv, c .before .before .before .before .good)
 
@@ -33,9 +24,6 @@ mul-wide-2 c = omega (arith, c .before .loop .inv, c .before .before .before .be
 
 shared-slice-read-wide : tie.Need-shared-slice-read-wide Inv-loop μ-loop
 shared-slice-read-wide c = omega (arith, c .before .before .loop .inv)
-
-wide-requires : tie.Need-wide-requires Inv-loop μ-loop
-wide-requires c κs = search needs
 
 mul-wide-3 : tie.Need-mul-wide-3 Inv-loop μ-loop
 mul-wide-3 c =
@@ -52,24 +40,16 @@ mul-wide-4 c =
 shared-slice-read-wide-2 : tie.Need-shared-slice-read-wide-2 Inv-loop μ-loop
 shared-slice-read-wide-2 c = omega (arith, c .before .before .before .before .before .loop .inv)
 
-wide-requires-2 : tie.Need-wide-requires-2 Inv-loop μ-loop
-wide-requires-2 c κs = search needs
-
 returns : tie.Need-returns Inv-loop μ-loop
 returns c =
-    c .wide2 .ensures ∙ memo-hit (c .before .before .before .before .before .before .before .before .before .args .plan .now) (c .before .before .before .before .before .before .before .before .before .args .table .now) (c .before .before .before .before .before .before .before .before .before .pre .2) (c .before .before .before .before .before .before .loop .lo + (c .before .before .before .before .before .before .loop .hi - c .before .before .before .before .before .before .loop .lo) / 2) (c .before .before .before .before .before .before .before .before .before .args .node) (omega (arith, c .before .before .before .before .before .before .loop .inv)) (sym (c .before .before .before .wide .ensures) ∙ c .before .before .if1 .taken)
-
-add-lo : tie.Need-add-lo Inv-loop μ-loop
-add-lo c = search needs
-
-loop-less : tie.Need-loop-less Inv-loop μ-loop
-loop-less c = search needs
-
-loop-again : tie.Need-loop-again Inv-loop μ-loop
-loop-again c = search needs
-
-loop-less-2 : tie.Need-loop-less-2 Inv-loop μ-loop
-loop-less-2 c = search needs
+    c .wide2 .ensures
+    ∙ memo-hit (c .before .before .before .before .before .before .before .before .before .args .plan .now)
+    (c .before .before .before .before .before .before .before .before .before .args .table .now)
+    (c .before .before .before .before .before .before .before .before .before .pre .2)
+    (c .before .before .before .before .before .before .loop .lo + (c .before .before .before .before .before .before .loop .hi - c .before .before .before .before .before .before .loop .lo) / 2)
+    (c .before .before .before .before .before .before .before .before .before .args .node)
+    (omega (arith, c .before .before .before .before .before .before .loop .inv))
+    (sym (c .before .before .before .wide .ensures) ∙ c .before .before .if1 .taken)
 
 loop-again-2 : tie.Need-loop-again-2 Inv-loop μ-loop
 loop-again-2 c = omega (arith, c .before .before .before .before .before .loop .inv)
@@ -79,11 +59,16 @@ second-at-requires c κs =
     (c .before .before .before .before .pre .0, λ e. omega (arith, c .before .before .before .before .pre .1))
 
 count-required-requires : tie.Need-count-required-requires Inv-loop μ-loop
-count-required-requires c κs =
-    (c .second-at .ensures, omega (arith, c .second-at .ensures, at-pairs-size (c .before .before .before .before .before .args .plan .now) (c .before .before .before .before .before .args .node) (c .before .before .before .before .before .pre .0) (omega (arith, c .before .before .before .before .before .pre .1)) (omega (arith, c .before .before .before .before .before .pre .1))))
-
-returns-2 : tie.Need-returns-2 Inv-loop μ-loop
-returns-2 c = search needs
+count-required-requires c κs = (
+  c .second-at .ensures,
+  omega (
+    arith,
+    c .second-at .ensures,
+    at-pairs-size (c .before .before .before .before .before .args .plan .now) (c .before .before .before .before .before .args .node)
+        (c .before .before .before .before .before .pre .0) (omega (arith, c .before .before .before .before .before .pre .1))
+        (omega (arith, c .before .before .before .before .before .pre .1)),
+  ),
+)
 
 pub needed-of-spec : {M : Type 1} → statement M
 needed-of-spec =
@@ -91,24 +76,24 @@ needed-of-spec =
     (tie.spec
     Inv-loop
     μ-loop
-    loop-holds
-    sub-mid
-    add-mid
+    (λ c. search needs)
+    (λ c. search needs)
+    (λ c. search needs)
     mul-wide
     mul-wide-2
     shared-slice-read-wide
-    wide-requires
+    (λ c κs. search needs)
     mul-wide-3
     add-wide
     mul-wide-4
     shared-slice-read-wide-2
-    wide-requires-2
+    (λ c κs. search needs)
     returns
-    add-lo
-    loop-less
-    loop-again
-    loop-less-2
+    (λ c. search needs)
+    (λ c. search needs)
+    (λ c. search needs)
+    (λ c. search needs)
     loop-again-2
     second-at-requires
     count-required-requires
-    returns-2)
+    (λ c. search needs))

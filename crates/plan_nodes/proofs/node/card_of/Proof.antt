@@ -1,12 +1,9 @@
--- `plan_nodes::node::card_of` meets its contract: the pairs of an object stand in the plan. Assumes nothing.
+-- `plan_nodes::node::card_of` meets its contract: the pairs of an object stand in the plan.
 use native.Mathlib.Omega.{arith}
 use borrow.Author.Needs.{needs}
 use Rattle.plan_nodes.proofs.Refs.{card-inside, card-gives}
 use Rattle.plan_nodes.proofs.node.card_of.Statement.{statement}
 use Rattle.plan_nodes.proofs.node.card_of.Tie as tie
-
-add-result : tie.Need-add-result
-add-result c = search needs
 
 mul-result : tie.Need-mul-result
 mul-result c =
@@ -37,4 +34,4 @@ returns c =
 pub card-of-spec : {M : Type 1} → statement M
 card-of-spec =
     tie.close
-    (tie.spec add-result mul-result add-result-2 mul-result-2 shared-slice-read-result returns)
+    (tie.spec (λ c. search needs) mul-result add-result-2 mul-result-2 shared-slice-read-result returns)

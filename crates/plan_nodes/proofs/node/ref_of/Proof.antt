@@ -1,4 +1,4 @@
--- `plan_nodes::node::ref_of` meets its contract: for each group of kinds, a law that the word stands in the plan and is the reference. Assumes nothing.
+-- `plan_nodes::node::ref_of` meets its contract: for each group of kinds, a law that the word stands in the plan and is the reference.
 use mathlib.Core.Path.{ap, sym, _∙_}
 use mathlib.Core.Option.{some}
 use native.Mathlib.Omega.{arith}
@@ -8,36 +8,21 @@ use Rattle.plan_nodes.proofs.Refs.{tuple-inside, tuple-gives, pairs-ins
 use Rattle.plan_nodes.proofs.node.ref_of.Statement.{statement}
 use Rattle.plan_nodes.proofs.node.ref_of.Tie as tie
 
-mul-kind : tie.Need-mul-kind
-mul-kind c = search needs
-
 shared-slice-read-kind : tie.Need-shared-slice-read-kind
 shared-slice-read-kind c =
     let start = c .before .before in
     omega (arith, at-inside (start .args .plan .now) (start .args .node) (start .pre .0))
-
-add-wide : tie.Need-add-wide
-add-wide c = search needs
-
-mul-wide : tie.Need-mul-wide
-mul-wide c = search needs
 
 shared-slice-read-wide : tie.Need-shared-slice-read-wide
 shared-slice-read-wide c =
     let start = c .before .before .before .before in
     omega (arith, one-inside (start .args .plan .now) (start .args .node) (start .pre .0) (start .args .i) (start .pre .1) (λ h. omega arith))
 
-wide-requires : tie.Need-wide-requires
-wide-requires c κs = search needs
-
 returns : tie.Need-returns
 returns c =
     let start = c .before .before .before .before .before in
     one-gives (start .args .plan .now) (start .args .node) (start .pre .0) (start .args .i) (start .pre .1) (λ h. omega arith) ∙ ap some
     (sym (c .wide .ensures))
-
-add-wide-2 : tie.Need-add-wide-2
-add-wide-2 c = search needs
 
 add-wide-3 : tie.Need-add-wide-3
 add-wide-3 c =
@@ -64,17 +49,11 @@ shared-slice-read-wide-2 c =
     let start = c .before .before .before .before .before in
     omega (arith, tuple-inside (start .args .plan .now) (start .args .node) (start .pre .0) (start .args .i) (start .pre .1) (c .before .if2 .taken))
 
-wide-requires-2 : tie.Need-wide-requires-2
-wide-requires-2 c κs = search needs
-
 returns-2 : tie.Need-returns-2
 returns-2 c =
     let start = c .before .before .before .before .before .before in
     tuple-gives (start .args .plan .now) (start .args .node) (start .pre .0) (start .args .i) (start .pre .1)
     (c .before .before .if2 .taken) ∙ ap some (sym (c .wide2 .ensures))
-
-add-wide-4 : tie.Need-add-wide-4
-add-wide-4 c = search needs
 
 mul-wide-3 : tie.Need-mul-wide-3
 mul-wide-3 c =
@@ -115,28 +94,16 @@ shared-slice-read-wide-3 c =
           (omega (arith, c .before .before .if2 .left)) (omega arith),
     )
 
-wide-requires-3 : tie.Need-wide-requires-3
-wide-requires-3 c κs = search needs
-
 returns-3 : tie.Need-returns-3
 returns-3 c =
     let start = c .before .before .before .before .before .before .before in
     pairs-gives (start .args .plan .now) (start .args .node) (start .pre .0) (start .args .i) (start .pre .1) (omega
     (arith, c .before .before .before .if2 .left)) (omega arith) ∙ ap some (sym (c .wide3 .ensures))
 
-add-wide-6 : tie.Need-add-wide-6
-add-wide-6 c = search needs
-
-mul-wide-5 : tie.Need-mul-wide-5
-mul-wide-5 c = search needs
-
 shared-slice-read-wide-4 : tie.Need-shared-slice-read-wide-4
 shared-slice-read-wide-4 c =
     let start = c .before .before .before .before .before .before in
     omega (arith, one-inside (start .args .plan .now) (start .args .node) (start .pre .0) (start .args .i) (start .pre .1) (λ h. omega arith))
-
-wide-requires-4 : tie.Need-wide-requires-4
-wide-requires-4 c κs = search needs
 
 returns-4 : tie.Need-returns-4
 returns-4 c =
@@ -148,28 +115,28 @@ pub ref-of-spec : {M : Type 1} → statement M
 ref-of-spec =
     tie.close
     (tie.spec
-    mul-kind
+    (λ c. search needs)
     shared-slice-read-kind
-    add-wide
-    mul-wide
+    (λ c. search needs)
+    (λ c. search needs)
     shared-slice-read-wide
-    wide-requires
+    (λ c κs. search needs)
     returns
-    add-wide-2
+    (λ c. search needs)
     add-wide-3
     mul-wide-2
     shared-slice-read-wide-2
-    wide-requires-2
+    (λ c κs. search needs)
     returns-2
-    add-wide-4
+    (λ c. search needs)
     mul-wide-3
     add-wide-5
     mul-wide-4
     shared-slice-read-wide-3
-    wide-requires-3
+    (λ c κs. search needs)
     returns-3
-    add-wide-6
-    mul-wide-5
+    (λ c. search needs)
+    (λ c. search needs)
     shared-slice-read-wide-4
-    wide-requires-4
+    (λ c κs. search needs)
     returns-4)

@@ -1,4 +1,4 @@
--- `plan_nodes::node::root_of` meets its contract: a plan that has a type has a root. Assumes nothing.
+-- `plan_nodes::node::root_of` meets its contract: a plan that has a type has a root.
 use native.Mathlib.Omega.{arith}
 use borrow.Author.Needs.{needs}
 use Rattle.plan_nodes.proofs.Nodes.{at-root, root-inside}
@@ -10,9 +10,6 @@ shared-slice-read-wide c =
     let start = c .before .before in
     omega (arith, root-inside (start .args .plan .now) (start .pre .0) (start .pre .1))
 
-wide-requires : tie.Need-wide-requires
-wide-requires c κs = search needs
-
 returns : tie.Need-returns
 returns c =
     let start = c .before .before .before in (
@@ -22,4 +19,4 @@ returns c =
     )
 
 pub root-of-spec : {M : Type 1} → statement M
-root-of-spec = tie.close (tie.spec shared-slice-read-wide wide-requires returns)
+root-of-spec = tie.close (tie.spec shared-slice-read-wide (λ c κs. search needs) returns)

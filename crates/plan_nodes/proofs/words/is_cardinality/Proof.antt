@@ -1,4 +1,4 @@
--- `plan_nodes::words::is_cardinality` meets its contract: each return follows the tests of the definition. Assumes nothing.
+-- `plan_nodes::words::is_cardinality` meets its contract: each return follows the tests of the definition.
 use mathlib.Core.Path.{sym, ap, _∙_}
 use borrow.Author.Tests.{ne-eqb}
 use Rattle.wire.proofs.Picks.{pick-no}

@@ -1,24 +1,12 @@
--- `plan_nodes::words::put_word` meets its contract: a store past the end does nothing. Assumes nothing.
+-- `plan_nodes::words::put_word` meets its contract: a store past the end does nothing.
 use mathlib.Core.Path.{sym}
 use lib.Seq.{set-out}
 use borrow.Author.Needs.{needs}
 use Rattle.plan_nodes.proofs.words.put_word.Statement.{statement}
 use Rattle.plan_nodes.proofs.words.put_word.Tie as tie
 
-mul-list : tie.Need-mul-list
-mul-list c = search needs
-
-slice-write-list : tie.Need-slice-write-list
-slice-write-list c = search needs
-
-same-length : tie.Need-same-length
-same-length c = search needs
-
-returns : tie.Need-returns
-returns c = search needs
-
 returns-2 : tie.Need-returns-2
 returns-2 c = sym (set-out _ _ _ (c .if1 .left))
 
 pub put-word-spec : {M : Type 1} → statement M
-put-word-spec = tie.close (tie.spec mul-list slice-write-list same-length returns returns-2)
+put-word-spec = tie.close (tie.spec (λ c. search needs) (λ c. search needs) (λ c. search needs) (λ c. search needs) returns-2)

@@ -1,4 +1,4 @@
--- `plan_nodes::words::size_at` meets its contract: a law for each kind. Assumes nothing.
+-- `plan_nodes::words::size_at` meets its contract: a law for each kind.
 use mathlib.Core.Path.{_∙_}
 use mathlib.Core.Logic.{inl, inr}
 use borrow.Author.Needs.{needs}
@@ -6,43 +6,13 @@ use Rattle.plan_nodes.proofs.Sizes.{size-tuple, size-pairs, size-enum, 
 use Rattle.plan_nodes.proofs.words.size_at.Statement.{statement}
 use Rattle.plan_nodes.proofs.words.size_at.Tie as tie
 
-mul-kind : tie.Need-mul-kind
-mul-kind c = search needs
-
-shared-slice-read-kind : tie.Need-shared-slice-read-kind
-shared-slice-read-kind c = search needs
-
-add-word-at : tie.Need-add-word-at
-add-word-at c = search needs
-
-word-at-requires : tie.Need-word-at-requires
-word-at-requires c κs = search needs
-
-wide-requires : tie.Need-wide-requires
-wide-requires c κs = search needs
-
-add-result : tie.Need-add-result
-add-result c = search needs
-
 returns : tie.Need-returns
 returns c =
     size-tuple _ _ _ (c .if1 .taken) (c .before .wide .ensures ∙ c .before .before .word-at .ensures)
 
-mul-result : tie.Need-mul-result
-mul-result c = search needs
-
-add-result-2 : tie.Need-add-result-2
-add-result-2 c = search needs
-
 returns-2 : tie.Need-returns-2
 returns-2 c =
     size-pairs _ _ _ (inl (c .if2 .taken)) (c .before .before .wide .ensures ∙ c .before .before .before .word-at .ensures)
-
-mul-result-2 : tie.Need-mul-result-2
-mul-result-2 c = search needs
-
-add-result-3 : tie.Need-add-result-3
-add-result-3 c = search needs
 
 returns-3 : tie.Need-returns-3
 returns-3 c =
@@ -59,18 +29,18 @@ pub size-at-spec : {M : Type 1} → statement M
 size-at-spec =
     tie.close
     (tie.spec
-    mul-kind
-    shared-slice-read-kind
-    add-word-at
-    word-at-requires
-    wide-requires
-    add-result
+    (λ c. search needs)
+    (λ c. search needs)
+    (λ c. search needs)
+    (λ c κs. search needs)
+    (λ c κs. search needs)
+    (λ c. search needs)
     returns
-    mul-result
-    add-result-2
+    (λ c. search needs)
+    (λ c. search needs)
     returns-2
-    mul-result-2
-    add-result-3
+    (λ c. search needs)
+    (λ c. search needs)
     returns-3
     returns-4
     returns-5)

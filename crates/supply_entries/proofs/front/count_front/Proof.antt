@@ -1,4 +1,4 @@
--- `supply_entries::front::count_front` meets its contract. Assumes nothing.
+-- `supply_entries::front::count_front` meets its contract.
 use Rattle.supply_entries.specs.Emitting.{beginningOf}
 use Rattle.supply_entries.proofs.Fronts.{count-not, count-begun}
 use borrow.Author.Needs.{needs}

@@ -1,4 +1,4 @@
--- `supply_entries::head::head_size` meets its contract, by its tests. Assumes nothing.
+-- `supply_entries::head::head_size` meets its contract, by its tests.
 use borrow.Author.Tests.{eq-eqb, ne-eqb}
 use Rattle.supply_entries.specs.Emitting.{headSize}
 use Rattle.supply_entries.proofs.head.head_size.Statement.{statement}

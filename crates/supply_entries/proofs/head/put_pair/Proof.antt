@@ -1,4 +1,4 @@
--- `supply_entries::head::put_pair` meets its contract: one store after the other. Assumes nothing.
+-- `supply_entries::head::put_pair` meets its contract: one store after the other.
 use Rattle.supply_entries.proofs.Stores.{put-four}
 use borrow.Author.Needs.{needs}
 use Rattle.supply_entries.proofs.head.put_pair.Statement.{statement}

@@ -1,4 +1,4 @@
--- `supply_entries::leaf::leaf_fits` meets its contract: by a size, by the format's own rule, or not at all. Assumes nothing.
+-- `supply_entries::leaf::leaf_fits` meets its contract: by a size, by the format's own rule, or not at all.
 use mathlib.Core.Path.{sym, _∙_}
 use native.Mathlib.Omega.{arith}
 use Rattle.plan_nodes.proofs.Nodes.{at-format}
@@ -20,27 +20,12 @@ cast-fixed-size : tie.Need-cast-fixed-size
 cast-fixed-size c =
     omega (arith, c .second-at .ensures, at-format _ _ (c .before .before .before .before .before .pre .0) (sym (c .before .before .kind-at .ensures .is) ∙ c .before .if1 .taken))
 
-fixed-size-requires : tie.Need-fixed-size-requires
-fixed-size-requires c κs = search needs
-
-sub-result : tie.Need-sub-result
-sub-result c = search needs
-
 returns : tie.Need-returns
 returns c =
-    fits-size _ _ _ (c .before .before .before .before .kind-at .ensures .is) (c .before .before .before .if1 .taken) _ (c .before .before .second-at .ensures) _ (c .before .fixed-size .ensures) (c .if2 .taken) _ _ _ (c .before .before .before .before .before .before .before .pre .1) (c .before .before .before .before .before .before .before .pre .2)
-
-is-leaf-requires : tie.Need-is-leaf-requires
-is-leaf-requires c κs = search needs
-
-sub-leaf-ok : tie.Need-sub-leaf-ok
-sub-leaf-ok c = search needs
-
-part-leaf-ok-start : tie.Need-part-leaf-ok-start
-part-leaf-ok-start c = search needs
-
-part-leaf-ok-end : tie.Need-part-leaf-ok-end
-part-leaf-ok-end c = search needs
+    fits-size _ _ _ (c .before .before .before .before .kind-at .ensures .is) (c .before .before .before .if1 .taken) _
+    (c .before .before .second-at .ensures) _ (c .before .fixed-size .ensures) (c .if2 .taken) _ _ _
+    (c .before .before .before .before .before .before .before .pre .1)
+    (c .before .before .before .before .before .before .before .pre .2)
 
 leaf-ok-requires : tie.Need-leaf-ok-requires
 leaf-ok-requires c κs =
@@ -60,13 +45,13 @@ leaf-fits-spec =
     kind-at-requires
     second-at-requires
     cast-fixed-size
-    fixed-size-requires
-    sub-result
+    (λ c κs. search needs)
+    (λ c. search needs)
     returns
-    is-leaf-requires
-    sub-leaf-ok
-    part-leaf-ok-start
-    part-leaf-ok-end
+    (λ c κs. search needs)
+    (λ c. search needs)
+    (λ c. search needs)
+    (λ c. search needs)
     leaf-ok-requires
     returns-2
     returns-3)

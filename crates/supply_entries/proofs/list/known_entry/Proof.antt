@@ -1,24 +1,12 @@
--- `supply_entries::list::known_entry` meets its contract: by whether there is an entry, and by its index. Assumes nothing.
+-- `supply_entries::list::known_entry` meets its contract: by whether there is an entry, and by its index.
 use mathlib.Core.Path.{sym, _∙_}
 use Rattle.supply_entries.proofs.Entries.{known-short, known-past, known-whole}
 use borrow.Author.Needs.{needs}
 use Rattle.supply_entries.proofs.list.known_entry.Statement.{statement}
 use Rattle.supply_entries.proofs.list.known_entry.Tie as tie
 
-next-entry-requires : tie.Need-next-entry-requires
-next-entry-requires c κs = search needs
-
-enum-known-read : tie.Need-enum-known-read
-enum-known-read c = search needs
-
-enum-told : tie.Need-enum-told
-enum-told c = search needs
-
 returns : tie.Need-returns
 returns c = known-short _ _ _ (c .before .before .next-entry .ensures) (c .enum-told .given .1)
-
-cast-if1 : tie.Need-cast-if1
-cast-if1 c = search needs
 
 returns-2 : tie.Need-returns-2
 returns-2 c =
@@ -31,4 +19,4 @@ returns-3 c =
 pub known-entry-spec : {M : Type 1} → statement M
 known-entry-spec =
     tie.close
-    (tie.spec next-entry-requires enum-known-read enum-told returns cast-if1 returns-2 returns-3)
+    (tie.spec (λ c κs. search needs) (λ c. search needs) (λ c. search needs) returns (λ c. search needs) returns-2 returns-3)

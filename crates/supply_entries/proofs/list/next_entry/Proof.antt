@@ -1,4 +1,4 @@
--- `supply_entries::list::next_entry` meets its contract: by how many words are left. Assumes nothing.
+-- `supply_entries::list::next_entry` meets its contract: by how many words are left.
 use native.Mathlib.Omega.{arith}
 use Rattle.supply_entries.proofs.Entries.{read-short, read-whole}
 use borrow.Author.Needs.{needs}

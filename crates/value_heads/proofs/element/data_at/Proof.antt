@@ -1,4 +1,4 @@
--- `value_heads::element::data_at` meets its contract: the tests are those of `elementIn`, in its order. Assumes nothing.
+-- `value_heads::element::data_at` meets its contract: the tests are those of `elementIn`, in its order.
 use borrow.Author.Tests.{lt-ltb, le-ltb, le-leb, lt-leb}
 use borrow.Author.Needs.{needs}
 use Rattle.value_heads.proofs.element.data_at.Statement.{statement}
@@ -10,9 +10,6 @@ returns : tie.Need-returns
 unfolding elementIn negative pick
 returns c = simp (le-leb _ _ (c .if1 .taken))
 
-sub-if2 : tie.Need-sub-if2
-sub-if2 c = search needs
-
 returns-2 : tie.Need-returns-2
 unfolding elementIn negative pick
 returns-2 c = simp (lt-leb _ _ (c .before .if1 .left), lt-ltb _ _ (c .if2 .taken))
@@ -22,4 +19,4 @@ unfolding elementIn negative pick
 returns-3 c = simp (lt-leb _ _ (c .before .if1 .left), le-ltb _ _ (c .if2 .left))
 
 pub data-at-spec : {M : Type 1} → statement M
-data-at-spec = tie.close (tie.spec returns sub-if2 returns-2 returns-3)
+data-at-spec = tie.close (tie.spec returns (λ c. search needs) returns-2 returns-3)

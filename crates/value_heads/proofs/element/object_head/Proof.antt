@@ -1,4 +1,4 @@
--- `value_heads::element::object_head` meets its contract: a head that is whole, and then its length. Assumes nothing.
+-- `value_heads::element::object_head` meets its contract: a head that is whole, and then its length.
 use borrow.Author.Tests.{lt-ltb, le-ltb}
 use borrow.Author.Needs.{needs}
 use Rattle.value_heads.proofs.element.object_head.Statement.{statement}
@@ -6,19 +6,13 @@ use Rattle.value_heads.proofs.element.object_head.Tie as tie
 use Rattle.protocol.specs.Numbers.{pick}
 use Rattle.protocol.specs.Heads.{objectHead}
 
-sub-if1 : tie.Need-sub-if1
-sub-if1 c = search needs
-
 returns : tie.Need-returns
 unfolding objectHead pick
 returns c = simp (lt-ltb _ _ (c .if1 .taken))
-
-sparse-length-requires : tie.Need-sparse-length-requires
-sparse-length-requires c κs = search needs
 
 returns-2 : tie.Need-returns-2
 unfolding objectHead pick
 returns-2 c = simp (le-ltb _ _ (c .before .if1 .left)) (c .sparse-length .ensures)
 
 pub object-head-spec : {M : Type 1} → statement M
-object-head-spec = tie.close (tie.spec sub-if1 returns sparse-length-requires returns-2)
+object-head-spec = tie.close (tie.spec (λ c. search needs) returns (λ c κs. search needs) returns-2)

@@ -1,4 +1,4 @@
--- `value_heads::element::required` meets its contract, by its one test. Assumes nothing.
+-- `value_heads::element::required` meets its contract, by its one test.
 use borrow.Author.Tests.{eq-eqb, ne-eqb}
 use Rattle.value_heads.proofs.element.required.Statement.{statement}
 use Rattle.value_heads.proofs.element.required.Tie as tie

@@ -1,4 +1,4 @@
--- `value_heads::parts::end_of` meets its contract, by the kind of the head. Assumes nothing.
+-- `value_heads::parts::end_of` meets its contract, by the kind of the head.
 use mathlib.Core.Path.{_≡_, refl, sym, ap}
 use native.Mathlib.Omega.{arith}
 use Rattle.value_heads.proofs.Told.{is-fault}
@@ -6,12 +6,6 @@ use borrow.Author.Needs.{needs}
 use Rattle.value_heads.proofs.parts.end_of.Statement.{statement}
 use Rattle.value_heads.proofs.parts.end_of.Tie as tie
 use Rattle.protocol.specs.Heads.{endOf}
-
-enum-known-h : tie.Need-enum-known-h
-enum-known-h c = search needs
-
-enum-known-h-2 : tie.Need-enum-known-h-2
-enum-known-h-2 c = search needs
 
 returns : tie.Need-returns
 unfolding endOf
@@ -32,4 +26,4 @@ returns-3 c = sym (ap endOf (c .before .h .given .1))
 
 pub end-of-spec : {M : Type 1} → statement M
 end-of-spec =
-    tie.close (tie.spec enum-known-h enum-known-h-2 returns returns-2 add-result returns-3)
+    tie.close (tie.spec (λ c. search needs) (λ c. search needs) returns returns-2 add-result returns-3)

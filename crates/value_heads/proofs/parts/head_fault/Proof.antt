@@ -1,13 +1,10 @@
--- `value_heads::parts::head_fault` meets its contract, by the kind of the head. Assumes nothing.
+-- `value_heads::parts::head_fault` meets its contract, by the kind of the head.
 use mathlib.Core.Path.{_≡_, refl, sym, ap}
 use Rattle.value_heads.specs.Faults.{headFault}
 use Rattle.value_heads.proofs.Told.{not-fault}
 use borrow.Author.Needs.{needs}
 use Rattle.value_heads.proofs.parts.head_fault.Statement.{statement}
 use Rattle.value_heads.proofs.parts.head_fault.Tie as tie
-
-enum-known-h : tie.Need-enum-known-h
-enum-known-h c = search needs
 
 returns : tie.Need-returns
 unfolding headFault
@@ -18,4 +15,4 @@ unfolding headFault
 returns-2 c = sym (ap headFault (c .before .h .given .1))
 
 pub head-fault-spec : {M : Type 1} → statement M
-head-fault-spec = tie.close (tie.spec enum-known-h returns returns-2)
+head-fault-spec = tie.close (tie.spec (λ c. search needs) returns returns-2)

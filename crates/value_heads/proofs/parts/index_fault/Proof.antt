@@ -1,15 +1,9 @@
--- `value_heads::parts::index_fault` meets its contract, by the kind of the answer. Assumes nothing.
+-- `value_heads::parts::index_fault` meets its contract, by the kind of the answer.
 use mathlib.Core.Path.{sym, ap}
 use Rattle.value_heads.specs.Faults.{indexFault}
 use borrow.Author.Needs.{needs}
 use Rattle.value_heads.proofs.parts.index_fault.Statement.{statement}
 use Rattle.value_heads.proofs.parts.index_fault.Tie as tie
-
-enum-told : tie.Need-enum-told
-enum-told c = search needs
-
-enum-known-x : tie.Need-enum-known-x
-enum-known-x c = search needs
 
 returns : tie.Need-returns
 unfolding indexFault
@@ -20,4 +14,4 @@ unfolding indexFault
 returns-2 c = sym (ap indexFault (c .before .x .given .1))
 
 pub index-fault-spec : {M : Type 1} → statement M
-index-fault-spec = tie.close (tie.spec enum-known-x enum-told returns returns-2)
+index-fault-spec = tie.close (tie.spec (λ c. search needs) (λ c. search needs) returns returns-2)

@@ -1,16 +1,10 @@
--- `value_heads::parts::index_of` meets its contract, by the kind of the head. Assumes nothing.
+-- `value_heads::parts::index_of` meets its contract, by the kind of the head.
 use mathlib.Core.Path.{_≡_, refl, sym, ap}
 use Rattle.value_heads.proofs.Told.{is-fault}
 use borrow.Author.Needs.{needs}
 use Rattle.value_heads.proofs.parts.index_of.Statement.{statement}
 use Rattle.value_heads.proofs.parts.index_of.Tie as tie
 use Rattle.protocol.specs.Heads.{indexOf}
-
-enum-known-h : tie.Need-enum-known-h
-enum-known-h c = search needs
-
-enum-known-h-2 : tie.Need-enum-known-h-2
-enum-known-h-2 c = search needs
 
 returns : tie.Need-returns
 unfolding indexOf
@@ -25,4 +19,4 @@ unfolding indexOf
 returns-3 c = sym (ap indexOf (c .before .h .given .1))
 
 pub index-of-spec : {M : Type 1} → statement M
-index-of-spec = tie.close (tie.spec enum-known-h enum-known-h-2 returns returns-2 returns-3)
+index-of-spec = tie.close (tie.spec (λ c. search needs) (λ c. search needs) returns returns-2 returns-3)

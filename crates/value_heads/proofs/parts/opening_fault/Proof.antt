@@ -1,15 +1,9 @@
--- `value_heads::parts::opening_fault` meets its contract, by the kind of the answer. Assumes nothing.
+-- `value_heads::parts::opening_fault` meets its contract, by the kind of the answer.
 use mathlib.Core.Path.{sym, ap}
 use Rattle.value_heads.specs.Faults.{openingFault}
 use borrow.Author.Needs.{needs}
 use Rattle.value_heads.proofs.parts.opening_fault.Statement.{statement}
 use Rattle.value_heads.proofs.parts.opening_fault.Tie as tie
-
-enum-told : tie.Need-enum-told
-enum-told c = search needs
-
-enum-known-o : tie.Need-enum-known-o
-enum-known-o c = search needs
 
 returns : tie.Need-returns
 unfolding openingFault
@@ -20,4 +14,4 @@ unfolding openingFault
 returns-2 c = sym (ap openingFault (c .before .o .given .1))
 
 pub opening-fault-spec : {M : Type 1} → statement M
-opening-fault-spec = tie.close (tie.spec enum-known-o enum-told returns returns-2)
+opening-fault-spec = tie.close (tie.spec (λ c. search needs) (λ c. search needs) returns returns-2)

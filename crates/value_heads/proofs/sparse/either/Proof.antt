@@ -1,4 +1,4 @@
--- `value_heads::sparse::either` meets its contract. Assumes nothing.
+-- `value_heads::sparse::either` meets its contract.
 use Rattle.value_heads.proofs.sparse.either.Statement.{statement}
 use Rattle.value_heads.proofs.sparse.either.Tie as tie
 use Rattle.protocol.specs.Numbers.{pick}

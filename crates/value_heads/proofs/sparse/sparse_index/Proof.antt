@@ -1,4 +1,4 @@
--- `value_heads::sparse::sparse_index` meets its contract: the tests are those of `sparseIndex`, in its order. Assumes nothing.
+-- `value_heads::sparse::sparse_index` meets its contract: the tests are those of `sparseIndex`, in its order.
 use borrow.Author.Tests.{lt-ltb, le-ltb, le-leb, lt-leb}
 use borrow.Author.Needs.{needs}
 use Rattle.value_heads.proofs.sparse.sparse_index.Statement.{statement}
@@ -6,18 +6,9 @@ use Rattle.value_heads.proofs.sparse.sparse_index.Tie as tie
 use Rattle.protocol.specs.Numbers.{pick}
 use Rattle.protocol.specs.Heads.{sparseIndex, word}
 
-sub-if1 : tie.Need-sub-if1
-sub-if1 c = search needs
-
 returns : tie.Need-returns
 unfolding sparseIndex word pick
 returns c = simp (lt-ltb _ _ (c .if1 .taken))
-
-u32-at-requires : tie.Need-u32-at-requires
-u32-at-requires c κs = search needs
-
-cast-i : tie.Need-cast-i
-cast-i c = search needs
 
 returns-2 : tie.Need-returns-2
 unfolding sparseIndex word pick
@@ -30,4 +21,4 @@ returns-3 c =
     simp (le-ltb _ _ (c .before .before .if1 .left), ← c .before .u32-at .ensures, lt-leb _ _ (c .if2 .left))
 
 pub sparse-index-spec : {M : Type 1} → statement M
-sparse-index-spec = tie.close (tie.spec sub-if1 returns u32-at-requires cast-i returns-2 returns-3)
+sparse-index-spec = tie.close (tie.spec (λ c. search needs) returns (λ c κs. search needs) (λ c. search needs) returns-2 returns-3)

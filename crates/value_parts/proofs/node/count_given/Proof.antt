@@ -1,19 +1,10 @@
--- `value_parts::node::count_given` meets its contract, by its one test. Assumes nothing.
+-- `value_parts::node::count_given` meets its contract, by its one test.
 use mathlib.Core.Path.{ap, sym, _∙_}
 use Rattle.value_parts.proofs.Counted.{one-yes, one-no}
 use borrow.Author.Needs.{needs}
 use Rattle.value_parts.proofs.node.count_given.Statement.{statement}
 use Rattle.value_parts.proofs.node.count_given.Tie as tie
 use Rattle.protocol.specs.Heads.{requires}
-
-card-of-requires : tie.Need-card-of-requires
-card-of-requires c κs = search needs
-
-required-requires : tie.Need-required-requires
-required-requires c κs = search needs
-
-add-result : tie.Need-add-result
-add-result c = search needs
 
 returns : tie.Need-returns
 returns c =
@@ -25,4 +16,4 @@ returns-2 c =
 
 pub count-given-spec : {M : Type 1} → statement M
 count-given-spec =
-    tie.close (tie.spec card-of-requires required-requires add-result returns returns-2)
+    tie.close (tie.spec (λ c κs. search needs) (λ c κs. search needs) (λ c. search needs) returns returns-2)

@@ -1,4 +1,4 @@
--- `value_parts::node::index_at` meets its contract: the shape's count is the node's second word. Assumes nothing.
+-- `value_parts::node::index_at` meets its contract: the shape's count is the node's second word.
 use native.Mathlib.Omega.{arith}
 use Rattle.plan_nodes.proofs.Nodes.{at-few}
 use Rattle.value_parts.proofs.node.index_at.Statement.{statement}
@@ -8,8 +8,10 @@ second-at-requires : tie.Need-second-at-requires
 second-at-requires c κs = (c .before .before .pre .0, λ e. omega (arith, e, c .before .before .pre .1))
 
 sparse-index-requires : tie.Need-sparse-index-requires
-sparse-index-requires c κs =
-    (c .before .before .before .pre .2, omega (arith, c .second-at .ensures, at-few _ _ (c .before .before .before .pre .0) (omega (arith, c .before .before .before .pre .1)) (omega (arith, c .before .before .before .pre .1))))
+sparse-index-requires c κs = (
+  c .before .before .before .pre .2,
+  omega (arith, c .second-at .ensures, at-few _ _ (c .before .before .before .pre .0) (omega (arith, c .before .before .before .pre .1)) (omega (arith, c .before .before .before .pre .1))),
+)
 
 returns : tie.Need-returns
 returns c = rw (c .sparse-index .ensures, c .before .second-at .ensures)

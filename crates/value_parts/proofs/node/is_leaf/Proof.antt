@@ -1,4 +1,4 @@
--- `value_parts::node::is_leaf` meets its contract, by its one test. Assumes nothing.
+-- `value_parts::node::is_leaf` meets its contract, by its one test.
 use borrow.Author.Tests.{eq-eqb, ne-eqb}
 use Rattle.value_parts.specs.Walk.{leafKind}
 use Rattle.value_parts.proofs.node.is_leaf.Statement.{statement}

@@ -6,34 +6,31 @@ use borrow.Author.Needs.{needs}
 use Rattle.value_parts.proofs.node.leaf_ok.Statement.{statement}
 use Rattle.value_parts.proofs.node.leaf_ok.Tie as tie
 
-enumeration-ok-requires : tie.Need-enumeration-ok-requires
-enumeration-ok-requires c κs = search needs
-
 returns : tie.Need-returns
 returns c =
     c .enumeration-ok .ensures ∙ good-enum _ _ _ (c .before .before .before .before .pre .1) _ (c .before .if1 .taken)
 
-second-at-requires : tie.Need-second-at-requires
-second-at-requires c κs = search needs
-
 cast-scalar-ok : tie.Need-cast-scalar-ok
 cast-scalar-ok c =
-    omega (arith, c .second-at .ensures, at-format _ _ (c .before .before .before .before .pre .0) (sym (c .before .before .before .before .pre .1) ∙ scalar-kind _ (c .before .before .before .before .pre .2) (c .before .if1 .left)))
-
-scalar-ok-requires : tie.Need-scalar-ok-requires
-scalar-ok-requires c κs = search needs
+    omega (
+      arith,
+      c .second-at .ensures,
+      at-format _ _ (c .before .before .before .before .pre .0) (sym (c .before .before .before .before .pre .1) ∙ scalar-kind _ (c .before .before .before .before .pre .2) (c .before .if1 .left)),
+    )
 
 returns-2 : tie.Need-returns-2
 returns-2 c =
-    c .scalar-ok .ensures ∙ good-scalar _ _ _ (c .before .before .before .before .before .pre .1) _ _ (c .before .second-at .ensures) (scalar-kind _ (c .before .before .before .before .before .pre .2) (c .before .before .if1 .left))
+    c .scalar-ok .ensures
+    ∙ good-scalar _ _ _ (c .before .before .before .before .before .pre .1) _ _ (c .before .second-at .ensures)
+    (scalar-kind _ (c .before .before .before .before .before .pre .2) (c .before .before .if1 .left))
 
 pub leaf-ok-spec : {M : Type 1} → statement M
 leaf-ok-spec =
     tie.close
     (tie.spec
-    enumeration-ok-requires
+    (λ c κs. search needs)
     returns
-    second-at-requires
+    (λ c κs. search needs)
     cast-scalar-ok
-    scalar-ok-requires
+    (λ c κs. search needs)
     returns-2)

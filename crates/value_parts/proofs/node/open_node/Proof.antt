@@ -4,47 +4,35 @@ use borrow.Author.Needs.{needs}
 use Rattle.value_parts.proofs.node.open_node.Statement.{statement}
 use Rattle.value_parts.proofs.node.open_node.Tie as tie
 
-sparse-opening-requires : tie.Need-sparse-opening-requires
-sparse-opening-requires c κs = search needs
-
 returns : tie.Need-returns
 returns c =
     c .sparse-opening .ensures ∙ open-sparse _ _ _ (c .before .before .before .before .pre .1) _ (c .before .if1 .taken)
-
-range-opening-requires : tie.Need-range-opening-requires
-range-opening-requires c κs = search needs
 
 returns-2 : tie.Need-returns-2
 returns-2 c =
     c .range-opening .ensures ∙ open-range _ _ _ (c .before .before .before .before .before .pre .1) _ (c .before .if2 .taken)
 
-set-opening-requires : tie.Need-set-opening-requires
-set-opening-requires c κs = search needs
-
 returns-3 : tie.Need-returns-3
 returns-3 c =
     c .set-opening .ensures ∙ open-set _ _ _ (c .before .before .before .before .before .before .pre .1) _ (c .before .if3 .taken)
 
-second-at-requires : tie.Need-second-at-requires
-second-at-requires c κs = search needs
-
-count-opening-requires : tie.Need-count-opening-requires
-count-opening-requires c κs = search needs
-
 returns-4 : tie.Need-returns-4
 returns-4 c =
-    c .count-opening .ensures ∙ open-count _ _ _ (c .before .before .before .before .before .before .before .pre .1) _ (c .before .before .before .before .before .before .before .pre .0) _ (c .before .second-at .ensures) (c .before .before .before .before .if1 .left) (c .before .before .before .if2 .left) (c .before .before .if3 .left)
+    c .count-opening .ensures
+    ∙ open-count _ _ _ (c .before .before .before .before .before .before .before .pre .1) _
+    (c .before .before .before .before .before .before .before .pre .0) _ (c .before .second-at .ensures)
+    (c .before .before .before .before .if1 .left) (c .before .before .before .if2 .left) (c .before .before .if3 .left)
 
 pub open-node-spec : {M : Type 1} → statement M
 open-node-spec =
     tie.close
     (tie.spec
-    sparse-opening-requires
+    (λ c κs. search needs)
     returns
-    range-opening-requires
+    (λ c κs. search needs)
     returns-2
-    set-opening-requires
+    (λ c κs. search needs)
     returns-3
-    second-at-requires
-    count-opening-requires
+    (λ c κs. search needs)
+    (λ c κs. search needs)
     returns-4)

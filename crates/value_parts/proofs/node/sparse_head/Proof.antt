@@ -7,9 +7,6 @@ card-of-requires : tie.Need-card-of-requires
 card-of-requires c κs =
     (c .before .before .pre .0, omega (arith, c .before .before .pre .1), omega (arith, c .before .before .pre .1), c .before .before .pre .2)
 
-required-requires : tie.Need-required-requires
-required-requires c κs = search needs
-
 sparse-length-requires : tie.Need-sparse-length-requires
 sparse-length-requires c κs = c .before .before .before .before .pre .3
 
@@ -19,4 +16,4 @@ returns c =
 
 pub sparse-head-spec : {M : Type 1} → statement M
 sparse-head-spec =
-    tie.close (tie.spec card-of-requires required-requires sparse-length-requires returns)
+    tie.close (tie.spec card-of-requires (λ c κs. search needs) sparse-length-requires returns)

@@ -7,9 +7,6 @@ use Rattle.value_scalars.proofs.number.bigint_ok.Statement.{statement}
 use Rattle.value_scalars.proofs.number.bigint_ok.Tie as tie
 use Rattle.protocol.specs.Scalars.{half}
 
-decimal-ok-requires : tie.Need-decimal-ok-requires
-decimal-ok-requires c κs = search needs
-
 returns : tie.Need-returns
 returns c = bigint-not _ (sym (c .before .decimal-ok .ensures) ∙ not-true _ (c .if1 .taken))
 
@@ -30,23 +27,24 @@ u16-at-requires-3 : tie.Need-u16-at-requires-3
 u16-at-requires-3 c κs =
     omega (arith, decimal-long _ (sym (c .before .before .before .before .decimal-ok .ensures) ∙ not-false _ (c .before .before .before .if1 .left)))
 
-whole-ok-requires : tie.Need-whole-ok-requires
-whole-ok-requires c κs = search needs
-
 returns-3 : tie.Need-returns-3
 unfolding half
 returns-3 c =
-    c .whole-ok .ensures ∙ bigint-whole _ (sym (c .before .before .before .before .before .before .decimal-ok .ensures) ∙ not-false _ (c .before .before .before .before .before .if1 .left)) _ (c .before .before .before .before .u16-at .ensures .0) _ _ (c .before .before .before .if2 .left) (c .before .before .u16-at2 .ensures .0) (c .before .u16-at3 .ensures .0)
+    c .whole-ok .ensures
+    ∙ bigint-whole _
+    (sym (c .before .before .before .before .before .before .decimal-ok .ensures) ∙ not-false _ (c .before .before .before .before .before .if1 .left)) _
+    (c .before .before .before .before .u16-at .ensures .0) _ _ (c .before .before .before .if2 .left)
+    (c .before .before .u16-at2 .ensures .0) (c .before .u16-at3 .ensures .0)
 
 pub bigint-ok-spec : {M : Type 1} → statement M
 bigint-ok-spec =
     tie.close
     (tie.spec
-    decimal-ok-requires
+    (λ c κs. search needs)
     returns
     u16-at-requires
     returns-2
     u16-at-requires-2
     u16-at-requires-3
-    whole-ok-requires
+    (λ c κs. search needs)
     returns-3)

@@ -9,66 +9,42 @@ use Rattle.protocol.specs.Scalars.{half, sign}
 returns : tie.Need-returns
 returns c = decimal-short _ (c .if1 .taken)
 
-u16-at-requires : tie.Need-u16-at-requires
-u16-at-requires c κs = search needs
-
-cast-n : tie.Need-cast-n
-cast-n c = search needs
-
-mul-if2 : tie.Need-mul-if2
-mul-if2 c = search needs
-
-add-if2 : tie.Need-add-if2
-add-if2 c = search needs
-
 returns-2 : tie.Need-returns-2
 unfolding half
 returns-2 c =
     decimal-length _ _ (c .before .u16-at .ensures .0) (c .before .before .if1 .left) (c .if2 .taken)
 
-u16-at-requires-2 : tie.Need-u16-at-requires-2
-u16-at-requires-2 c κs = search needs
-
-sign-ok-requires : tie.Need-sign-ok-requires
-sign-ok-requires c κs = search needs
-
 returns-3 : tie.Need-returns-3
 unfolding half
 returns-3 c =
-    decimal-sign _ _ (c .before .before .before .before .u16-at .ensures .0) (c .before .before .before .before .before .if1 .left) (c .before .before .before .if2 .left) _ (c .before .sign-ok .ensures ∙ ap sign (c .before .before .u16-at2 .ensures .0)) (not-true _ (c .if3 .taken))
-
-sub-digits-ok : tie.Need-sub-digits-ok
-sub-digits-ok c = search needs
-
-part-digits-ok-start : tie.Need-part-digits-ok-start
-part-digits-ok-start c = search needs
-
-part-digits-ok-end : tie.Need-part-digits-ok-end
-part-digits-ok-end c = search needs
-
-digits-ok-requires : tie.Need-digits-ok-requires
-digits-ok-requires c κs = search needs
+    decimal-sign _ _ (c .before .before .before .before .u16-at .ensures .0) (c .before .before .before .before .before .if1 .left)
+    (c .before .before .before .if2 .left) _ (c .before .sign-ok .ensures ∙ ap sign (c .before .before .u16-at2 .ensures .0))
+    (not-true _ (c .if3 .taken))
 
 returns-4 : tie.Need-returns-4
 unfolding half
 returns-4 c =
-    c .digits-ok .ensures ∙ decimal-digits _ _ (c .before .before .before .before .before .before .u16-at .ensures .0) (c .before .before .before .before .before .before .before .if1 .left) (c .before .before .before .before .before .if2 .left) _ (c .before .before .before .sign-ok .ensures ∙ ap sign (c .before .before .before .before .u16-at2 .ensures .0)) (not-false _ (c .before .before .if3 .left))
+    c .digits-ok .ensures
+    ∙ decimal-digits _ _ (c .before .before .before .before .before .before .u16-at .ensures .0)
+    (c .before .before .before .before .before .before .before .if1 .left) (c .before .before .before .before .before .if2 .left) _
+    (c .before .before .before .sign-ok .ensures ∙ ap sign (c .before .before .before .before .u16-at2 .ensures .0))
+    (not-false _ (c .before .before .if3 .left))
 
 pub decimal-ok-spec : {M : Type 1} → statement M
 decimal-ok-spec =
     tie.close
     (tie.spec
     returns
-    u16-at-requires
-    cast-n
-    mul-if2
-    add-if2
+    (λ c κs. search needs)
+    (λ c. search needs)
+    (λ c. search needs)
+    (λ c. search needs)
     returns-2
-    u16-at-requires-2
-    sign-ok-requires
+    (λ c κs. search needs)
+    (λ c κs. search needs)
     returns-3
-    sub-digits-ok
-    part-digits-ok-start
-    part-digits-ok-end
-    digits-ok-requires
+    (λ c. search needs)
+    (λ c. search needs)
+    (λ c. search needs)
+    (λ c κs. search needs)
     returns-4)

@@ -9,11 +9,8 @@ returns c = whole-none _ _ (c .if1 .taken)
 returns-2 : tie.Need-returns-2
 returns-2 c = whole-negative _ _ (c .before .if1 .left) (c .if2 .taken)
 
-add-result : tie.Need-add-result
-add-result c = search needs
-
 returns-3 : tie.Need-returns-3
 returns-3 c = whole-some _ _ (c .before .if1 .left) (c .if2 .left)
 
 pub whole-ok-spec : {M : Type 1} → statement M
-whole-ok-spec = tie.close (tie.spec returns returns-2 add-result returns-3)
+whole-ok-spec = tie.close (tie.spec returns returns-2 (λ c. search needs) returns-3)

@@ -1,4 +1,4 @@
--- `wire::text::is_within` meets its contract, by its one test. Assumes nothing.
+-- `wire::text::is_within` meets its contract, by its one test.
 use borrow.Author.Tests.{lt-leb, le-leb}
 use Rattle.wire.proofs.text.is_within.Statement.{statement}
 use Rattle.wire.proofs.text.is_within.Tie as tie

@@ -1,4 +1,4 @@
--- `value_heads::sparse::Seen::mark_elements` meets its contract: what is left of the elements leads to the same marks. Assumes nothing.
+-- `value_heads::sparse::Seen::mark_elements` meets its contract: what is left of the elements leads to the same marks.
 use native.Mathlib.Omega.{arith}
 use mathlib.Core.Path.{_≡_, sym}
 use Prim.Native.Nat.{_-_, _≤_}
@@ -22,55 +22,81 @@ loop-holds c =
 sparse-index-requires : tie.Need-sparse-index-requires Inv-loop μ-loop
 sparse-index-requires c κs = (c .before .loop .inv .0, omega arith)
 
-enum-known-index : tie.Need-enum-known-index Inv-loop μ-loop
-enum-known-index c = search needs
-
-enum-told : tie.Need-enum-told Inv-loop μ-loop
-enum-told c = search needs
-
 returns : tie.Need-returns Inv-loop μ-loop
 returns c =
-    marking-done _ _ _ _ _ (c .before .before .before .before .loop .inv .1) (in-bad (c .before .before .before .before .before .before .before .args .s .now) _ _ (c .before .before .before .loop-test .taken) _ (c .before .before .sparse-index .ensures) _ (c .enum-told .given .1))
+    marking-done _ _ _ _ _ (c .before .before .before .before .loop .inv .1)
+    (in-bad (c .before .before .before .before .before .before .before .args .s .now) _ _ (c .before .before .before .loop-test .taken) _
+    (c .before .before .sparse-index .ensures) _ (c .enum-told .given .1))
 
 array-read-either : tie.Need-array-read-either Inv-loop μ-loop
 array-read-either c =
-    in-whole (c .before .before .before .before .before .before .before .before .args .s .now) _ _ (c .before .before .before .before .loop-test .taken) _ (c .before .before .before .sparse-index .ensures) _ (c .before .index .given .1) (c .before .before .before .before .before .loop .inv .0) .0
-
-either-requires : tie.Need-either-requires Inv-loop μ-loop
-either-requires c κs = search needs
+    in-whole (c .before .before .before .before .before .before .before .before .args .s .now) _ _
+    (c .before .before .before .before .loop-test .taken) _ (c .before .before .before .sparse-index .ensures) _
+    (c .before .index .given .1) (c .before .before .before .before .before .loop .inv .0) .0
 
 array-write-marks : tie.Need-array-write-marks Inv-loop μ-loop
 array-write-marks c =
-    in-whole (c .before .before .before .before .before .before .before .before .before .args .s .now) _ _ (c .before .before .before .before .before .loop-test .taken) _ (c .before .before .before .before .sparse-index .ensures) _ (c .before .before .index .given .1) (c .before .before .before .before .before .before .loop .inv .0) .0
+    in-whole (c .before .before .before .before .before .before .before .before .before .args .s .now) _ _
+    (c .before .before .before .before .before .loop-test .taken) _ (c .before .before .before .before .sparse-index .ensures) _
+    (c .before .before .index .given .1) (c .before .before .before .before .before .before .loop .inv .0) .0
 
 sparse-length-requires : tie.Need-sparse-length-requires Inv-loop μ-loop
 sparse-length-requires c κs =
-    in-whole (c .before .before .before .before .before .before .before .before .before .args .s .now) _ _ (c .before .before .before .before .before .loop-test .taken) _ (c .before .before .before .before .sparse-index .ensures) _ (c .before .before .index .given .1) (c .before .before .before .before .before .before .loop .inv .0) .1
-
-enum-known-head : tie.Need-enum-known-head Inv-loop μ-loop
-enum-known-head c = search needs
+    in-whole (c .before .before .before .before .before .before .before .before .before .args .s .now) _ _
+    (c .before .before .before .before .before .loop-test .taken) _ (c .before .before .before .before .sparse-index .ensures) _
+    (c .before .before .index .given .1) (c .before .before .before .before .before .before .loop .inv .0) .1
 
 returns-2 : tie.Need-returns-2 Inv-loop μ-loop
 returns-2 c =
-    let e = in-known (c .before .before .before .before .before .before .before .before .before .before .before .args .s .now) _ _ (c .before .before .before .before .before .before .before .loop-test .taken) _ (c .before .before .before .before .before .before .sparse-index .ensures) _ (c .before .before .before .before .index .given .1) _ (c .before .sparse-length .ensures) in
-    marking-done _ _ _ _ _ (marking-next _ _ _ _ _ (c .before .before .before .before .before .before .before .before .loop .inv .1) _ _ e _ (c .before .before .either .ensures)) (after-none _ _ (c .match2 .keys2))
+    let e =
+    in-known (c .before .before .before .before .before .before .before .before .before .before .before .args .s .now) _ _
+    (c .before .before .before .before .before .before .before .loop-test .taken) _
+    (c .before .before .before .before .before .before .sparse-index .ensures) _ (c .before .before .before .before .index .given .1) _
+    (c .before .sparse-length .ensures)
+    in
+    marking-done _ _ _ _ _
+    (marking-next _ _ _ _ _ (c .before .before .before .before .before .before .before .before .loop .inv .1) _ _ e _ (c .before .before .either .ensures))
+    (after-none _ _ (c .match2 .keys2))
 
 add-pos : tie.Need-add-pos Inv-loop μ-loop
 add-pos c =
-    let w = in-whole (c .before .before .before .before .before .before .before .before .before .before .before .before .before .args .s .now) _ _ (c .before .before .before .before .before .before .before .before .before .loop-test .taken) _ (c .before .before .before .before .before .before .before .before .sparse-index .ensures) _ (c .before .before .before .before .before .before .index .given .1) (c .before .before .before .before .before .before .before .before .before .before .loop .inv .0) in
-    omega (arith, there-inside _ _ _ _ _ _ _ _ (w .1) _ (c .before .before .before .sparse-length .ensures) (c .before .head .given .1), c .before .before .before .before .before .before .before .before .before .before .before .before .before .good)
-
-sub-left : tie.Need-sub-left Inv-loop μ-loop
-sub-left c = search needs
+    let w =
+    in-whole (c .before .before .before .before .before .before .before .before .before .before .before .before .before .args .s .now) _ _
+    (c .before .before .before .before .before .before .before .before .before .loop-test .taken) _
+    (c .before .before .before .before .before .before .before .before .sparse-index .ensures) _
+    (c .before .before .before .before .before .before .index .given .1)
+    (c .before .before .before .before .before .before .before .before .before .before .loop .inv .0)
+    in
+    omega (
+      arith,
+      there-inside _ _ _ _ _ _ _ _ (w .1) _ (c .before .before .before .sparse-length .ensures) (c .before .head .given .1),
+      c .before .before .before .before .before .before .before .before .before .before .before .before .before .good,
+    )
 
 loop-less : tie.Need-loop-less Inv-loop μ-loop
 loop-less c = omega arith
 
 loop-again : tie.Need-loop-again Inv-loop μ-loop
 loop-again c =
-    let w = in-whole (c .before .before .before .before .before .before .before .before .before .before .before .before .before .args .s .now) _ _ (c .before .before .before .before .before .before .before .before .before .loop-test .taken) _ (c .before .before .before .before .before .before .before .before .sparse-index .ensures) _ (c .before .before .before .before .before .before .index .given .1) (c .before .before .before .before .before .before .before .before .before .before .loop .inv .0) in
-    let e = in-known (c .before .before .before .before .before .before .before .before .before .before .before .before .before .args .s .now) _ _ (c .before .before .before .before .before .before .before .before .before .loop-test .taken) _ (c .before .before .before .before .before .before .before .before .sparse-index .ensures) _ (c .before .before .before .before .before .before .index .given .1) _ (c .before .before .before .sparse-length .ensures) in
-    (there-inside _ _ _ _ _ _ _ _ (w .1) _ (c .before .before .before .sparse-length .ensures) (c .before .head .given .1), rw (sym (after-there (indexesIn (c .before .before .before .before .before .before .before .before .before .before .before .before .before .args .s .now) (c .before .before .before .before .before .before .before .before .before .before .loop .left - 1)) _ _ _ _ (c .before .head .given .1))) (marking-next _ _ _ _ _ (c .before .before .before .before .before .before .before .before .before .before .loop .inv .1) _ _ e _ (c .before .before .before .before .either .ensures)))
+    let w =
+    in-whole (c .before .before .before .before .before .before .before .before .before .before .before .before .before .args .s .now) _ _
+    (c .before .before .before .before .before .before .before .before .before .loop-test .taken) _
+    (c .before .before .before .before .before .before .before .before .sparse-index .ensures) _
+    (c .before .before .before .before .before .before .index .given .1)
+    (c .before .before .before .before .before .before .before .before .before .before .loop .inv .0)
+    in
+    let e =
+    in-known (c .before .before .before .before .before .before .before .before .before .before .before .before .before .args .s .now) _ _
+    (c .before .before .before .before .before .before .before .before .before .loop-test .taken) _
+    (c .before .before .before .before .before .before .before .before .sparse-index .ensures) _
+    (c .before .before .before .before .before .before .index .given .1) _ (c .before .before .before .sparse-length .ensures)
+    in (
+      there-inside _ _ _ _ _ _ _ _ (w .1) _ (c .before .before .before .sparse-length .ensures) (c .before .head .given .1),
+      rw (sym (after-there (indexesIn (c .before .before .before .before .before .before .before .before .before .before .before .before .before .args .s .now)
+          (c .before .before .before .before .before .before .before .before .before .before .loop .left - 1)) _ _ _ _
+          (c .before .head .given .1)))
+          (marking-next _ _ _ _ _ (c .before .before .before .before .before .before .before .before .before .before .loop .inv .1) _ _ e _ (c .before .before .before .before .either .ensures)),
+    )
 
 returns-3 : tie.Need-returns-3 Inv-loop μ-loop
 returns-3 c =
@@ -84,17 +110,17 @@ mark-elements-spec =
     μ-loop
     loop-holds
     sparse-index-requires
-    enum-known-index
-    enum-told
+    (λ c. search needs)
+    (λ c. search needs)
     returns
     array-read-either
-    either-requires
+    (λ c κs. search needs)
     array-write-marks
     sparse-length-requires
-    enum-known-head
+    (λ c. search needs)
     returns-2
     add-pos
-    sub-left
+    (λ c. search needs)
     loop-less
     loop-again
     returns-3)

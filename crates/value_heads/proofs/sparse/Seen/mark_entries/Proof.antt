@@ -1,4 +1,4 @@
--- `value_heads::sparse::Seen::mark_entries` meets its contract: what is left of the entries leads to the same marks. Assumes nothing.
+-- `value_heads::sparse::Seen::mark_entries` meets its contract: what is left of the entries leads to the same marks.
 use native.Mathlib.Omega.{arith}
 use mathlib.Core.Path.{_≡_}
 use mathlib.Core.Logic.{⊎-elim}
@@ -24,32 +24,12 @@ loop-holds c =
 
 returns : tie.Need-returns Inv-loop μ-loop
 returns c =
-    marking-done _ _ _ _ _ (c .before .before .loop .inv) (apart-past (c .before .before .before .before .before .args .list .now) (c .before .before .before .before .before .args .step) _ _ (c .if1 .taken))
-
-mul-i : tie.Need-mul-i Inv-loop μ-loop
-mul-i c = search needs
-
-shared-slice-read-i : tie.Need-shared-slice-read-i Inv-loop μ-loop
-shared-slice-read-i c = search needs
+    marking-done _ _ _ _ _ (c .before .before .loop .inv)
+    (apart-past (c .before .before .before .before .before .args .list .now) (c .before .before .before .before .before .args .step) _ _ (c .if1 .taken))
 
 cast-i : tie.Need-cast-i Inv-loop μ-loop
 cast-i c =
     omega (arith, c .before .before .before .before .before .shared-slice-known .given (c .before .before .before .loop .word))
-
-array-read-either : tie.Need-array-read-either Inv-loop μ-loop
-array-read-either c = search needs
-
-either-requires : tie.Need-either-requires Inv-loop μ-loop
-either-requires c κs = search needs
-
-array-write-marks : tie.Need-array-write-marks Inv-loop μ-loop
-array-write-marks c = search needs
-
-add-word : tie.Need-add-word Inv-loop μ-loop
-add-word c = search needs
-
-sub-left : tie.Need-sub-left Inv-loop μ-loop
-sub-left c = search needs
 
 loop-less : tie.Need-loop-less Inv-loop μ-loop
 loop-less c = omega arith
@@ -63,8 +43,14 @@ loop-again c =
     let e : indexesApart l k (at .left) (at .word) ≡ i ∷ indexesApart l k (at .left - 1) (at .word + k) =
     apart-more l k (at .left) (at .word) (c .before .before .before .loop-test .taken) (c .before .before .if1 .left) in
     ⊎-elim
-    (λ w. rw (w .2, w .3) (marking-next (c .before .before .before .before .before .before .before .args .self .marks) (indexesApart l k (c .before .before .before .before .before .before .before .args .n) (c .before .before .before .before .before .before .before .args .first)) (at .marks) (at .twice) (indexesApart l k (at .left) (at .word)) (at .inv) i _ e _ (w .1 .ensures)))
-    (λ w. rw (w .1, w .2) (marking-past (c .before .before .before .before .before .before .before .args .self .marks) (indexesApart l k (c .before .before .before .before .before .before .before .args .n) (c .before .before .before .before .before .before .before .args .first)) (at .marks) (at .twice) (indexesApart l k (at .left) (at .word)) (at .inv) i _ e (w .0 .left)))
+    (λ w. rw (w .2, w .3)
+    (marking-next (c .before .before .before .before .before .before .before .args .self .marks)
+    (indexesApart l k (c .before .before .before .before .before .before .before .args .n) (c .before .before .before .before .before .before .before .args .first))
+    (at .marks) (at .twice) (indexesApart l k (at .left) (at .word)) (at .inv) i _ e _ (w .1 .ensures)))
+    (λ w. rw (w .1, w .2)
+    (marking-past (c .before .before .before .before .before .before .before .args .self .marks)
+    (indexesApart l k (c .before .before .before .before .before .before .before .args .n) (c .before .before .before .before .before .before .before .args .first))
+    (at .marks) (at .twice) (indexesApart l k (at .left) (at .word)) (at .inv) i _ e (w .0 .left)))
     (c .if2 .came)
 
 returns-2 : tie.Need-returns-2 Inv-loop μ-loop
@@ -79,14 +65,14 @@ mark-entries-spec =
     μ-loop
     loop-holds
     returns
-    mul-i
-    shared-slice-read-i
+    (λ c. search needs)
+    (λ c. search needs)
     cast-i
-    array-read-either
-    either-requires
-    array-write-marks
-    add-word
-    sub-left
+    (λ c. search needs)
+    (λ c κs. search needs)
+    (λ c. search needs)
+    (λ c. search needs)
+    (λ c. search needs)
     loop-less
     loop-again
     returns-2)
