@@ -11,3 +11,4 @@ pub mod Progress
 pub mod BlockFuel
 pub mod Accepted
 pub mod IdFirst
+pub mod Numbers

@@ -1,0 +1,5 @@
+-- That what specs/Theorems states holds.
+pub mod Accepted
+pub mod Lists
+pub mod Bytes
+pub mod Theorems
