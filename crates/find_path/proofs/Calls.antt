@@ -22,7 +22,7 @@ use Rattle.protocol.specs.Values.{ValueOutcome, valueOf}
 use Rattle.protocol.specs.Answers.{refused, accepted}
 use Rattle.protocol.specs.Plans.{look, noType, planFormed}
 use Rattle.plan_nodes.specs.Readers.{At}
-use Rattle.protocol.specs.Running.{nothingIn, valueBy, checked}
+use Rattle.protocol.specs.Running.{nothingIn, valueBy, checked, admitted}
 use Rattle.protocol.specs.Finding.{topOf, follow, foundAt, foundIn, findOf}
 
 -- what it takes for a value to be accepted
@@ -42,7 +42,7 @@ passed-by s true o f e = go (ltb 65535 (length s)) refl e
 passed-by s false o f e = let z : _≡_ {A = ℕ} 0 1 = cc in absurd (omega arith)
 
 pub passed : (p s : List ℕ) (f : Forest) → checked p s ≡ accepted f → Passed p s f
-unfolding checked
+unfolding checked admitted
 passed p s f e = let x = passed-by s (planFormed p) (valueBy p s) f e in record { formed = x .0; few = x .1; value = x .2 }
 
 -- "no type" lists nothing

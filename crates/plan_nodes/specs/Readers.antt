@@ -1,10 +1,9 @@
 -- What the readers of a plan's nodes take and give.
 use mathlib.Core.Path.{_≡_}
-use Prim.Native.Nat.{ℕ, _≤_}
+use Prim.Native.Nat.{ℕ, _≤_, _^_, _<_}
 use mathlib.Core.List.{List}
 use mathlib.Core.Option.{some}
 use lib.ListN.{getD}
-use Prim.Native.Nat.{_^_, _<_}
 use mathlib.Core.Bool.{true}
 use Rattle.protocol.specs.Nodes.{Node, refAt}
 use Rattle.protocol.specs.Plans.{nodesOf, planFormed, startsIn}

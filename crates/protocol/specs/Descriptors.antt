@@ -1,7 +1,7 @@
 -- Descriptors (R3): what their blocks say, how a block is read from its own bytes, and which descriptors are accepted. How a block's bytes are
 -- found, and which place a refusal names, is said near the end, so that another form of descriptor needs no more than another `BlockForm`.
 use Prim.Native.Nat.{ℕ, zero, suc, _+_, _-_}
-use mathlib.Core.Bool.{Bool, true, false, not}
+use mathlib.Core.Bool.{Bool, true, not}
 use mathlib.Core.List.{List, [], _∷_, _++_, map}
 use mathlib.Core.Option.{Option, none, some, Option·map}
 use lib.Dec.{leb, ltb, eqb}

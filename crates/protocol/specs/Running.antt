@@ -18,9 +18,13 @@ nothingIn s = pick (eqb (length s) 0) (accepted empty) (refused VALUE-LEFT 0)
 unfoldable pub valueBy : List ℕ → List ℕ → ValueOutcome
 valueBy p s = pick (noType p) (nothingIn s) (valueOf (look p) (getD p 1 0) 0 0 s)
 
--- the outcome but for the list's room: R4.4, R5.1, and then the value's own faults
+-- R4.4, R5.1: the refusals before the value is looked at, or what comes then
+unfoldable pub admitted : List ℕ → List ℕ → ValueOutcome → ValueOutcome
+admitted p s o = pick (planFormed p) (pick (ltb MOST-VALUE (length s)) (refused VALUE-SIZE 0) o) (refused BAD-PLAN 0)
+
+-- the outcome but for the list's room
 unfoldable pub checked : List ℕ → List ℕ → ValueOutcome
-checked p s = pick (planFormed p) (pick (ltb MOST-VALUE (length s)) (refused VALUE-SIZE 0) (valueBy p s)) (refused BAD-PLAN 0)
+checked p s = admitted p s (valueBy p s)
 
 -- R6.9
 unfoldable pub listRoomed : ℕ → ValueOutcome → ValueOutcome

@@ -19,7 +19,7 @@ use Rattle.protocol.specs.Numbers.{pick}
 use Rattle.protocol.specs.Values.{ValueOutcome, valueOf}
 use Rattle.protocol.specs.Answers.{refused}
 use Rattle.protocol.specs.Plans.{noType as plan·noType, look, planFormed}
-use Rattle.protocol.specs.Running.{listRoomed, valueBy, checked, runOf}
+use Rattle.protocol.specs.Running.{listRoomed, valueBy, checked, runOf, admitted}
 
 -- ---- a descriptor with a type
 
@@ -34,7 +34,7 @@ module _ (bs : List Block) (root : ℕ) (a : Accepted bs) (v : Valued bs root) w
       root v (omega (arith, v .inside, a .few)) 0 0 s
 
   run-same : (s : List ℕ) → checked (planWords bs root) s ≡ judged (described bs root) s
-  unfolding checked valueBy judged planWords
+  unfolding checked valueBy judged planWords admitted
   run-same s =
       pick-yes _ _ _ (plan-formed bs a root v)
       ∙ ap (λ (o : ValueOutcome). pick (ltb 65535 (length s)) (refused 28 0) o) (pick-no _ _ _ (some-type bs a root v) ∙ value-same s)
@@ -46,7 +46,7 @@ unfolding planFormed plan·noType pick
 none-formed = refl
 
 none-same : (s : List ℕ) → checked (2 ∷ 0 ∷ []) s ≡ judged noType s
-unfolding checked valueBy judged planFormed plan·noType pick
+unfolding checked valueBy judged planFormed plan·noType pick admitted
 none-same s = refl
 
 module _ (d root ws : List ℕ) (e : planOf (descriptionOf d root) ≡ descriptor.plan ws) where

@@ -6,23 +6,23 @@ use Prim.Native.Nat.{ℕ, zero, suc, _+_, _≤_, _<_}
 use native.Mathlib.Omega.{arith}
 use lib.ListN.{length, getD, take}
 use lib.Seq.{take-suc, take-length}
-use borrow.Author.Tests.{le-leb, lt-ltb}
+use borrow.Author.Tests.{lt-ltb}
 use Rattle.descriptor_fields.specs.Fields.{Known, Element}
 use Rattle.descriptor_blocks.proofs.Elements.{noElement, target, raisedBy, raised-snoc}
 use Rattle.descriptor_blocks.proofs.Sound.{raised-least}
 use Rattle.protocol.specs.Numbers.{pick, atLeast}
-use Rattle.protocol.specs.Plans.{PlanNode as plan·PlanNode, placedAt, mayRefer, raised, refer, referAll}
+use Rattle.protocol.specs.Plans.{PlanNode, placedAt, mayRefer, raised, refer, referAll}
 use mathlib.Core.Option.{some}
 
 -- a reference finds the node of an element's block
-pub record Reached (known : List Known) (seen : List plan·PlanNode) (kind r : ℕ) (e : Element) : Type 0 where
-  pub node : plan·PlanNode
+pub record Reached (known : List Known) (seen : List PlanNode) (kind r : ℕ) (e : Element) : Type 0 where
+  pub node : PlanNode
   pub found : placedAt seen r ≡ some node
   pub may : mayRefer kind (node .kind) ≡ true
   pub same : node .height ≡ target known e .height
   pub low : target known e .height ≤ 31
 
-module _ (known : List Known) (seen : List plan·PlanNode) (kind : ℕ) where
+module _ (known : List Known) (seen : List PlanNode) (kind : ℕ) where
   refer-reached : (r h : ℕ) (e : Element) → 1 ≤ h → Reached known seen kind r e → refer seen kind r h ≡ atLeast h (target known e .height + 1)
   unfolding refer raised pick
   refer-reached r zero e l q = absurd (omega arith)

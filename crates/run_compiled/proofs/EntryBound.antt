@@ -12,7 +12,7 @@ use Rattle.protocol.specs.Lists.{Forest, count}
 use Rattle.protocol.specs.Values.{ValueOutcome, valueOf}
 use Rattle.protocol.specs.Answers.{refused, accepted, Outcome as Answered, refused as turnedDown}
 use Rattle.protocol.specs.Compiling.{wholePlan}
-use Rattle.protocol.specs.Running.{nothingIn, listRoomed, valueBy, checked, runOf}
+use Rattle.protocol.specs.Running.{nothingIn, listRoomed, valueBy, checked, runOf, admitted}
 
 -- ---- off a plan
 
@@ -22,7 +22,7 @@ roomed-fits n room (refused m p) h = h
 roomed-fits n room (accepted f) h = pick-case (Fits n) _ _ _ (λ _. zero-le) (λ _. h)
 
 pub run-fits : (p s : List ℕ) (room : ℕ) → Fits (length s + 4) (runOf p s room)
-unfolding runOf checked valueBy nothingIn valueOf count
+unfolding runOf checked valueBy nothingIn valueOf count admitted
 run-fits p s room =
     let P = Fits (length s + 4) in
     roomed-fits (length s + 4) room (checked p s)

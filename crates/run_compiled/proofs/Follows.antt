@@ -23,7 +23,7 @@ use Rattle.protocol.specs.Lists.{count}
 use Rattle.protocol.specs.Values.{ValueOutcome as ListOutcome}
 use Rattle.protocol.specs.Answers.{refused as refusedList, accepted, Outcome, refused}
 use Rattle.protocol.specs.Compiling.{compileBy, planAfter}
-use Rattle.protocol.specs.Running.{listAfter as run·listAfter, runOf as run·runOf}
+use Rattle.protocol.specs.Running.{listAfter, runOf}
 
 -- an outcome of few entries answers with few
 few-of : (n : ℕ) (o : ListOutcome) → Fits (n + 4) o → Few n (run.answerOf o)
@@ -45,7 +45,7 @@ pub record Written (d root : List ℕ) (w : ℕ) (p p′ : List ℕ) : Type 0 wh
 
 module _ (d root : List ℕ) (a : Answer) (p p′ : List ℕ) (g : Gives (compileBy bareForm d root (length p)) a p p′) where
   pub follows-refused : (s l : List ℕ) (n q : ℕ) → a ≡ Refused n q → Follows d root s (ran-variants.Refused n q) p p′ l l
-  unfolding compiledThen run.answerOf run·listAfter Few
+  unfolding compiledThen run.answerOf listAfter Few
   follows-refused s l n q e =
       let o = refused-of _ n q (sym e ∙ g .answer) in
       record { plan = g .plan; gives = rw o (record { answer = refl; list = refl }); few = tt }
@@ -67,11 +67,11 @@ module _ (d root : List ℕ) (a : Answer) (p p′ : List ℕ) (g : Gives (compil
     pub written : Written d root w p p′
     written = written-in (compileBy bareForm d root (length p)) refl (sym e ∙ g .answer) (g .plan)
 
-    pub follows-run : (s l l′ : List ℕ) (r : ran.Answer) → run.Gives (run·runOf (take w p′) s (length l)) r l l′ → Follows d root s r p p′ l l′
+    pub follows-run : (s l l′ : List ℕ) (r : ran.Answer) → run.Gives (runOf (take w p′) s (length l)) r l l′ → Follows d root s r p p′ l l′
     unfolding compiledThen
     follows-run s l l′ r h =
         let q = compiled-is d root (length p) (written .words) (written .is) in
-        let o : run·runOf (take w p′) s (length l) ≡ rulesBy bareForm d root s (length l) =
-        ap (λ (ws : List ℕ). run·runOf ws s (length l)) (written .first ∙ q .is)
+        let o : runOf (take w p′) s (length l) ≡ rulesBy bareForm d root s (length l) =
+        ap (λ (ws : List ℕ). runOf ws s (length l)) (written .first ∙ q .is)
         ∙ demand-three d root (q .type) (q .accepts) s (length l) in
         record { plan = g .plan; gives = rw (written .is) (rw o at h); few = rw (h .answer, o) (rules-few d root s (length l)) }

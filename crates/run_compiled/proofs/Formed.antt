@@ -24,11 +24,11 @@ use Rattle.run_compiled.proofs.Renames.{map-at, rename-kind, rename-ref
 use Rattle.run_compiled.proofs.Climbs.{Reached, climb-all}
 use Rattle.run_compiled.proofs.Blocks.{shape-at, facts, earlier, refs-count, refs-at, renames-same, stands-block}
 use Rattle.protocol.specs.Nodes.{Node, rename}
-use Rattle.protocol.specs.Plans.{PlanNode as plan·PlanNode, placedAt, look, referAll, nodeSize, nodeHeight, NodesRead, nodes, readNode}
+use Rattle.protocol.specs.Plans.{PlanNode, placedAt, look, referAll, nodeSize, nodeHeight, NodesRead, nodes, readNode}
 use Rattle.protocol.specs.Plans.{thenNodes, readNodes, nodesOf, isSome, startsIn, noType, planFormed}
 
 -- a node that is whole, with its kind and its height
-read-gives : (p : List ℕ) (at : ℕ) (seen : List plan·PlanNode) (k h : ℕ) → at + nodeSize (getD p at 0) (getD p (at + 1) 0) ≤ length p → getD p at 0 ≡ k
+read-gives : (p : List ℕ) (at : ℕ) (seen : List PlanNode) (k h : ℕ) → at + nodeSize (getD p at 0) (getD p (at + 1) 0) ≤ length p → getD p at 0 ≡ k
     → nodeHeight p at seen (getD p at 0) (getD p (at + 1) 0) ≡ h → (h ≡ 0 → ⊥) → readNode p at seen ≡ nodes (seen ++ (record { start = at; kind = k; height = h } ∷ []))
 unfolding readNode
 read-gives p at seen k h w e g n =
@@ -112,7 +112,7 @@ module _ (bs : List Block) (a : Accepted bs) (root : ℕ) where
     read-block =
         let k : getD p (place bs i) 0 ≡ kindOf (block i .shape) = at-node .kind ∙ rename-kind (nodeAt (summaries bs)) (block i .shape) in
         let known : seenOf (take (suc i) bs) ≡ seenOf (take i bs) ++ (knownOf (block i) ∷ []) =
-        seen-next bs a i (v .inside) ∙ ap (λ (l : List plan·PlanNode). seenOf (take i bs) ++ l) (pick-yes _ _ _ (v .values))
+        seen-next bs a i (v .inside) ∙ ap (λ (l : List PlanNode). seenOf (take i bs) ++ l) (pick-yes _ _ _ (v .values))
         in
         read-gives p (place bs i) (seenOf (take i bs)) (kindOf (block i .shape)) (block i .height) (omega (arith, at-node .size, at-node .inside)) k height-block height-some
         ∙ ap (λ (n : ℕ). nodes (seenOf (take i bs) ++ (record { start = n; kind = kindOf (block i .shape); height = block i .height } ∷ []))) (sym (node-is bs a i (v .inside)))
@@ -143,7 +143,7 @@ module _ (bs : List Block) (a : Accepted bs) (root : ℕ) where
   read-past f i l e =
       let w : place bs (suc i) ≡ place bs i = place-next bs a i l ∙ ap (λ (ws : List ℕ). place bs i + length ws) (words-none bs a i l e) ∙ add-zero (place bs i) in
       let k : seenOf (take (suc i) bs) ≡ seenOf (take i bs) =
-      seen-next bs a i l ∙ ap (λ (l : List plan·PlanNode). seenOf (take i bs) ++ l) (pick-no _ _ _ e) ∙ append-nil (seenOf (take i bs))
+      seen-next bs a i l ∙ ap (λ (l : List PlanNode). seenOf (take i bs) ++ l) (pick-no _ _ _ e) ∙ append-nil (seenOf (take i bs))
       in
       rw (w, k)
 

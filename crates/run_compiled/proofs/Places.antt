@@ -19,7 +19,7 @@ use Rattle.descriptor_blocks.proofs.Accepted.{missing, Made, Accepted}
 use Rattle.run_compiled.proofs.Words.{kindOf}
 use Rattle.protocol.specs.Numbers.{pick}
 use Rattle.protocol.specs.Nodes.{Node, leaf, enum, row, arrays, tuple, object, sparse, range, rename}
-use Rattle.protocol.specs.Plans.{PlanNode as plan·PlanNode, placedAt, isSome}
+use Rattle.protocol.specs.Plans.{PlanNode, placedAt, isSome}
 use mathlib.Core.Option.{none, some}
 
 -- ---- blocks and their summaries
@@ -51,10 +51,10 @@ words-some (range r) = omega arith
 -- ---- the nodes that were read
 
 -- what a plan's reading knows of a block's node
-unfoldable pub knownOf : Block → plan·PlanNode
+unfoldable pub knownOf : Block → PlanNode
 knownOf b = record { start = b .node; kind = kindOf (b .shape); height = b .height }
 
-unfoldable pub seenOf : List Block → List plan·PlanNode
+unfoldable pub seenOf : List Block → List PlanNode
 seenOf [] = []
 seenOf (b ∷ bs) = pick (valued (b .tag)) (knownOf b ∷ seenOf bs) (seenOf bs)
 
@@ -74,7 +74,7 @@ seen-few (x ∷ xs) =
     pick-case (λ l. length l ≤ suc (length xs)) (valued (x .tag)) (knownOf x ∷ seenOf xs) (seenOf xs)
     (λ _. omega (arith, seen-few xs)) (λ _. omega (arith, seen-few xs))
 
-find-after : (xs ys : List plan·PlanNode) (k : ℕ) → placedAt xs k ≡ none → placedAt (xs ++ ys) k ≡ placedAt ys k
+find-after : (xs ys : List PlanNode) (k : ℕ) → placedAt xs k ≡ none → placedAt (xs ++ ys) k ≡ placedAt ys k
 unfolding placedAt pick
 find-after [] ys k = λ e. refl
 find-after (x ∷ xs) ys k = go (find-after xs ys k) (eqb (x .start) k)
@@ -158,7 +158,7 @@ module _ (bs : List Block) (a : Accepted bs) where
       let z : place bs i ≤ block r .node = omega (arith, node-is i m, ap (λ (k : ℕ). block k .node) e) in
       find-after (seenOf (take i bs)) _ (block r .node) (find-low i (block r .node) (omega arith) z)
       ∙ ap (λ (k : ℕ). placedAt (pick (valued (block k .tag)) (knownOf (block k) ∷ []) []) (block r .node)) (sym e)
-      ∙ ap (λ (l : List plan·PlanNode). placedAt l (block r .node)) (pick-yes (valued (block r .tag)) (knownOf (block r) ∷ []) [] v)
+      ∙ ap (λ (l : List PlanNode). placedAt l (block r .node)) (pick-yes (valued (block r .tag)) (knownOf (block r) ∷ []) [] v)
       ∙ pick-yes _ _ none (eq-eqb (block r .node) (block r .node) refl))
       (λ (e : r < i).
       let f = find-block i r (omega arith) e v in

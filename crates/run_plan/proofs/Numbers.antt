@@ -18,7 +18,7 @@ use Rattle.protocol.specs.Values.{ValueOutcome, valueOf, fuel}
 use Rattle.protocol.specs.Answers.{refused, accepted}
 use Rattle.protocol.specs.Plans.{look, planFormed}
 use Rattle.plan_nodes.specs.Readers.{At}
-use Rattle.protocol.specs.Running.{nothingIn, listRoomed, valueBy, checked, runOf}
+use Rattle.protocol.specs.Running.{nothingIn, listRoomed, valueBy, checked, runOf, admitted}
 
 -- of a value of n bytes: 28 at 0, or as its own rules judge it
 abbrev Sized : ℕ → ValueOutcome → Type 0
@@ -62,16 +62,16 @@ look-covered p k =
 
 module _ (p s : List ℕ) where
   unformed-is : planFormed p ≡ false → checked p s ≡ refused 33 0
-  unfolding checked
+  unfolding checked admitted
   unformed-is e = pick-no _ _ _ e
 
   module _ (f : planFormed p ≡ true) where
     large-is : ltb 65535 (length s) ≡ true → checked p s ≡ refused 28 0
-    unfolding checked
+    unfolding checked admitted
     large-is h = pick-yes _ _ _ f ∙ pick-yes _ _ _ h
 
     small-is : ltb 65535 (length s) ≡ false → checked p s ≡ valueBy p s
-    unfolding checked
+    unfolding checked admitted
     small-is h = pick-yes _ _ _ f ∙ pick-no _ _ _ h
 
 module _ (p : List ℕ) (w : (j : ℕ) → getD p j 0 < 2 ^ 32) (s : List ℕ) where
@@ -87,7 +87,7 @@ module _ (p : List ℕ) (w : (j : ℕ) → getD p j 0 < 2 ^ 32) (s : List ℕ) w
       value-judged (look p) (At p) (at-ref p) (λ k _. look-covered p k) (length s) fuel (getD p 1 0) a (a .small) 0 0 s (omega arith))
 
   checked-sized : planFormed p ≡ true → Sized (length s) (checked p s)
-  unfolding checked
+  unfolding checked admitted
   checked-sized formed =
       let S = Sized (length s) in
       pick-case S _ _ _

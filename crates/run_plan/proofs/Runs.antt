@@ -15,15 +15,15 @@ use Rattle.plan_nodes.proofs.Nodes.{at-root, at-low}
 use Rattle.value_parts.specs.Walk.{stopped, reached, walkOf, led, Within}
 use Rattle.value_parts.specs.declared.Step as Step
 use Rattle.value_parts.specs.declared.Step.the-variants.{Refused, Reached}
-use Rattle.run_plan.specs.Run.{earlyFault, answerOf, Gives, Stored, Checks}
+use Rattle.run_plan.specs.Run.{earlyFault, answerOf, Gives, Stored, Checks, faultIn}
 use Rattle.run_plan.specs.declared.Answer.{Answer}
 use Rattle.run_plan.specs.declared.Answer.the-variants.{Listed}
 use Rattle.protocol.specs.Numbers.{pick}
-use Rattle.protocol.specs.Lists.{Forest, words}
+use Rattle.protocol.specs.Lists.{Forest, empty, words}
 use Rattle.protocol.specs.Values.{ValueOutcome, valueOf}
 use Rattle.protocol.specs.Answers.{refused, accepted}
 use Rattle.protocol.specs.Plans.{look, noType, nodesOf, startsIn, planFormed}
-use Rattle.protocol.specs.Running.{nothingIn, listRoomed, valueBy, checked, runOf, listAfter}
+use Rattle.protocol.specs.Running.{nothingIn, listRoomed, valueBy, checked, runOf, listAfter, admitted}
 
 -- ---- a well-formed plan's root
 
@@ -120,37 +120,37 @@ module _ (p s : List ℕ) (f : planFormed p ≡ true) (l l′ : List ℕ) where
 
 module _ (p s : List ℕ) where
   pub fault-unformed : planFormed p ≡ false → 33 ≡ earlyFault p s
-  unfolding earlyFault pick
+  unfolding earlyFault faultIn admitted pick
   fault-unformed e = rw e
 
   module _ (f : planFormed p ≡ true) where
     pub fault-large : 65535 < length s → 28 ≡ earlyFault p s
-    unfolding earlyFault pick
+    unfolding earlyFault faultIn admitted pick
     fault-large h = rw (f, lt-ltb 65535 (length s) h)
 
     pub fault-none : length s ≤ 65535 → 0 ≡ earlyFault p s
-    unfolding earlyFault pick
+    unfolding earlyFault faultIn admitted pick
     fault-none h = rw (f, le-ltb 65535 (length s) h)
 
-  early-cases : (n : ℕ) (a b : Bool) → n ≡ pick a (pick b 28 0) 33 → (n ≡ 0 → ⊥) → pick a (pick b (refused 28 0) (valueBy p s)) (refused 33 0) ≡ refused n 0
-  unfolding pick
+  early-cases : (n : ℕ) (a b : Bool) → n ≡ faultIn (pick a (pick b (refused 28 0) (accepted empty)) (refused 33 0)) → (n ≡ 0 → ⊥) → pick a (pick b (refused 28 0) (valueBy p s)) (refused 33 0) ≡ refused n 0
+  unfolding pick faultIn
   early-cases n true true e z = rw e
   early-cases n true false e z = absurd (z e)
   early-cases n false b e z = rw e
 
   pub early-refused : (n : ℕ) → n ≡ earlyFault p s → (n ≡ 0 → ⊥) → checked p s ≡ refused n 0
-  unfolding earlyFault checked
+  unfolding earlyFault admitted checked faultIn
   early-refused n e z = early-cases n (planFormed p) (ltb 65535 (length s)) e z
 
-  none-cases : (a b : Bool) → _≡_ {A = ℕ} 0 (pick a (pick b 28 0) 33) → (a ≡ true) × (b ≡ false)
-  unfolding pick
+  none-cases : (a b : Bool) → _≡_ {A = ℕ} 0 (faultIn (pick a (pick b (refused 28 0) (accepted empty)) (refused 33 0))) → (a ≡ true) × (b ≡ false)
+  unfolding pick faultIn
   none-cases true true e = absurd (omega arith)
   none-cases true false e = (refl, refl)
   none-cases false b e = absurd (omega arith)
 
   -- where none refuses, the value's own rules are left
   pub early-none : (n : ℕ) → n ≡ earlyFault p s → n ≡ 0 → (planFormed p ≡ true) × (length s ≤ 65535) × (checked p s ≡ valueBy p s)
-  unfolding earlyFault checked pick
+  unfolding earlyFault faultIn admitted checked pick
   early-none n e z =
       let h = none-cases (planFormed p) (ltb 65535 (length s)) (sym z ∙ e) in
       (h .0, ltb-false 65535 (length s) (h .1), rw (h .0, h .1))

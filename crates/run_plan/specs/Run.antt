@@ -2,21 +2,22 @@
 use mathlib.Core.Path.{_≡_}
 use Prim.Native.Nat.{ℕ, _*_, _+_, _≤_}
 use mathlib.Core.List.{List}
-use lib.Dec.{ltb}
 use lib.ListN.{length}
 use lib.Seq.{sets}
 use Rattle.run_plan.specs.declared.Answer.{Answer}
 use Rattle.run_plan.specs.declared.Answer.the-variants.{Refused, Listed}
-use Rattle.protocol.specs.Numbers.{pick}
-use Rattle.protocol.specs.Lists.{Forest, words}
+use Rattle.protocol.specs.Lists.{Forest, empty, words}
 use Rattle.protocol.specs.Values.{ValueOutcome}
 use Rattle.protocol.specs.Answers.{refused, accepted}
-use Rattle.protocol.specs.Running.{listAfter}
-use Rattle.protocol.specs.Plans.{planFormed}
+use Rattle.protocol.specs.Running.{listAfter, admitted}
 
 -- the refusals before the value is looked at, 0 where there is none
+unfoldable pub faultIn : ValueOutcome → ℕ
+faultIn (refused n p) = n
+faultIn (accepted f) = 0
+
 unfoldable pub earlyFault : List ℕ → List ℕ → ℕ
-earlyFault p s = pick (planFormed p) (pick (ltb 65535 (length s)) 28 0) 33
+earlyFault p s = faultIn (admitted p s (accepted empty))
 
 -- ---- what the call answers and leaves in the list
 

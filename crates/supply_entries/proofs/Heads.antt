@@ -11,7 +11,7 @@ use borrow.Author.Tests.{eq-eqb, ne-eqb}
 use Rattle.wire.proofs.Numbers.{length-bytes}
 use Rattle.wire.proofs.Picks.{clash}
 use Rattle.value_parts.specs.Walk.{Container}
-use Rattle.supply_entries.specs.Emitting.{headOf, headSize}
+use Rattle.supply_entries.specs.Emitting.{headOf, headSize, withKind}
 use Rattle.supply_entries.proofs.Stores.{put-eight}
 use Rattle.value_parts.proofs.Containers.{by-kind}
 use Rattle.protocol.specs.Numbers.{pick, bytesBe}
@@ -25,33 +25,33 @@ use Rattle.protocol.specs.Building.{headBytes, mayLack}
 module _ (kind i n at : ℕ) (l l′ : List ℕ) where
   pub head-envelope : kind ≡ 3 → (l″ : List ℕ) → l″ ≡ sets l at (bytesBe 4 (12 + n) ++ bytesBe 4 1) → l′ ≡ sets l″ (at + 8) (bytesBe 4 0 ++ bytesBe 4 n)
       → l′ ≡ sets l at (headOf kind i n)
-  unfolding headOf pick bytesBe
+  unfolding headOf pick bytesBe withKind headBytes
   head-envelope e l″ f g = rw (eq-eqb kind 3 e) (put-eight l l″ l′ at (12 + n) 1 (bytesBe 4 0 ++ bytesBe 4 n) f g)
 
   module _ (n₃ : kind ≡ 3 → ⊥) where
     pub head-index : kind ≡ 6 → l′ ≡ sets l at (bytesBe 4 i ++ bytesBe 4 n) → l′ ≡ sets l at (headOf kind i n)
-    unfolding headOf pick
+    unfolding headOf pick withKind headBytes
     head-index e f = rw (ne-eqb kind 3 n₃, eq-eqb kind 6 e) f
 
     module _ (n₆ : kind ≡ 6 → ⊥) where
       pub head-set : kind ≡ 2 → l′ ≡ sets l at (bytesBe 4 n) → l′ ≡ sets l at (headOf kind i n)
-      unfolding headOf pick
+      unfolding headOf pick withKind headBytes
       head-set e f = rw (ne-eqb kind 3 n₃, ne-eqb kind 6 n₆, eq-eqb kind 2 e) f
 
       module _ (n₂ : kind ≡ 2 → ⊥) where
         pub head-range : kind ≡ 7 → l′ ≡ sets l at (bytesBe 4 n) → l′ ≡ sets l at (headOf kind i n)
-        unfolding headOf pick
+        unfolding headOf pick withKind headBytes
         head-range e f = rw (ne-eqb kind 3 n₃, ne-eqb kind 6 n₆, ne-eqb kind 2 n₂, eq-eqb kind 7 e) f
 
         pub head-reserved : (kind ≡ 7 → ⊥) → l′ ≡ sets l at (bytesBe 4 0 ++ bytesBe 4 n) → l′ ≡ sets l at (headOf kind i n)
-        unfolding headOf pick bytesBe
+        unfolding headOf pick bytesBe withKind headBytes
         head-reserved n₇ f = rw (ne-eqb kind 3 n₃, ne-eqb kind 6 n₆, ne-eqb kind 2 n₂, ne-eqb kind 7 n₇) f
 
 -- ---- as the definition has it
 
 module _ (p : List ℕ) (k kind : ℕ) (c : Container p k kind) (i n : ℕ) where
   pub head-is : headOf kind i n ≡ headBytes (look p k) i n
-  unfolding headOf headBytes pick
+  unfolding headOf headBytes pick withKind
   head-is = by-kind p k kind c (λ m v. headOf m i n ≡ headBytes v i n) refl refl refl refl refl refl
 
   pair : (a b : ℕ) → length (bytesBe 4 a ++ bytesBe 4 b) ≡ 8

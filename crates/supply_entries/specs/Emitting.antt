@@ -3,7 +3,7 @@
 use mathlib.Core.Path.{_≡_}
 use Prim.Native.Nat.{ℕ, _+_, _≤_}
 use mathlib.Core.Bool.{Bool, true, false}
-use mathlib.Core.List.{List, _++_}
+use mathlib.Core.List.{List, []}
 use lib.Dec.{eqb, leb, ltb}
 use lib.ListN.{length, take, drop}
 use lib.Seq.{sets}
@@ -19,14 +19,12 @@ use Rattle.supply_entries.specs.declared.Emitted.{Emitted}
 use Rattle.supply_entries.specs.declared.Emitted.the-variants.{Leaf, Other}
 use Rattle.supply_entries.specs.declared.Built.{Built}
 use Rattle.supply_entries.specs.declared.Built.the-variants.{Failed, Done}
-use Rattle.protocol.specs.Numbers.{pick, bytesBe}
-use Rattle.protocol.specs.Nodes.{refAt}
+use Rattle.protocol.specs.Numbers.{pick}
+use Rattle.protocol.specs.Nodes.{Node, row, arrays, tuple, sparse, range, refAt}
 use Rattle.protocol.specs.Values.{noMarks}
 use Rattle.protocol.specs.Plans.{look, cardsAt}
-use Rattle.protocol.specs.Supplies.{zeros, Claim, Next, short, next, nextOf}
-use Rattle.protocol.specs.Building.{noFront as Spec·noFront, elementsMade as Spec·elementsMade, front as Spec·front}
-use Rattle.protocol.specs.Building.{partMade as Spec·partMade, wrong as Spec·wrong, sparseOrder as Spec·sparseOrder}
-use Rattle.protocol.specs.Building.{buildOf as Spec·buildOf, Made as Spec·Made, made as Spec·made, Front as Spec·Front}
+use Rattle.protocol.specs.Supplies.{Claim, Next, short, next, nextOf}
+use Rattle.protocol.specs.Building.{headBytes, noFront, elementsMade, front, partMade, wrong, sparseOrder, buildOf, Made, made, Front}
 
 -- ---- entries
 
@@ -45,12 +43,14 @@ known n (next c ws) = pick (ltb (c .index) n) (next c ws) short
 
 -- ---- heads
 
+-- a container of a kind, without its elements: an output object has the heads of a tuple
+unfoldable pub withKind : ℕ → Node
+withKind kind =
+    pick (eqb kind 3) (arrays 0) (pick (eqb kind 6) (sparse [] []) (pick (eqb kind 2) (row 0) (pick (eqb kind 7) (range 0) (tuple []))))
+
 -- the head of an element by the kind of its container
 unfoldable pub headOf : ℕ → ℕ → ℕ → List ℕ
-headOf kind i n =
-    pick (eqb kind 3) (bytesBe 4 (12 + n) ++ (bytesBe 4 1 ++ (zeros 4 ++ bytesBe 4 n)))
-    (pick (eqb kind 6) (bytesBe 4 i ++ bytesBe 4 n)
-    (pick (eqb kind 2) (bytesBe 4 n) (pick (eqb kind 7) (bytesBe 4 n) (zeros 4 ++ bytesBe 4 n))))
+headOf kind i n = headBytes (withKind kind) i n
 
 unfoldable pub headSize : ℕ → ℕ
 headSize kind = pick (eqb kind 3) 16 (pick (eqb kind 2) 4 (pick (eqb kind 7) 4 8))
@@ -60,9 +60,9 @@ pub data Beginning : Type 0 where
   shut : Beginning
   begins : ℕ → ℕ → List ℕ → Beginning
 
-unfoldable pub begin-at : Spec·Front → ℕ → List ℕ → Beginning
-begin-at Spec·noFront at out = shut
-begin-at (Spec·front b first) at out = pick (leb (at + length b) 65535) (begins first (at + length b) (sets out at b)) shut
+unfoldable pub begin-at : Front → ℕ → List ℕ → Beginning
+begin-at noFront at out = shut
+begin-at (front b first) at out = pick (leb (at + length b) 65535) (begins first (at + length b) (sets out at b)) shut
 
 unfoldable pub beginningOf : Opened → List ℕ → Beginning
 beginningOf Shut out = shut
@@ -76,9 +76,9 @@ pub data Stand : Type 0 where
   stands : List ℕ → ℕ → List ℕ → Stand
 
 -- where a building from `at` on leads
-unfoldable pub put-at : Spec·Made → ℕ → List ℕ → Stand
-put-at Spec·wrong at out = broken
-put-at (Spec·made b ws) at out = pick (leb (at + length b) 65535) (stands ws (at + length b) (sets out at b)) broken
+unfoldable pub put-at : Made → ℕ → List ℕ → Stand
+put-at wrong at out = broken
+put-at (made b ws) at out = pick (leb (at + length b) 65535) (stands ws (at + length b) (sets out at b)) broken
 
 unfoldable pub standOf : Built → List ℕ → List ℕ → Stand
 standOf Failed ws out = broken
@@ -101,7 +101,7 @@ pub record LeafPut (src p : List ℕ) (k kind : ℕ) (e : Entry) (at : ℕ) (out
   pub is : (child : ℕ) → refAt (look p k) (e .index) ≡ some child → r ≡ leafSize src p kind child e at
   pub kept : r ≡ Other → out′ ≡ out
   pub put : (n : ℕ) → r ≡ Leaf n → (rest ws : List ℕ) → nextOf ws ≡ next (claim e) rest
-      → stands rest (at + n) out′ ≡ put-at (Spec·partMade (Spec·buildOf src (look p)) (look p k) (refAt (look p k) (e .index)) (claim e) rest ws) at out
+      → stands rest (at + n) out′ ≡ put-at (partMade (buildOf src (look p)) (look p k) (refAt (look p k) (e .index)) (claim e) rest ws) at out
 
 -- ---- a stretch of leaves
 
@@ -111,11 +111,11 @@ pub record LeafPut (src p : List ℕ) (k kind : ℕ) (e : Entry) (at : ℕ) (out
 pub record Gathers (src p : List ℕ) (k n : ℕ) (from : List Bool) (ws : List ℕ) (at : ℕ) (out : List ℕ) (marks : List Bool) (count left : ℕ) (us : List ℕ) (at′ : ℕ) (out′ : List ℕ) : Type 0 where
   pub small : at′ ≤ 65535
   pub counted : Counted p k marks count
-  pub leads : put-at (Spec·elementsMade (Spec·sparseOrder (cardsAt p k)) (Spec·buildOf src (look p)) (look p k) n from ws) at out
-      ≡ put-at (Spec·elementsMade (Spec·sparseOrder (cardsAt p k)) (Spec·buildOf src (look p)) (look p k) left marks us) at′ out′
+  pub leads : put-at (elementsMade (sparseOrder (cardsAt p k)) (buildOf src (look p)) (look p k) n from ws) at out
+      ≡ put-at (elementsMade (sparseOrder (cardsAt p k)) (buildOf src (look p)) (look p k) left marks us) at′ out′
 
 -- The same from the first element on, or an index was given twice: then no value is built.
 pub record GathersNew (src p : List ℕ) (k n : ℕ) (ws : List ℕ) (at : ℕ) (out : List ℕ) (marks : List Bool) (twice : Bool) (count left : ℕ) (us : List ℕ) (at′ : ℕ) (out′ : List ℕ) : Type 0 where
   pub small : at′ ≤ 65535
-  pub barred : twice ≡ true → put-at (Spec·elementsMade (Spec·sparseOrder (cardsAt p k)) (Spec·buildOf src (look p)) (look p k) n noMarks ws) at out ≡ broken
+  pub barred : twice ≡ true → put-at (elementsMade (sparseOrder (cardsAt p k)) (buildOf src (look p)) (look p k) n noMarks ws) at out ≡ broken
   pub new : twice ≡ false → Gathers src p k n noMarks ws at out marks count left us at′ out′

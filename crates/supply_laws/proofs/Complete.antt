@@ -16,7 +16,7 @@ use Rattle.protocol.specs.Lists.{Forest, empty}
 use Rattle.protocol.specs.Values.{ValueOutcome, valueOf, fuel}
 use Rattle.protocol.specs.Answers.{refused, accepted, Put, refusedPut, putOut, outputRoomed}
 use Rattle.protocol.specs.Plans.{look, noType, planFormed}
-use Rattle.protocol.specs.Running.{nothingIn, valueBy, checked}
+use Rattle.protocol.specs.Running.{nothingIn, valueBy, checked, admitted}
 use Rattle.protocol.specs.Supplies.{Agrees, zeroValue, zeroed, HasSupply}
 use Rattle.protocol.specs.Building.{buildOf, madeBy, suppliedBy, writeOf}
 
@@ -32,7 +32,7 @@ refuse e = let z : _≡_ {A = ℕ} 0 1 = cc in absurd (omega arith)
 
 module _ (p s : List ℕ) where
   accepts : (f : Forest) → checked p s ≡ accepted f → (planFormed p ≡ true) × Accepts p s f
-  unfolding checked valueBy nothingIn
+  unfolding checked valueBy nothingIn admitted
   accepts f =
       let P : ValueOutcome → Type 0 = λ o. o ≡ accepted f → (planFormed p ≡ true) × Accepts p s f in
       pick-case P _ _ _

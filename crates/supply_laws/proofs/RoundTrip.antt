@@ -26,7 +26,7 @@ use Rattle.protocol.specs.Values.{ValueOutcome, then, under, Rule, absent, pres
 use Rattle.protocol.specs.Values.{sparseForm, noMarks, leafRule, rowRule, sparseRule, byNode, value, valueOf, fuel}
 use Rattle.protocol.specs.Answers.{refused, accepted, putOut, outputRoomed}
 use Rattle.protocol.specs.Plans.{look}
-use Rattle.protocol.specs.Running.{nothingIn, valueBy, checked}
+use Rattle.protocol.specs.Running.{nothingIn, valueBy, checked, admitted}
 use Rattle.protocol.specs.Supplies.{nextOf, SameLeaf, SameFlags, SameBytes, SamePart, AgreeNext, Agrees, zeroed, HasSupply}
 use Rattle.protocol.specs.Building.{writeOf}
 
@@ -141,7 +141,7 @@ module _ (look : ℕ → Node) (t : List ℕ) where
 
 module _ (p s : List ℕ) where
   checked-own : OwnOf (look p) s (checked p s)
-  unfolding checked valueBy valueOf nothingIn Agrees words
+  unfolding checked valueBy valueOf nothingIn Agrees words admitted
   checked-own =
       let P = OwnOf (look p) s in
       pick-case P _ _ _

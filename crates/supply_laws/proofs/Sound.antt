@@ -21,7 +21,7 @@ use Rattle.protocol.specs.Lists.{empty, tree, entryOf}
 use Rattle.protocol.specs.Answers.{accepted, Put, refusedPut, putOut, outputRoomed}
 use Rattle.protocol.specs.Values.{under, Rule, Form, elements, rowForm, sparseForm, noMarks, openingOf, leafRule, rowRule, sparseRule, byNode, value, valueOf, fuel}
 use Rattle.protocol.specs.Plans.{look, noType, planFormed}
-use Rattle.protocol.specs.Running.{nothingIn, valueBy, checked}
+use Rattle.protocol.specs.Running.{nothingIn, valueBy, checked, admitted}
 use Rattle.protocol.specs.Supplies.{Claim, Next, short, next, nextOf, SameLeaf, SameBytes, Agrees, HasSupply, zeroOpening, zeroElements, zeroRow, zeroSparse, zeroNode, zeroValue, zeroed}
 use Rattle.protocol.specs.Building.{Made, wrong, made, Builder, Front, noFront, front, frontOf, headBytes, Order, rowOrder, sparseOrder}
 use Rattle.protocol.specs.Building.{mayLack, elementsMade, leafMade, rowMade, sparseMade, nodeMade, entryMade, build, buildOf, madeBy}
@@ -197,7 +197,7 @@ supplied-out (made c []) b e =
 
 module _ (p ws src b : List ℕ) (small : Words ws) (formed : planFormed p ≡ true) (fits : length b ≤ 65535) where
   checked-by : checked p b ≡ valueBy p b
-  unfolding checked
+  unfolding checked admitted
   checked-by = pick-yes _ _ _ formed ∙ pick-no _ _ _ (le-ltb 65535 (length b) fits)
 
   -- "no type"

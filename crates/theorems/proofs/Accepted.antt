@@ -28,7 +28,7 @@ use Rattle.protocol.specs.Lists.{Forest, words}
 use Rattle.protocol.specs.Values.{ValueOutcome}
 use Rattle.protocol.specs.Answers.{refused, accepted}
 use Rattle.protocol.specs.Plans.{planFormed}
-use Rattle.protocol.specs.Running.{valueBy, checked, listRoomed, runOf}
+use Rattle.protocol.specs.Running.{valueBy, checked, listRoomed, runOf, admitted}
 
 -- ---- messages
 
@@ -215,7 +215,7 @@ module _ (p s : List ℕ) (room : ℕ) (f : Forest) where
           (pick-split _ _ _ _ e)
 
   pub value-exact : (runOf p s room ≡ accepted f) ↔ ((planFormed p ≡ true) × (length s ≤ 65535) × (valueBy p s ≡ accepted f) × (length (words f) ≤ room))
-  unfolding runOf checked listRoomed
+  unfolding runOf checked listRoomed admitted
   value-exact = (
     λ e. let x = run-listed e in let y = passed p s f (x .0) in (y .formed, y .few, y .value, x .1),
     λ x.

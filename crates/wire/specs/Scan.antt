@@ -3,9 +3,8 @@ use mathlib.Core.Path.{_≡_}
 use mathlib.Core.Bool.{Bool, true, false}
 use mathlib.Core.List.{List, [], _∷_}
 use Prim.Native.Nat.{ℕ, zero, suc, _+_, _*_, _/_, _<_}
-use lib.Dec.{eqb}
+use lib.Dec.{eqb, ltb}
 use lib.ListN.{length, drop, getD}
-use lib.Dec.{ltb}
 use Rattle.protocol.specs.Numbers.{pick}
 use Rattle.protocol.specs.Text.{Range, _to_, within, utf8Table, following}
 

@@ -1,8 +1,7 @@
-use lib.ListN.{length}
+use lib.ListN.{length, length-take}
 use Prim.Native.Nat.{_/_}
 use mathlib.Core.Path.{sym}
 use native.Mathlib.Omega.{arith}
-use lib.ListN.{length-take}
 use Rattle.c_words.proofs.Words.{length-in, filled-words}
 use Rattle.c_message.proofs.Messages.{writes-refused, writes-whole}
 use borrow.Author.Needs.{needs}

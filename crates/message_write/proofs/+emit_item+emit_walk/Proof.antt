@@ -9,7 +9,6 @@ use Rattle.message_write.specs.Emitting.{standOf, put-at, Bounded}
 use Rattle.message_write.proofs.Emits.{stop-from, go-from, from-field, from-stop, from-go, count-some, count-inside, from-end}
 use Rattle.message_write.proofs.Emits.{from-item, times-one, times-none, times-count, faulty-is, done-is, first-word, some-left}
 use borrow.Author.Needs.{needs}
-use Prim.Native.Nat.{ℕ, _<_}
 use borrow.Fn.Kinds.{In}
 use borrow.Fn.PlainCycle.{Measures, is, falls, and}
 use Rattle.message_write.proofs.emit_item.Reads as emit-item

@@ -21,7 +21,6 @@ use Rattle.supply_entries.proofs.Elements.{turn-short, turn-barred, turn-stop, 
 use Rattle.supply_entries.proofs.Elements.{none-left, one-fewer, same-index, new-index, gathers-start, gathers-next}
 use Rattle.supply_entries.proofs.Values.{value-node, value-leaf, value-shut, value-sparse, value-row, opened-small, opened-holds, opened-first}
 use borrow.Author.Needs.{needs}
-use Prim.Native.Nat.{ℕ, _<_}
 use borrow.Fn.Kinds.{In}
 use borrow.Fn.PlainCycle.{Measures, is, falls, and}
 use Rattle.supply_build.proofs.build_member.Reads as build-member

@@ -16,7 +16,6 @@ use Rattle.value_parts.specs.Counted.{Counted}
 use Rattle.value_parts.proofs.Counted.{counted-few, counted-next, counted-end}
 use Prim.Native.Nat.{ℕ, _+_, _*_, _≤_, _<_}
 use borrow.Author.Needs.{needs}
-use Prim.Native.Nat.{ℕ, _<_}
 use borrow.Fn.Kinds.{In}
 use borrow.Fn.PlainCycle.{Measures, is, falls, and}
 use Rattle.value_walk.proofs.walk_container.Reads as walk-container
