@@ -1,4 +1,4 @@
--- Demand 3 as the C host meets it: the bytes that compiling wrote are a plan
+-- R4.14 as the C host meets it: the bytes that compiling wrote are a plan
 -- that runs, with no descriptor, as the rules read off the descriptor do.
 use mathlib.Core.Path.{_≡_, ap, _∙_}
 use mathlib.Core.List.{List}

@@ -1,4 +1,4 @@
--- Writing a value from a supply, on bytes.
+-- Nobody has to believe these definitions: they are what the code says to itself of the plan and the list that a value is written from.
 use mathlib.Core.Path.{_≡_}
 use mathlib.Core.Bool.{true}
 use Prim.Native.Nat.{ℕ}
@@ -6,7 +6,7 @@ use mathlib.Core.List.{List}
 use lib.ListN.{length}
 use Rattle.protocol.specs.Crossing.{crosses}
 
--- a plan and a list that cross
+-- a plan and a list that cross (R9.4)
 pub record BothCross (plan list : List ℕ) : Type 0 where
   pub plan-crosses : crosses (length plan) ≡ true
   pub list-crosses : crosses (length list) ≡ true

@@ -1,4 +1,4 @@
-// How numbers, byte runs and words cross to the panel's C host: what a call answers, and words as bytes, four to a word, the highest first.
+// How numbers, byte runs and words cross to the panel's C host: what a call answers (R9.8), and words as bytes (R9.3).
 use forms::Answer;
 ghost use mathlib.Core.Path.{_≡_};
 ghost use mathlib.Core.List.{_++_};
