@@ -1,4 +1,5 @@
--- The descriptor's two definitions, field by field: the older keeps places in the descriptor, this crate's keeps what stands there. Two
+-- The two definitions of a descriptor, field by field: the code's own keeps places in the descriptor, protocol's keeps what stands there. Two
+-- readings agree if both refuse with one number, or both go on at one byte with what a relation asks.
 use mathlib.Core.Path.{_≡_, refl, _∙_}
 use mathlib.Core.Bool.{Bool, true, false}
 use mathlib.Core.List.{List, [], _∷_, _++_}
@@ -16,8 +17,6 @@ use Rattle.protocol.specs.Descriptors.{Parsed, unparsed, parsed, Reader, parseT
 use Rattle.protocol.specs.Descriptors
 use Rattle.protocol.specs.Numbers.{pick, be}
 use Rattle.protocol.specs.Text.{wellFormed}
-
--- readings agree if both refuse with one number, or both go on at one byte with what a relation asks.
 
 -- ---- two readings agree
 

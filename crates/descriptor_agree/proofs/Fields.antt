@@ -27,7 +27,7 @@ use Rattle.protocol.specs.Messages.{isCardinality}
 
 -- ---- the earlier blocks
 
--- what the older definition knows of a block, and the block
+-- what the code's own definition knows of a block, and protocol's block
 pub record Pair (d : List ℕ) (k : Known) (b : Block) : Type 0 where
   pub tags : k .tag ≡ b .tag
   pub ids : idAt d (k .start + 1) ≡ b .id
@@ -127,7 +127,7 @@ tests false t h = refl
 -- ---- fields
 
 module _ (d : List ℕ) (known : List Known) (tag : ℕ) (bs : List Block) (pairs : Pairs d known bs) (x : Draft) (es : List Element) (inside : x .at ≤ length d) where
-  -- what a reader makes of a field's bytes is what the older definition says of them
+  -- what a reader makes of a field's bytes is what the code's own definition says of them
   abbrev pub Same : {A : Type 0} → ℕ → Reader A → A → Type 0
   Same c reader a = reader (drop (x .at) d) ≡ judged d (x .at) (extent d c (x .at)) (faultOf d known tag c x es) a
 

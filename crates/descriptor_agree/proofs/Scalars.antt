@@ -67,7 +67,7 @@ unfolding judged verdict parseThen pick
 refused-then d at a b g = then-pick (leb (at + 2) (length d)) (unparsed 13) (unparsed 10) g
 
 module _ (d : List ℕ) (known : List Known) (bs : List Block) (pairs : Pairs d known bs) where
-  -- the format of a scalar with a known id
+  -- the format that a scalar's own id stands for (R3.15)
   by-number : (k : Known) (b : Block) → Pair d k b → formatBy d k ≡ numberOf (pick (eqb (b .tag) 3) (formatById (b .id)) none)
   unfolding formatBy pick
   by-number k b p = rw (p .tags, p .ids, format-number (b .id)) (go (eqb (b .tag) 3))

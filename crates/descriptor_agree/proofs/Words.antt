@@ -155,7 +155,7 @@ unfolding allWords
 all-append [] ys = refl
 all-append (x ∷ xs) ys = ap (λ (l : List ℕ). x .words ++ l) (all-append xs ys) ∙ sym (append-assoc (x .words) (allWords xs) (allWords ys))
 
--- where the older definition says that a node is
+-- where the code's own definition says that a node is
 old-before : (os : List OldBlock) (o : OldBlock) (k : ℕ) → k < length (summaries os) → nodeAt (summaries (os ++ (o ∷ []))) k ≡ nodeAt (summaries os) k
 unfolding nodeAt
 old-before os o k h =
@@ -168,7 +168,7 @@ old-last os o k h =
     ap (λ (ks : List Known). getD ks k noBlock .node) (map-append summary os (o ∷ []))
     ∙ ap (λ (k : Known). k .node) (getD-at (summaries os) (summary o) [] noBlock k h)
 
--- the node of each block, where it has one, is the older definition's
+-- the node of each block, where it has one, is that of the code's own definition
 abbrev pub Shapes : List Block → List OldBlock → List Block → Type 0
 Shapes all [] [] = Unit {0}
 Shapes all [] (b ∷ bs) = ⊥

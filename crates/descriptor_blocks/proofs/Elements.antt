@@ -28,7 +28,7 @@ noElement = record { name = 0; ref = 0; card = 0 }
 abbrev pub target : List Known → Element → Known
 target known e = getD known (e .ref) noBlock
 
--- a height, raised by each of some elements: "a container one more than its highest element"
+-- a height, raised by each of some elements to one more than that element has (R3.13)
 unfoldable pub raisedBy : List Known → ℕ → List Element → ℕ
 raisedBy known h [] = h
 raisedBy known h (e ∷ es) = raisedBy known (atLeast h (target known e .height + 1)) es
@@ -45,7 +45,7 @@ pub record Refers (known : List Known) (tag : ℕ) (e : Element) : Type 0 where
   pub low : target known e .height ≤ 31
   pub card : carded tag ≡ true → isCardinality (e .card) ≡ true
 
--- "Set and array elements aren't sets; array elements aren't arrays. Range elements are scalars.", and all have values
+-- what an element may be (R3.11): each has values; and then of a set, of an array, of a range
 module _ (known : List Known) (e : Element) where
   pub element-valued : (tag : ℕ) → Refers known tag e → valued (target known e .tag) ≡ true
   element-valued tag r = suited-valued (elementKind tag) (target known e .tag) (r .suits)

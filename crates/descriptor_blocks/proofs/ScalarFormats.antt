@@ -29,7 +29,7 @@ abbrev Due : ℕ → Draft → Type 0
 Due n x = (x .format ≤ 20) × (x .format ≡ 20 → 1 ≤ n)
 
 module _ (d : List ℕ) (known : List Known) where
-  -- ---- the head: "no ancestor: 12"
+  -- ---- the head: a scalar that needs an ancestor has one (R3.16)
 
   due-count : (x : Draft) (es : List Element) → fault d known 3 ANCESTORS x es ≡ 0 → x .format ≡ 20 → 1 ≤ numberAt d ANCESTORS (x .at)
   unfolding fault countFault formatless pick
@@ -73,7 +73,7 @@ module _ (d : List ℕ) (known : List Known) where
     last : Known
     last = getD known (numberAt d ANCESTOR (x .at)) noBlock
 
-    -- "which must be a scalar with a known id"
+    -- the last ancestor is a scalar whose own id is known (R3.16)
     last-known : fits d 3 ANCESTOR (counting (suc n) x) last ≡ true
     unfolding fault refFault kindFault pick last
     last-known =

@@ -63,7 +63,7 @@ valued-cases P p0 p1 p3 p4 p5 p6 p7 p8 p9 =
 unfoldable pub elementKind : ℕ → ℕ
 elementKind tag = pick (eqb tag 0) SET-ELEMENT (pick (eqb tag 6) ARRAY-ELEMENT (pick (eqb tag 9) RANGE-ELEMENT ELEMENT))
 
--- a block with a tag may be one: "Set and array elements aren't sets; array elements aren't arrays. Range elements are scalars."
+-- whether a block with a tag may be one (R3.11)
 unfoldable pub suited : ℕ → ℕ → Bool
 suited c kind =
     pick (eqb c ELEMENT) (valued kind)

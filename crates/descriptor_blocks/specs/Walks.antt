@@ -1,5 +1,5 @@
--- Nobody has to believe these definitions: they say where a reading leads, as the
--- code sees it: what it kept of the block, and the elements in their run of numbers.
+-- Nobody has to believe these definitions: they say where a reading leads, as the code sees it: what it kept of the block, and the elements in
+-- their run of numbers.
 use Prim.Native.Nat.{ℕ, _+_, _≤_}
 use mathlib.Core.List.{List, [], _∷_}
 use lib.Dec.{leb}

@@ -1,4 +1,4 @@
-// A field of a block: first whole, then its rule, then what is kept of it.
+// A field of a block: whether it is complete (R3.5), its rule, and what is kept of it.
 use crate::Part;
 use descriptor_fields::Draft;
 use descriptor_fields::kinds;

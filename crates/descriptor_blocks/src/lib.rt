@@ -1,4 +1,4 @@
-// Descriptors (document 01, 'Descriptors'): reading their blocks, field by field.
+// Descriptors (R3): reading their blocks, field by field.
 pub mod block;
 pub mod field;
 

@@ -1,5 +1,5 @@
--- Nobody has to believe these definitions: they are what the code says to
--- itself of the pass that judges a descriptor and counts its plan's words.
+-- Nobody has to believe these definitions: they are what the code says to itself of the pass that judges a descriptor and counts its plan's
+-- words.
 use mathlib.Core.Path.{_≡_}
 use Prim.Native.Nat.{ℕ}
 use mathlib.Core.Bool.{Bool, false}

@@ -1,4 +1,4 @@
--- What compiling answers and leaves in the plan's room (R1.1, R1.2, R4.9).
+-- How the code's own enum `Answer` shows protocol's outcome of compiling: read it only for the contract of `descriptor_compile::compile`.
 use mathlib.Core.Path.{_≡_}
 use Prim.Native.Nat.{ℕ}
 use mathlib.Core.List.{List}
@@ -13,7 +13,7 @@ unfoldable pub answerOf : Outcome (List ℕ) → answer.Answer
 answerOf (refused n p) = Refused n p
 answerOf (accepted ws) = Words (length ws)
 
--- the outcome settles the answer and the plan's room
+-- the outcome settles the answer and the plan's room (R1.1, R1.2)
 pub record Gives (o : Outcome (List ℕ)) (r : answer.Answer) (l l′ : List ℕ) : Type 0 where
   pub answer : r ≡ answerOf o
   pub plan : l′ ≡ planAfter o l

@@ -1,4 +1,4 @@
-// Compiling a descriptor's plan (document 01, 'Plan, list, finding').
+// Compiling a descriptor's plan (R4.7 to R4.9), in the order of R1.8.
 use descriptor_fields::kinds;
 use descriptor_names::id;
 use descriptor_scan::Scan;

@@ -1,5 +1,5 @@
--- Nobody has to believe these definitions: they say what the code keeps in runs
--- of numbers, the earlier blocks and the elements of a block, three words each.
+-- Nobody has to believe these definitions: they say what the code keeps in runs of numbers, the earlier blocks and the elements of a block, three
+-- words each.
 use Prim.Native.Nat.{ℕ, zero, suc, _+_, _*_, _≤_, _<_}
 use mathlib.Core.List.{List, [], _∷_, _++_}
 use lib.ListN.{length, getD}

@@ -113,7 +113,7 @@ fits d tag c x k =
     (pick (eqb c SET-ELEMENT) (pick (eqb (k .tag) 0) false (valued (k .tag)))
     (pick (eqb c ARRAY-ELEMENT) (pick (eqb (k .tag) 0) false (pick (eqb (k .tag) 6) false (valued (k .tag)))) (eqb (k .tag) 3))))))
 
--- 14 for a block of the wrong kind (R3.11), and then 17 for one that is too high (R3.13)
+-- 14 for a block that may not stand there (R3.11), and then 17 for one that is too high (R3.13)
 unfoldable pub kindFault : List ℕ → ℕ → ℕ → Draft → Known → ℕ
 kindFault d tag c x k = pick (fits d tag c x k) (pick (leb ELEMENT c) (pick (leb 32 (k .height)) 17 0) 0) 14
 

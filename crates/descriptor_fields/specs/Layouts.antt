@@ -96,7 +96,7 @@ typed more last = record { head = ID ∷ TEXT ∷ BOOL ∷ ANCESTORS ∷ []; fir
 abbrev pub simple : List ℕ → List ℕ → Layout
 simple head first = record { head = head; first = first; more = []; last = [] }
 
--- the blocks of source document 001, by their tags
+-- the fields of each block, by its tag (R3.3)
 unfoldable pub layout : ℕ → Layout
 layout tag =
     -- set
@@ -135,7 +135,7 @@ knownTag tag =
 unfoldable pub indexed : ℕ → Bool
 indexed tag = pick (eqb tag 127) false true
 
--- blocks with values
+-- blocks with values (R3.2)
 unfoldable pub valued : ℕ → Bool
 valued tag = pick (eqb tag 10) false (pick (eqb tag 11) false (pick (eqb tag 13) false true))
 

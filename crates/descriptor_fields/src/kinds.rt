@@ -125,7 +125,7 @@ pub fn layout_of(tag: u32) -> BlockFields
     }
 }
 
-// "Known tags: 0, 1, 3 to 11, 13 and 7f"
+// Whether a tag is known (R3.2).
 pub fn is_known(tag: u32) -> bool
     ensures { λ r. ⌜ r ≡ knownTag tag ⌝ }
 {
@@ -144,7 +144,7 @@ pub fn is_known(tag: u32) -> bool
     tag == 127
 }
 
-// Whether a block has values: "all but 10, 11, 13".
+// Whether a block has values (R3.2).
 pub fn has_values(tag: u32) -> bool
     ensures { λ r. ⌜ r ≡ valued tag ⌝ }
 {

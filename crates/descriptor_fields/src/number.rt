@@ -54,7 +54,7 @@ pub fn extent_of(d: &[u8], code: u8, at: usize) -> usize
     2
 }
 
-// "Operation: 1 or 2."
+// Whether a number is one of the two operations of a compound type (R3.6).
 fn is_operation(v: u32) -> bool
     ensures { λ r. ⌜ r ≡ pick (eqb v 1) true (eqb v 2) ⌝ }
 {

@@ -15,7 +15,7 @@ ghost use Rattle.descriptor_fields.specs.Fields.{noBlock, decides, formatBy, fi
 ghost use Rattle.descriptor_fields.specs.Arrays.{Told, knownAt, knownOf};
 ghost use Rattle.protocol.specs.Numbers.{pick};
 
-// "height 32"
+// The greatest height of a block (R1.4).
 const MOST_HEIGHT: u32 = 32;
 
 // Whether the ancestor that is read now is the one that the format comes from.
@@ -45,7 +45,7 @@ pub fn height_of(d: &[u8], known: &[u32], n: usize, i: usize) -> u32
     known[3 * i + 1]
 }
 
-// The format of an earlier block that is a scalar with a known id, or NO_FORMAT.
+// The format that the id of an earlier block stands for, where the block is a scalar and its id is known (R3.15), or NO_FORMAT.
 pub fn format_by(d: &[u8], known: &[u32], n: usize, i: usize) -> u32
     requires { ⌜ (Told (now d) (now known) n) × (i < n) ⌝ }
     ensures { λ r. ⌜ r ≡ formatBy (now (d .entry)) (knownAt (now (d .entry)) (now (known .entry)) i) ⌝ }
@@ -102,7 +102,7 @@ fn is_fitting(d: &[u8], known: &[u32], n: usize, tag: u32, code: u8, x: Draft, i
     }
 }
 
-// 14: a block of the wrong kind. 17: an element that would make the block too high.
+// 14: a block that may not stand there (R3.11). 17: an element that would make the block too high (R3.13).
 fn kind_fault(d: &[u8], known: &[u32], n: usize, tag: u32, code: u8, x: Draft, i: usize) -> u32
     requires { ⌜ (Told (now d) (now known) n) × (i < n) ⌝ }
     ensures { λ r. ⌜ r ≡ kindFault (now (d .entry)) tag code x (knownAt (now (d .entry)) (now (known .entry)) i) ⌝ }

@@ -1,5 +1,5 @@
--- Nobody has to believe these definitions: they are the reading of the blocks as the
--- code does it, what is kept of them in words, and the plan by its words so far.
+-- Nobody has to believe these definitions: they are the reading of the blocks as the code does it, what is kept of them in words, and the plan by
+-- its words so far.
 use mathlib.Core.Path.{_≡_}
 use Prim.Native.Nat.{ℕ, _+_, _*_, _≤_}
 use mathlib.Core.Bool.{false}
