@@ -1,5 +1,5 @@
--- The number of an element (document 01, 'Plan, list, finding': "An int16, int32, int64, memory, bool or float element can be had as one number
--- of its kind, a float with every bit kept."). "Finding: 33, 28, value faults, 35 or 36, 37."
+-- How the code's own enum `Number` shows protocol's number of an element: read it only for the contract of `find_number::find_number`, of what
+-- it calls, and of `c_number::number_answer`. The rules are R7.8 to R7.11.
 use mathlib.Core.Path.{_≡_}
 use Prim.Native.Nat.{ℕ}
 use mathlib.Core.Bool.{true, not, cond}
@@ -10,13 +10,13 @@ use Rattle.find_number.specs.declared.Number.{Number}
 use Rattle.find_number.specs.declared.Number.the-variants.{Refused, Integer, Truth, Single, Double, SingleNan, DoubleNan}
 use Rattle.protocol.specs.Finding.{Numbered, unnumbered, numbered, integral}
 
--- an integer's bytes
+-- how many bytes an integer can have
 unfoldable pub Width : ℕ → Type 0
 Width w = (w ≡ 2) ⊎ ((w ≡ 4) ⊎ (w ≡ 8))
 
 -- ---- what the call answers
 
--- the number and the values of each case
+-- the number and the values of each case (R9.11)
 unfoldable pub shown : Number → Numbered
 shown (Refused n q) = unnumbered n q
 shown (Integer f b) = numbered f b

@@ -45,7 +45,7 @@ pub passed : (p s : List ℕ) (f : Forest) → checked p s ≡ accepted f → Pa
 unfolding checked admitted
 passed p s f e = let x = passed-by s (planFormed p) (valueBy p s) f e in record { formed = x .0; few = x .1; value = x .2 }
 
--- "no type" lists nothing
+-- no type lists nothing (R6.8)
 none-listed : (b : Bool) (f : Forest) → pick b (accepted empty) (refused 21 0) ≡ accepted f → f ≡ empty
 unfolding pick
 none-listed true f e = cc

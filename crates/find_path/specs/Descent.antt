@@ -1,5 +1,5 @@
--- Finding as the code does it: a container's heads are read one after the other, up to the element that the path names. Of an accepted value
--- this finds what Find's definition says (proofs/Paths).
+-- Nobody has to believe these definitions: they are finding as the code does it, by a container's heads, read one after the other up to the
+-- element that the path names. Of an accepted value this finds what protocol's definition says (proofs/Paths).
 use Prim.Native.Nat.{ℕ, zero, suc, _+_}
 use mathlib.Core.Bool.{Bool, true}
 use mathlib.Core.List.{List, [], _∷_}
@@ -46,7 +46,7 @@ seekIn v s w (Elements n first at) = seek v s w n first at
 unfoldable pub childHead : Node → List ℕ → ℕ → Head
 childHead v s w = seekIn v s w (openingOf v s)
 
--- 36 "path ends at an absent element", 35 "also below .. an absent element"
+-- 36 for a path that ends with an absent element (R7.5), 35 for one that goes on from it (R7.4)
 unfoldable pub missing : List ℕ → Found
 missing [] = unfound 36 0
 missing (i ∷ path) = unfound 35 0

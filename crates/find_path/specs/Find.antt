@@ -1,5 +1,4 @@
--- What a path leads to (document 01, 'Plan, list, finding': "A path of index words leads down from the top"), in the entries that the value
--- lists. "Finding: 33, 28, value faults, 35 or 36, 37."
+-- How the part and the four numbers of the code's finder show protocol's outcome: read it only for the contract of `find_path::find`.
 use mathlib.Core.Path.{_≡_}
 use Prim.Native.Nat.{ℕ}
 use mathlib.Core.List.{List, []}
@@ -7,9 +6,7 @@ use Rattle.run_plan.specs.declared.Answer.{Answer}
 use Rattle.run_plan.specs.declared.Answer.the-variants.{Refused, Listed}
 use Rattle.protocol.specs.Finding.{Found, unfound, found}
 
--- ---- what the call answers
-
--- the number and the place of a run that refuses the value
+-- the number and the place of a run that refuses the value, 0 of one that does not
 unfoldable pub refusedNo : Answer → ℕ
 refusedNo (Refused n p) = n
 refusedNo (Listed w) = 0
@@ -18,7 +15,7 @@ unfoldable pub refusedPlace : Answer → ℕ
 refusedPlace (Refused n p) = p
 refusedPlace (Listed w) = 0
 
--- "A refusal returns number and place, all else zero"; on success both are 0
+-- number, place, node, start and part of an outcome: what it does not have is 0, or no bytes (R1.1, R1.2)
 unfoldable pub numberIn : Found → ℕ
 numberIn (unfound n p) = n
 numberIn (found k a b) = 0
@@ -39,7 +36,7 @@ unfoldable pub partIn : Found → List ℕ
 partIn (unfound n p) = []
 partIn (found k a b) = b
 
--- the part, and number, place, node and start
+-- the outcome settles the part, and number, place, node and start
 pub record Finds (x : Found) (part : List ℕ) (no place node start : ℕ) : Type 0 where
   pub part-is : part ≡ partIn x
   pub no-is : no ≡ numberIn x

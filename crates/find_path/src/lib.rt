@@ -1,4 +1,4 @@
-// Finds the element that a path leads to: "the answer is a part of the value's own bytes, not a copy".
+// Finds the element that a path leads to, and gives it back as a part of the slice that was lent, so that no byte is moved (R7.3).
 pub mod child;
 
 use forms::Head;

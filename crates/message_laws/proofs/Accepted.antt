@@ -53,7 +53,7 @@ known-sent (some l) t ws src room b e = (l, refl, sent t room (fieldsWritten l s
 
 -- ---- what is accepted
 
--- a whole message is read, where its list has room: the other way round from what Whole.antt proves
+-- a whole message is read, where its list has room: the other way round from what message_read/proofs/Whole proves
 pub is-read : (side : ℕ) (s : List ℕ) (n u : ℕ) (ws : List ℕ) → Whole side s n u ws → (room : ℕ) → length ws ≤ room → messageCall side s room ≡ read u ws
 unfolding messageCall messageRoomed messageOf bodyRead messageEnd pick
 is-read side s n u ws w room h =

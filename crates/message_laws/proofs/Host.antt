@@ -1,4 +1,4 @@
--- Demand 2 as the C host meets it, on the answers of the two message calls and on bytes: what is read and written again is the same
+-- R2.14 as the C host meets it, on the answers of the two message calls and on bytes: what is read and written again is the same
 -- message, and what is written is read, with the same contents.
 use mathlib.Core.Path.{_≡_, refl, ap, sym, _∙_}
 use mathlib.Core.Bool.{true}

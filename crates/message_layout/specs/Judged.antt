@@ -1,4 +1,5 @@
--- Fields without the rules on their content, for a second pass over what a first pass has judged.
+-- Nobody has to believe these definitions: they are fields without the rules on their content, for the code's second pass over what a first
+-- pass has judged.
 use mathlib.Core.Bool.{Bool, true, false}
 use mathlib.Core.List.{[]}
 use Rattle.protocol.specs.Messages.{Field, number, text, bytes, Layout, done, one, run}

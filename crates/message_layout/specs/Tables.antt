@@ -1,4 +1,5 @@
--- The code's tables, and the layouts that they stand for.
+-- Nobody has to believe these definitions: they are the code's tables, and the layouts that they stand for (R2.5 to R2.10). That the layout of
+-- a type byte is protocol's is proved (proofs/Starts).
 use mathlib.Core.Path.{_≡_}
 use Prim.Native.Nat.{ℕ, suc, _+_, _-_, _≤_, _<_}
 use mathlib.Core.List.{List, [], _∷_}

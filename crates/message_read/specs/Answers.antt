@@ -1,4 +1,5 @@
--- What the reader answers and leaves in the list, from the outcome that the definition gives.
+-- How the code's own enum `Answer` shows protocol's outcome of reading a message: read it only for the contract of `message_read::read` and of
+-- what it calls.
 use mathlib.Core.Path.{_≡_}
 use Prim.Native.Nat.{ℕ}
 use mathlib.Core.List.{List}
@@ -23,7 +24,7 @@ pub record Checks (o : MessageRead) (r : Answer) (l l′ : List ℕ) : Type 0 wh
   pub answer : r ≡ answerOf o
   pub words : Stored o l l′
 
--- the outcome settles the answer and the list
+-- the outcome settles the answer and the list (R1.1, R1.2)
 pub record Gives (o : MessageRead) (r : Answer) (l l′ : List ℕ) : Type 0 where
   pub answer : r ≡ answerOf o
   pub list : l′ ≡ messageList o l

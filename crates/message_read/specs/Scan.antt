@@ -1,4 +1,5 @@
--- The reading as the code does it: the list by the number of its words so far. A refusal says nothing of the list.
+-- Nobody has to believe these definitions: they are the reading of a message as the code does it, the list by the number of its words so far.
+-- A refusal says nothing of the list.
 use Prim.Native.Nat.{ℕ, _+_, _-_, _*_, _≤_, _<_}
 use mathlib.Core.Bool.{Bool}
 use mathlib.Core.List.{List}

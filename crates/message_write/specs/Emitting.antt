@@ -1,5 +1,5 @@
--- The writing as the code does it: the list by the next word's index, the output by the next byte's, which stops growing past the
--- largest message so that no sum can overflow.
+-- Nobody has to believe these definitions: they are the writing of a message as the code does it, the list by the next word's index, the
+-- output by the next byte's, which stops growing past the largest message so that no sum can overflow.
 use mathlib.Core.Path.{_≡_}
 use Prim.Native.Nat.{ℕ, _+_, _-_, _≤_}
 use mathlib.Core.Bool.{Bool}
@@ -14,7 +14,7 @@ use Rattle.message_write.specs.declared.Emit.the-variants.{Faulty, Done}
 use Rattle.protocol.specs.Numbers.{pick, be}
 use Rattle.protocol.specs.Messages.{u16, Written, unwritten, wrote, nextField, joined, timesWritten, fieldsWritten}
 
--- one past the largest message, at most
+-- one past the largest message (R2.16), at most
 unfoldable pub cap : ℕ → ℕ
 cap n = pick (ltb 65537 n) 65537 n
 

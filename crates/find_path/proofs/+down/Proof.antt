@@ -1,4 +1,4 @@
--- `find_path::down` meets its contract: it calls itself on the rest of the path, whose length falls.
+-- `find_path::down` meets its contract: it calls itself with the path less its first word, which is shorter (R7.2).
 use native.Mathlib.Omega.{arith}
 use lib.ListN.{length, length-take, length-drop}
 use Rattle.plan_nodes.proofs.Nodes.{at-ref}
