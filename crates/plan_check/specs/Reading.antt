@@ -1,4 +1,4 @@
--- What reading the nodes of a plan gives, and what it leaves in the two lists.
+-- Nobody has to believe these definitions: they are what the code's reading of a plan's nodes gives, and what it leaves in its two lists.
 use mathlib.Core.Path.{_≡_}
 use Prim.Native.Nat.{ℕ}
 use mathlib.Core.List.{List}

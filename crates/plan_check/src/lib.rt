@@ -1,5 +1,4 @@
-// Whether a plan is well formed: "total is the run's length, nodes fill it, root starts a node, and formats, counts (nodes too),
-// cardinalities and height obey". The nodes are read once, in order. The starts of those read are kept, and so are their heights: a
+// Whether a plan is well formed (R4.4). The nodes are read once, in order. The starts of those read are kept, and so are their heights: a
 // start is found again by halving, so the time is that of the plan's words but for a logarithm.
 use plan_heights::height_at;
 use plan_heights::search;
@@ -58,7 +57,7 @@ fn nodes_ok(plan: &[u32], starts: &mut [u32], heights: &mut [u8]) -> bool
     search(starts, n, plan[1]) < n
 }
 
-// A plan of few words: short lists are cleared in no time.
+// A plan of few words: short lists take little time to clear.
 fn small_ok(plan: &[u32]) -> bool
     requires { ⌜ (2 ≤ length (now plan)) × (length (now plan) ≤ 66) ⌝ }
     ensures { λ b. ⌜ b ≡ startsIn (nodesOf (now (plan .entry))) (getD (now (plan .entry)) 1 0) ⌝ }
@@ -77,7 +76,7 @@ fn large_ok(plan: &[u32]) -> bool
     nodes_ok(plan, &mut starts, &mut heights)
 }
 
-// "'No type' is the whole plan 2,0"
+// Whether a plan is that of no type (R4.6).
 pub fn no_type(plan: &[u32]) -> bool
     ensures { λ b. ⌜ b ≡ noType (now (plan .entry)) ⌝ }
 {

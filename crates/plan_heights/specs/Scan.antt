@@ -1,11 +1,12 @@
--- The state of the check of a plan: the starts and the heights of the nodes read so far, as two lists of numbers.
+-- Nobody has to believe these definitions: they are the state of the code's check of a plan, the starts and the heights of the nodes read so
+-- far, as two lists of numbers.
 use mathlib.Core.Path.{_≡_}
 use Prim.Native.Nat.{ℕ, zero, suc, _+_, _≤_, _<_}
 use mathlib.Core.List.{List, [], _∷_, _++_}
 use lib.ListN.{length, getD}
 use Rattle.protocol.specs.Plans.{PlanNode}
 
--- what is known of the i-th node: its kind stands in the plan
+-- what is known of the i-th node (R4.4, R4.5): its kind stands in the plan
 unfoldable pub knownAt : List ℕ → List ℕ → List ℕ → ℕ → PlanNode
 knownAt p starts heights i = record { start = getD starts i 0; kind = getD p (getD starts i 0) 0; height = getD heights i 0 }
 

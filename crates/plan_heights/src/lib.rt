@@ -55,7 +55,7 @@ pub fn search(starts: &[u32], n: usize, r: u32) -> usize
     halve(starts, n, r)
 }
 
-// "for 2 neither a 2 nor a 3, for 3 a 2, for 7 a 1, else any"
+// Whether a node of a kind may refer to one of another kind (R4.3).
 fn may_refer(kind: u32, other: u32) -> bool
     ensures { λ b. ⌜ b ≡ mayRefer kind other ⌝ }
 {

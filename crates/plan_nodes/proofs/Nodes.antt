@@ -107,7 +107,7 @@ module _ (p : List ℕ) (k : ℕ) (a : At p k) where
   fine-as : (K : ℕ) → getD p k 0 ≡ K → nodeHeight p k (placed .inside .seen) K (getD p (k + 1) 0) ≡ 0 → ⊥
   fine-as K e z = placed .inside .fine (ap (λ (m : ℕ). nodeHeight p k (placed .inside .seen) m (getD p (k + 1) 0)) e ∙ z)
 
-  -- a reference that was found is the start of an earlier node
+  -- a reference that was found leads to where an earlier node starts
   ref-in : (r : ℕ) → isSome (placedAt (placed .inside .seen) r) ≡ true → At p r × (r < k)
   unfolding startsIn
   ref-in r h =
@@ -144,7 +144,7 @@ module _ (p : List ℕ) (k : ℕ) (a : At p k) where
   pub at-second : (getD p k 0 ≡ 8 → ⊥) → k + 1 < length p
   at-second n = omega (arith, at-size, size-two (getD p k 0) (getD p (k + 1) 0) n)
 
-  -- "n" of a tuple or an object: at most 512 elements
+  -- a tuple or an object has at most 512 elements (R4.4)
   pub at-few : 4 ≤ getD p k 0 → getD p k 0 ≤ 6 → getD p (k + 1) 0 ≤ 512
   unfolding nodeHeight pick manyHeight
   at-few a b =
@@ -215,7 +215,7 @@ module _ (p : List ℕ) (k : ℕ) (a : At p k) where
   pub at-card : 5 ≤ getD p k 0 → getD p k 0 ≤ 6 → (i : ℕ) → i < getD p (k + 1) 0 → isCardinality (pairCard p k i) ≡ true
   at-card a b i lt = cards-in (pairCard p k) (getD p (k + 1) 0) i (pairs-fine (getD p k 0) (five-six (getD p k 0) a b) refl .0) lt
 
-  -- each reference of a node is the start of an earlier one
+  -- each reference of a node leads to where an earlier one starts
   refers : (i r : ℕ) → refAt (look p k) i ≡ some r → At p r × (r < k)
   unfolding look refAt refsAt
   refers i r =

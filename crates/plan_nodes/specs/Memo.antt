@@ -1,4 +1,5 @@
--- How many elements of a plan's sparse objects are required, and a table that keeps it: pairs of a node's start and its number.
+-- Nobody has to believe these definitions: they are what the code says to itself of how many elements of a plan's sparse objects are
+-- required, and of a table that keeps it: pairs of a node's start and its number.
 use mathlib.Core.Path.{_≡_}
 use Prim.Native.Nat.{ℕ, zero, suc, _+_, _*_, _/_, _≤_, _<_}
 use mathlib.Core.Bool.{Bool}
@@ -10,7 +11,7 @@ use Rattle.value_heads.specs.Heads.{needed}
 use Rattle.protocol.specs.Numbers.{pick}
 use Rattle.protocol.specs.Plans.{cardsAt, nodeSize}
 
--- "Cardinalities 41 and 4d are required": how many elements of the object at a position are
+-- how many elements of the object at a position are required (R5.11)
 unfoldable pub neededAt : List ℕ → ℕ → ℕ
 neededAt p k = needed (cardsAt p k) (length (cardsAt p k))
 

@@ -1,4 +1,4 @@
--- What the readers of a plan's nodes take and give.
+-- Nobody has to believe these definitions: they are what the code's readers of a plan's nodes take and give.
 use mathlib.Core.Path.{_≡_}
 use Prim.Native.Nat.{ℕ, _≤_, _^_, _<_}
 use mathlib.Core.List.{List}

@@ -1,6 +1,6 @@
-// How many elements of a sparse object are required ("41 and 4d are required"). They are counted once a call, for every sparse object of
-// the plan, and kept in a table: a walk over a value then compares two numbers at the end of each sparse object, and does not look at
-// its whole shape again, so that its work is that of the plan's words plus the value's bytes.
+// How many elements of a sparse object are required (R5.11). They are counted once a call, for every sparse object of the plan, and kept in
+// a table: a walk over a value then compares two numbers at the end of each sparse object, and does not look at its whole shape again, so
+// that its work is that of the plan's words plus the value's bytes.
 use crate::node::second_at;
 use crate::words::size_at;
 use crate::words::wide;

@@ -10,7 +10,7 @@ ghost use Rattle.plan_nodes.specs.Readers.{Refers, KindAt, At};
 ghost use Rattle.protocol.specs.Nodes.{refAt};
 ghost use Rattle.protocol.specs.Plans.{look, cardsAt, noType, planFormed};
 
-// The root's node: "root position". A plan of no type has none.
+// The root's node, which is the plan's second word (R4.1). A plan of no type has none.
 pub fn root_of(plan: &[u32]) -> usize
     requires { ⌜ (planFormed (now plan) ≡ true) × (noType (now plan) ≡ false) ⌝ }
     ensures { λ r. ⌜ (r ≡ getD (now (plan .entry)) 1 0) × (At (now (plan .entry)) r) ⌝ }

@@ -30,7 +30,7 @@ pub fn put_word(list: &mut [u32], at: usize, word: u32)
     }
 }
 
-// "cardinalities": one of five codes
+// Whether a word is one of the five cardinalities (R2.10).
 pub fn is_cardinality(c: u32) -> bool
     ensures { λ b. ⌜ b ≡ isCardinality c ⌝ }
 {

@@ -1,4 +1,4 @@
--- The eleven cases of document 01, 'Values at the edges', computed.
+-- The table of the eleven cases (docs/RULES.md, 'Values at the edges'), computed.
 use mathlib.Core.Path.{_≡_, refl}
 use mathlib.Core.List.{map}
 use Rattle.run_plan.specs.Cases.{resultOf, planA, planSparse, four, twoIntegers}

@@ -1,4 +1,4 @@
--- Demand 3: running the plan that a descriptor compiles to gives what the rules read off the descriptor give, for every value and room;
+-- R4.14: running the plan that a descriptor compiles to gives what the rules read off the descriptor give, for every value and room;
 -- that plan is well formed; and a descriptor that is refused is refused by both alike.
 use mathlib.Core.Path.{_≡_, refl, sym, _∙_}
 use mathlib.Core.Logic.{⊎-elim}

@@ -1,4 +1,4 @@
--- Demand 3 of the function that compiles and then runs.
+-- R4.14 as the contract of the function that compiles and then runs.
 use mathlib.Core.Path.{_≡_, refl, ap, ap₂, sym, _∙_}
 use mathlib.Core.List.{List}
 use Prim.Native.Nat.{ℕ, _+_, _≤_}

@@ -1,4 +1,4 @@
--- Demand 3: a compiled plan says what its descriptor says.
+-- R4.14: running a compiled plan gives what the rules read off its descriptor give.
 pub mod CaseTable
 pub mod Words
 pub mod Shapes

@@ -12,7 +12,7 @@ use Rattle.protocol.specs.Values.{ValueOutcome as ListOutcome}
 use Rattle.protocol.specs.Answers.{refused as refusedList, Outcome, refused, accepted}
 use Rattle.protocol.specs.Compiling.{wholePlan}
 
--- of a value of n bytes: the descriptor's own number and place, or what a run by a well-formed plan gives
+-- of a value of n bytes: number and place of a descriptor that is refused, or what a run by a well-formed plan gives (R4.13)
 abbrev pub Told : Outcome DescribedType → ℕ → ListOutcome → Type 0
 Told (refused m p) n o = o ≡ refusedList m p
 Told (accepted t) n o = Expected n o

@@ -72,7 +72,7 @@ module _ (ρ : ℕ → ℕ) where
   rename-same σ (sparse rs cs) e = ap (λ (l : List ℕ). sparse l cs) (map-same ρ σ rs e)
   rename-same σ (range r) e = ap range (e 0 (omega arith))
 
--- a reference of an element is one of the node's
+-- the reference of an element stands among the node's
 pub ref-in : (v : Node) (i r : ℕ) → refAt v i ≡ some r → (j : ℕ) × (j < length (refsOf v)) × (r ≡ getD (refsOf v) j 0)
 unfolding refAt refsOf
 ref-in (leaf f) i r e = let z : _≡_ {A = ℕ} 0 1 = cc in absurd (omega arith)

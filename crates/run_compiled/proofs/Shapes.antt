@@ -106,7 +106,7 @@ module _ (known : List Known) (es : List Element) (tag : ℕ) (k : knownTag tag 
               cards = λ j m. ap isCardinality (card-of es j) ∙ f j (rw length-map at m);
             }
 
-    -- "for 2 neither a 2 nor a 3, for 3 a 2, for 7 a 1, else any"
+    -- each reference goes to a node of a kind that it may go to (R4.3)
     pub shape-refers : (j kind : ℕ) → j < length es → Kinded (target known (getD es j noElement) .tag) kind → mayRefer (kindOf (nodeOf known tag (x .format) es)) kind ≡ true
     unfolding nodeOf kindOf kindFits mayRefer single pick
     shape-refers j kind l q =

@@ -49,7 +49,7 @@ pub record Paired (rs cs : List ℕ) : Type 0 where
   pub few : length rs ≤ 512
   pub cards : (j : ℕ) → j < length cs → isCardinality (getD cs j 0) ≡ true
 
--- "formats, counts .. , cardinalities .. obey"
+-- what is asked of a node by itself: its format, its count and its cardinalities (R4.4)
 unfoldable pub Proper : Node → Type 0
 Proper (leaf f) = f < 20
 Proper enum = Unit {0}

@@ -1,4 +1,4 @@
--- The eleven cases of document 01, 'Values at the edges', as one table about the definitions.
+-- The table of the eleven cases (docs/RULES.md, 'Values at the edges'), about protocol's definitions (R9.12). proofs/CaseTable computes it.
 use Prim.Native.Nat.{ℕ}
 use mathlib.Core.List.{List, [], _∷_, _++_}
 use lib.ListN.{replicate, take}

@@ -17,11 +17,11 @@ blockAt [] k = enum
 blockAt (b ∷ bs) zero = b .shape
 blockAt (b ∷ bs) (suc k) = blockAt bs k
 
--- a value of the root block; the list names blocks by their node words
+-- a value of the root's block; the list names blocks by their node words (R4.12)
 unfoldable pub valueIn : List Block → ℕ → List ℕ → ValueOutcome
 valueIn bs root s = renamed (nodeAt (summaries bs)) (valueOf (blockAt bs) root 0 0 s)
 
--- 28, and then the value's own faults; a descriptor that is not accepted has its own number and place
+-- 28, and then the value's own faults; a descriptor that is not accepted has its own number and place (R4.13)
 unfoldable pub judged : Description → List ℕ → ValueOutcome
 judged (refusedBy n p) s = refused n p
 judged noType s = pick (ltb 65535 (length s)) (refused 28 0) (nothingIn s)

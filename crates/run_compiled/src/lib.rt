@@ -1,7 +1,7 @@
-// Demand 3: compiling a descriptor and running its plan share no more than the plan's words, and nothing is lost on the way.
+// Compiling a descriptor and then running its plan (R4.14). The two share no more than the plan's words.
 ghost use Rattle.run_compiled.specs.Follows.{Follows};
 
-// Demand 3 as one function: it compiles a descriptor, and then runs the plan alone.
+// Compiles a descriptor, and then runs the plan alone: one function, so that its contract is R4.14.
 pub fn compile_and_run(
     d: &[u8],
     root: &[u8],

@@ -1,5 +1,5 @@
 -- The numbers of a run. By a well-formed plan they are 28, those of a value's faults (20 to 27) at places in the value, and 31; so 28, 31
--- and 33 are given exactly where document 01's table says. A plan's words are below 2 ^ 32, as lent words are.
+-- and 33 are given exactly where R1.3 says. A plan's words are below 2 ^ 32, as lent words are.
 use mathlib.Core.Path.{_≡_, refl, ap, sym, _∙_}
 use mathlib.Core.Bool.{Bool, true, false}
 use mathlib.Core.List.{List}

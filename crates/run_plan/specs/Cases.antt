@@ -1,5 +1,5 @@
--- The plans and bytes of document 01, 'Values at the edges', and what a run
--- gives as number and place or words. The table of its cases is compile's.
+-- Parts of the table of the eleven cases (docs/RULES.md, 'Values at the edges'), which stands in run_compiled/specs/Cases: its two plans, some
+-- bytes, and what a run gives as number and place or words.
 use Prim.Native.Nat.{ℕ}
 use mathlib.Core.List.{List, [], _∷_, _++_}
 use lib.ListN.{replicate}
@@ -16,11 +16,11 @@ unfoldable pub resultOf : ValueOutcome → Result
 resultOf (refused n p) = refusal n p
 resultOf (accepted f) = list (words f)
 
--- "A's plan: 6 4 1 5 2 2"
+-- the plan that case 1 gives, and cases 2 to 7 run
 unfoldable pub planA : List ℕ
 planA = 6 ∷ 4 ∷ 1 ∷ 5 ∷ 2 ∷ 2 ∷ []
 
--- "Plan 8 4 1 5 6 1 2 65"
+-- the plan of cases 10 and 11
 unfoldable pub planSparse : List ℕ
 planSparse = 8 ∷ 4 ∷ 1 ∷ 5 ∷ 6 ∷ 1 ∷ 2 ∷ 65 ∷ []
 
@@ -28,6 +28,6 @@ planSparse = 8 ∷ 4 ∷ 1 ∷ 5 ∷ 6 ∷ 1 ∷ 2 ∷ 65 ∷ []
 unfoldable pub four : ℕ → List ℕ
 four n = 0 ∷ 0 ∷ 0 ∷ n ∷ []
 
--- "Set {7, -1}: 00000001, eight zeros, 00000002 00000001, then twice 00000008 and the integer: 44 bytes."
+-- the value of case 2: a set of the integers 7 and -1
 unfoldable pub twoIntegers : List ℕ
 twoIntegers = four 1 ++ (replicate 8 0 ++ (four 2 ++ (four 1 ++ (four 8 ++ (replicate 7 0 ++ (7 ∷ (four 8 ++ replicate 8 255)))))))

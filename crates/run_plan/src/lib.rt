@@ -60,7 +60,7 @@ fn check_many(plan: &[u32], value: &[u8], scratch: &mut [u32]) -> Answer
 }
 
 // Judges a value by a plan and counts the words of its list: the whole answer but for the list's room. An accepted value's words are
-// left in the scratch room, as far as it goes. A short table is cleared in no time; one that is filled to its end may have lost a
+// left in the scratch room, as far as it goes. A short table takes little time to clear; one that is filled to its end may have lost a
 // pair, and then a long one is made.
 pub fn check(plan: &[u32], value: &[u8], scratch: &mut [u32]) -> Answer
     ensures { λ r. ⌜ Checks (length (now (value .entry))) (checked (now (plan .entry)) (now (value .entry))) r (now (scratch .entry)) (now (scratch .exit)) ⌝ }
