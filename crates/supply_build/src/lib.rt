@@ -61,7 +61,7 @@ fn build_leaf(
     Built::Failed
 }
 
-// Whether an element may be absent: "Cardinalities 41 and 4d are required; others may be -1. Tuples never."
+// Whether an element may be absent: in an object, where its cardinality does not require it (R5.11), and nowhere else.
 fn may_lack(plan: &[u32], node: usize, kind: u32, i: usize) -> bool
     requires { ⌜ (At (now plan) node) × (Container (now plan) node kind) × (Refers (look (now plan) node) i) ⌝ }
     ensures { λ b. ⌜ b ≡ mayLack (look (now (plan .entry)) node) i ⌝ }

@@ -1,5 +1,6 @@
--- The building as the code does it: the list by the next word's index, the output by the next byte's. What would pass 65,535 bytes stops
--- at once, so that a supply costs no more than its own words and the bytes of the largest value.
+-- Nobody has to believe these definitions: they are the building of a value as the code does it, the list by the next word's index, the output
+-- by the next byte's. What would pass 65,535 bytes stops at once, so that a supply costs no more than its own words and the bytes of the
+-- largest value.
 use mathlib.Core.Path.{_≡_}
 use Prim.Native.Nat.{ℕ, _+_, _≤_}
 use mathlib.Core.Bool.{Bool, true, false}
@@ -36,7 +37,7 @@ unfoldable pub readOf : Next → Read
 readOf short = Short
 readOf (next c ws) = Whole (record { node = c .node; index = c .index; start = c .start; size = c .size; count = c .count })
 
--- the next entry, if its index is one of n; one with another is as good as none
+-- the next entry, if its index is one of n; one with another counts as none
 unfoldable pub known : ℕ → Next → Next
 known n short = short
 known n (next c ws) = pick (ltb (c .index) n) (next c ws) short

@@ -15,7 +15,7 @@ ghost use Rattle.protocol.specs.Plans.{look};
 ghost use Rattle.plan_nodes.specs.Readers.{At};
 ghost use Rattle.protocol.specs.Building.{front, setBytes, rangeFront, frontOf};
 
-// The largest value: "descriptor and value 65,535 bytes".
+// The most bytes of a value (R1.4, R8.10).
 pub const LARGEST: usize = 65535;
 
 // A set or an array: no dimension where it is empty; else one, with as many elements as it says, and the lower bound 1.

@@ -58,8 +58,9 @@ pub fn head_size(kind: u32) -> usize
     8
 }
 
-// The head of the element with an index, whose data has n bytes: "envelope length, 1, reserved, inner length"; in a sparse object (6) the
-// index and the length; "each element reserved, length, data".
+// The head of the element with an index, whose data has n bytes: in a set of arrays the envelope's four numbers (R5.6), in a sparse object (6)
+// the index and the length (R5.9), in sets, arrays and ranges the length alone (R5.5, R5.13), and else four reserved bytes and the length (R5.7,
+// R5.8).
 pub fn put_head(kind: u32, index: u32, n: u32, out: &mut [u8], at: usize)
     requires { ⌜ (at ≤ 65535) × (kind ≡ 3 → n ≤ 65535) ⌝ }
     ensures { λ _. ⌜ now (out .exit) ≡ sets (now (out .entry)) at (headOf kind index n) ⌝ }

@@ -12,7 +12,7 @@ pub const WORDS: usize = 5;
 // Which of them is its index.
 pub const INDEX: usize = 1;
 
-// The length word of an absent element: "ffffffff hex if absent".
+// The length word of an absent element (R6.5).
 pub const ABSENT: u32 = 4294967295;
 
 // The entry at a word of the list. The words may run out before it is whole.
@@ -34,7 +34,7 @@ pub fn next_entry(list: &[u32], word: usize) -> Read
     })
 }
 
-// The same of a sparse object with n elements, whose entries say their index: one that the object does not have is as good as none.
+// The same of a sparse object with n elements, whose entries say their index: one that the object does not have counts as none.
 pub fn known_entry(list: &[u32], word: usize, n: usize) -> Read
     ensures { λ r. ⌜ r ≡ readOf (known n (nextOf (drop word (now (list .entry))))) ⌝ }
 {

@@ -22,7 +22,7 @@ use Rattle.protocol.specs.Building.{buildOf, madeBy, suppliedBy, writeOf}
 
 -- ---- the call
 
--- what an accepted value is: of "no type", none
+-- what an accepted value is: of no type the one of no bytes (R4.6), and else one of the root's node
 data Accepts (p s : List ℕ) (f : Forest) : Type 0 where
   nothing-in : noType p ≡ true → s ≡ [] → f ≡ empty → Accepts p s f
   value-in : noType p ≡ false → length s ≤ 65535 → valueOf (look p) (getD p 1 0) 0 0 s ≡ accepted f → Accepts p s f

@@ -1,4 +1,4 @@
--- The numbers of writing a value are given exactly where document 01's table says: 33, 34 and 32. A value, a source and a list are as lent:
+-- The numbers of writing a value are given exactly where R1.3 says: 33, 34 and 32. A value, a source and a list are as lent:
 -- the first two are bytes, and the list's are words.
 use mathlib.Core.Path.{_≡_, refl, sym, _∙_}
 use mathlib.Core.Bool.{Bool, true, false}
@@ -21,7 +21,7 @@ use Rattle.protocol.specs.Supplies.{zeroed, HasSupply}
 use Rattle.protocol.specs.Building.{Made, wrong, made, madeBy, suppliedBy, writeOf}
 use Rattle.protocol.specs.Answers.{Put, refusedPut, putOut, outputRoomed}
 
--- "no accepted value has this supply": a value is bytes
+-- of all values that are bytes and are accepted, none has the supply (R8.6)
 abbrev pub NoneHas : (p ws src : List ℕ) → Type 0
 NoneHas p ws src = (s : List ℕ) → Bytes s → HasSupply p s ws src → ⊥
 

@@ -121,7 +121,7 @@ module _ {S : Type 0} (form : Form S) (order : Order S) (v : Node) (s : List ℕ
   Again (Absent i start) = (mayLack v i ≡ true) × (start ≤ length s) × Element order v s st at (form .next st (Absent i start)) i start ABSENT
   Again (Present i start n) = (start + n ≤ length s) × Element order v s st at (form .next st (Present i start n)) i start n
 
--- an element that may be absent: heads' case law, with the length
+-- an element that may be absent: the case law of value_heads/proofs/Cases, with the length
 optional-all : (P : Head → Type 0) → ((m : ℕ) → 0 < m → P (Fault m)) → (s : List ℕ) (required : Bool) (i start size : ℕ)
     → (required ≡ false → size ≡ ABSENT → P (Absent i start)) → (size < 2 ^ 31 → size ≤ length s - start → P (Present i start size)) → P (optional s required i start size)
 unfolding optional

@@ -200,7 +200,7 @@ module _ (p ws src b : List ℕ) (small : Words ws) (formed : planFormed p ≡ t
   unfolding checked admitted
   checked-by = pick-yes _ _ _ formed ∙ pick-no _ _ _ (le-ltb 65535 (length b) fits)
 
-  -- "no type"
+  -- no type (R8.11)
   none-sound : noType p ≡ true → made [] ws ≡ made b [] → HasSupply p b ws src × (zeroed p b ≡ b)
   unfolding valueBy nothingIn Agrees zeroed
   none-sound t e =

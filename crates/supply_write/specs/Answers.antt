@@ -1,4 +1,5 @@
--- What the writer answers and leaves in the output, from what the definition puts out.
+-- How the code's own enum `Answer` shows protocol's outcome of writing a value: read it only for the contract of `supply_write::write` and of
+-- what it calls.
 use mathlib.Core.Path.{_≡_}
 use Prim.Native.Nat.{ℕ}
 use mathlib.Core.List.{List}
@@ -12,7 +13,7 @@ unfoldable pub answerOf : Put → Answer
 answerOf (refusedPut n) = Refused n
 answerOf (putOut b) = Written (length b)
 
--- what is put out settles the answer and the output
+-- what is put out settles the answer and the output (R1.1, R1.2)
 pub record Puts (p : Put) (r : Answer) (out out′ : List ℕ) : Type 0 where
   pub answer : r ≡ answerOf p
   pub output : out′ ≡ outputAfter p out

@@ -1,5 +1,5 @@
-// Writes a value from a supply, which is a list and source bytes: "The writer puts out the accepted value that has the supply and whose
-// containers' reserved fields are zero." The bytes go into scratch room first, since a refusal may change no byte of the output.
+// Writes a value from a supply: the value of R8.4, with reserved fields zero (R8.5). The bytes go into scratch room first, since a refusal may
+// change no byte of the output (R1.1).
 use supply_entries::Built;
 use supply_entries::Read;
 use supply_entries::front;
@@ -23,8 +23,8 @@ pub enum Answer {
 // How many words the short table of required elements has: two for each of 32 sparse objects. Few plans have so many.
 const SHORT: usize = 64;
 
-// The value of a node that is the top of its plan, from the list's first entry: "top 0". The top may not be absent. `needs` says how many
-// elements of the plan's sparse objects are required.
+// The value of a node that is the top of its plan, from the list's first entry, whose index is 0 (R6.3). The top may not be absent (R8.8).
+// `needs` says how many elements of the plan's sparse objects are required.
 fn build_top(
     plan: &[u32],
     needs: &[u32],
@@ -48,7 +48,7 @@ fn build_top(
     supply_build::build_value(plan, needs, node, src, list, entry, 0, out, 0)
 }
 
-// The value of a well-formed plan. "No type" has no node, and the supply of no words.
+// The value of a well-formed plan. No type has no node, and the supply of no words (R8.11).
 fn build_whole(plan: &[u32], needs: &[u32], src: &[u8], list: &[u32], out: &mut [u8]) -> Built
     requires { ⌜ (planFormed (now plan) ≡ true) × (Memo (now plan) (now needs)) ⌝ }
     ensures { λ r. ⌜ standOf r (now (list .entry)) (now (out .exit)) ≡ put-at (madeBy (now (plan .entry)) (now (list .entry)) (now (src .entry))) 0 (now (out .entry)) ⌝ }
@@ -146,9 +146,8 @@ fn write_many(plan: &[u32], list: &[u32], src: &[u8], out: &mut [u8]) -> Answer
     write_sized(plan, &table[..words], list, src, out)
 }
 
-// Writes the value of a plan that has the supply of a list and source bytes: "Value writer: 33, 34, 32." The plan is checked once and its
-// table is made once. A short table is cleared in no time; one that is filled to its end may have lost a pair, and then
-// a long one is made.
+// Writes the value of a plan that has the supply of a list and source bytes, in the order of R1.10. The plan is checked once and its table is
+// made once. A short table takes little time to clear; one that is filled to its end may have lost a pair, and then a long one is made.
 pub fn write(plan: &[u32], list: &[u32], src: &[u8], out: &mut [u8]) -> Answer
     ensures { λ r. ⌜ Puts (writeOf (now (plan .entry)) (now (list .entry)) (now (src .entry)) (length (now (out .entry)))) r (now (out .entry)) (now (out .exit)) ⌝ }
 {

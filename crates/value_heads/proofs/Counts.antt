@@ -62,7 +62,7 @@ module _ (cards : List ℕ) where
   given-most marks zero = omega arith
   given-most marks (suc n) = one-more (requires (getD cards n 0)) (getD marks n false) _ _ (given-most marks n)
 
-  -- "27 for a required index not given"
+  -- a required index was not given (R5.14) where fewer of them were given than there are
   pub lacking-fewer : (marks : List Bool) (n : ℕ) → lacking cards marks n ≡ ltb (given cards marks n) (needed cards n)
   unfolding lacking given needed
   lacking-fewer marks zero = refl

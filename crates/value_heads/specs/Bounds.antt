@@ -1,4 +1,4 @@
--- What a caller goes by of a head that was read, whatever its bytes.
+-- Nobody has to believe these definitions: they are what the code says to itself of a head that was read, whatever its bytes.
 use Prim.Native.Nat.{ℕ, _<_, _≤_}
 use mathlib.Core.Path.{_≡_}
 use mathlib.Core.Bool.{Bool, false}

@@ -1,4 +1,4 @@
--- The number of a refusal in what a head's read answers, and 0 where there is none.
+-- Nobody has to believe these definitions: they are the number of a refusal in what the code's reading of a head answers, 0 where there is none.
 use Prim.Native.Nat.{ℕ}
 use Rattle.forms.specs.declared.Opening.{Opening}
 use Rattle.forms.specs.declared.Opening.the-variants.{Elements, Wrong}

@@ -1,5 +1,5 @@
--- The definitions: Heads for every crate that reads values, Faults for the refusals' numbers, Bounds for what holds of every head that was read,
--- Marks for the set of seen indexes.
+-- Heads counts the required elements of a sparse object, Faults gives the refusals' numbers, Bounds says what holds of every head that was
+-- read, and Marks which indexes of a sparse object were seen.
 pub mod Heads
 pub mod Faults
 pub mod Bounds

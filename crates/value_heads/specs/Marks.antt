@@ -1,4 +1,5 @@
--- The marks of a sparse object's indexes, as the code sets them: those of a stretch of elements one after the other.
+-- Nobody has to believe these definitions: they are the marks of a sparse object's indexes (R5.10) as the code sets them, those of a stretch of
+-- elements one after the other.
 use Prim.Native.Nat.{ℕ, zero, suc, _+_}
 use mathlib.Core.Bool.{Bool, true, false}
 use mathlib.Core.List.{List, [], _∷_}

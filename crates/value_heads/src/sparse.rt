@@ -11,11 +11,11 @@ ghost use Rattle.value_heads.specs.Marks.{marked, repeats, indexesIn, in
 ghost use Rattle.protocol.specs.Numbers.{pick};
 ghost use Rattle.protocol.specs.Heads.{sparseIndex};
 
-// How many marks a set has: "512 elements .. in a block".
+// How many marks a set has: as many as a shape can have elements (R1.4).
 pub const MOST: usize = 512;
 
 // Which indexes of a sparse object were given, and whether one of those that came last had been given before. The marks are read and written
-// by the methods here alone: each takes the set by value, and hands the marked set back.
+// by the methods here alone: each takes the set by value and returns it with the mark (R9.11).
 pub struct Seen {
     pub marks: [bool; 512],
     pub twice: bool,

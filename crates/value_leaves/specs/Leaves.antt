@@ -1,4 +1,4 @@
--- What a stretch of leaves leaves to the walk.
+-- Nobody has to believe these definitions: they are what the code says to itself of a stretch of leaves, and of what is then left to the walk.
 use mathlib.Core.Path.{_≡_}
 use mathlib.Core.Bool.{Bool, true, false}
 use mathlib.Core.List.{List, []}
@@ -46,7 +46,7 @@ unfoldable pub fixedLeaf : List ℕ → ℕ → ℕ → Leaf
 fixedLeaf s at size =
     pick (eqb size 0) Other (pick (ltb (length s - at) (size + 4)) Other (pick (eqb (word s at) size) (Good (at + 4) size) Other))
 
--- the reserved bytes before an element's length, by the kind of its container
+-- the reserved bytes before an element's length, by the kind of its container (R5.7, R5.8)
 unfoldable pub gapOf : ℕ → ℕ
 gapOf kind = pick (eqb kind 4) 4 (pick (eqb kind 5) 4 0)
 

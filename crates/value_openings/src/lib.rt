@@ -7,7 +7,7 @@ ghost use Rattle.protocol.specs.Numbers.{pick};
 ghost use Rattle.protocol.specs.Heads.{setOpening, countOpening, sparseOpening, flag, rangeFlags, bounds, rangeOpening, dimension};
 
 // The one dimension of a set or an array: an upper bound of at least 1, which is the number of elements, and a lower bound of 1. Each
-// field is first whole (20), then by its rule (22).
+// field must be complete (20) before its rule is asked (22): R5.4.
 fn dimension_of(s: &[u8]) -> Opening
     ensures { λ r. ⌜ r ≡ dimension (now (s .entry)) ⌝ }
 {

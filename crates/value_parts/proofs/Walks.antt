@@ -74,7 +74,7 @@ under-go e n (accepted f) k l l′ w g =
     omega (arith, length-append (entryWords e n) (words f ++ []), length-append (words f) []) in
     rw (h, c, g, append-nil) (ap (reached (k + 5 + length (words f))) (sym a))
 
--- a leaf, or an absent element: an entry and nothing below it
+-- of a leaf, and of an element that is absent: an entry and nothing below it
 pub alone : (e : Entry) (k : ℕ) (l l′ : List ℕ) → l′ ≡ sets l k (entryWords e 0) → reached (k + 5) l′ ≡ led (accepted (tree e empty empty)) k l
 unfolding led words width
 alone e k l l′ g = rw g

@@ -1,4 +1,4 @@
--- What the walk over a sparse object keeps of the indexes it met.
+-- Nobody has to believe these definitions: they are what the code's walk over a sparse object keeps of the indexes it met.
 use mathlib.Core.Path.{_≡_}
 use mathlib.Core.Bool.{Bool}
 use mathlib.Core.List.{List}

@@ -1,4 +1,5 @@
--- The rules of values as the code goes by them: the list by the number of its words so far. A refusal says nothing of the list.
+-- Nobody has to believe these definitions: they are the rules of values as the code goes by them, the list by the number of its words so far.
+-- A refusal says nothing of the list.
 use mathlib.Core.Path.{_≡_}
 use Prim.Native.Nat.{ℕ, _+_, _*_, _^_, _<_, _≤_}
 use mathlib.Core.Bool.{Bool, true, false}
@@ -35,20 +36,20 @@ unfoldable pub led : ValueOutcome → ℕ → List ℕ → Walk
 led (refused n p) k l = stopped n p
 led (accepted f) k l = reached (k + length (words f)) (sets l k (words f))
 
--- the end of a container's elements: whether no byte is left over, and whether a required index is lacking
+-- the end of a container's elements (R5.14): whether no byte is left over, and whether a required index is lacking
 unfoldable pub endStep : Bool → Bool → ℕ → ℕ → Step
 endStep whole lacks base at = pick whole (pick lacks (Refused 27 base) (Reached at)) (Refused 21 base)
 
--- by the byte at e, at most 1 + e / 4 entries of five words: each has at least four bytes of its own
+-- by the byte at e, at most 1 + e / 4 entries of five words (R6.10): each has at least four bytes of its own
 unfoldable pub Within : ℕ → Step → Type 0
 Within e (Refused q p) = Unit {0}
 Within e (Reached at) = 4 * at ≤ 5 * e + 20
 
--- a leaf's kinds: a scalar's and an enumeration's
+-- a leaf's kinds: a scalar's and an enumeration's (R4.2)
 unfoldable pub leafKind : ℕ → Bool
 leafKind kind = pick (eqb kind 1) true (eqb kind 8)
 
--- whether a leaf's content is permitted
+-- whether a leaf's content is permitted (R5.15, R5.17)
 unfoldable pub leafGood : Node → List ℕ → Bool
 leafGood (leaf f) s = scalar f s
 leafGood enum s = enumeration s

@@ -1,4 +1,5 @@
--- The formats whose rule is a size alone, by which a run of such values is judged at once.
+-- Nobody has to believe these definitions: they are the formats whose rule is a size alone (R5.15), by which the code judges a run of such
+-- values at once.
 use mathlib.Core.Path.{_≡_}
 use mathlib.Core.List.{List}
 use Prim.Native.Nat.{ℕ, _≤_, _<_}

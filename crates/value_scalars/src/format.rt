@@ -1,4 +1,4 @@
-// The formats of scalars by name, numbered as document 01 numbers them, and those whose values are any bytes of a fixed size.
+// The formats of scalars by name (R5.15), and those whose values are any bytes of a fixed size.
 ghost use Rattle.value_scalars.specs.Sizes.{Fixed};
 
 pub const UUID: u32 = 0;

@@ -127,7 +127,7 @@ module _ (s : List ℕ) (i l m : ℕ) where
         | no p ↦ cut s i 1 1 (1 to 0) o (omega arith) (omega arith)
       ]
 
--- what a sequence, or none, says of the text from i on
+-- ---- what a sequence, or none, says of the text from i on
 
 follow-goes : (rs : List Range) (l : List ℕ) → goesOn rs l ≡ pick (follow rs l) (goesOn [] (drop (length rs) l)) false
 unfolding goesOn follow pick

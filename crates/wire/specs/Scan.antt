@@ -1,4 +1,5 @@
--- What the functions of src/text.rt say to each other of a scan of text: forms of Utf8's definitions that no other crate needs.
+-- Nobody has to believe these definitions: they are what the functions of src/text.rt say to each other of a scan of text, in forms of
+-- protocol's well-formed text (R2.6) that no other crate needs.
 use mathlib.Core.Path.{_≡_}
 use mathlib.Core.Bool.{Bool, true, false}
 use mathlib.Core.List.{List, [], _∷_}

@@ -1,4 +1,5 @@
--- `wire::copy::put_bytes` meets its contract. The invariant: the first `i` bytes of the part are stored, and `n` is as many as there are or as there is room for.
+-- `wire::copy::put_bytes` meets its contract. The invariant: the first `i` bytes of the part are stored, and `n` is as many as there are or as
+-- there is room for.
 use mathlib.Core.Path.{_≡_, refl, sym, ap, _∙_}
 use mathlib.Core.List.{List}
 use Prim.Native.Nat.{ℕ, _+_, _-_, _≤_, _<_, min}
