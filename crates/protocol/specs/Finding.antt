@@ -53,7 +53,7 @@ foundAt t nowhere = unfound NO-ENTRY 0
 foundAt t (spot e below) =
     pick (eqb (e .size) ABSENT) (unfound ABSENT-ELEMENT 0) (found (e .node) (e .start) (take (e .size) (drop (e .start) t)))
 
--- R7.1: the value is checked whole before the path is looked at. Under no type nothing is listed, so every path leads nowhere (R7.6).
+-- R7.1: the value is checked whole, and only then the path. Under no type nothing is listed, so every path leads nowhere (R7.6).
 unfoldable pub foundIn : List ℕ → List ℕ → ValueOutcome → Found
 foundIn t path (refused n p) = unfound n p
 foundIn t path (accepted f) = foundAt t (follow path (topOf f))

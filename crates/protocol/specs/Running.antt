@@ -14,7 +14,7 @@ use Rattle.protocol.specs.Plans.{look, noType, planFormed}
 unfoldable pub nothingIn : List ℕ → ValueOutcome
 nothingIn s = pick (eqb (length s) 0) (accepted empty) (refused VALUE-LEFT 0)
 
--- a value by a well-formed plan: the top is a value of the root
+-- R5.1: a value by a well-formed plan, as a whole judged by the root's node
 unfoldable pub valueBy : List ℕ → List ℕ → ValueOutcome
 valueBy p s = pick (noType p) (nothingIn s) (valueOf (look p) (getD p 1 0) 0 0 s)
 

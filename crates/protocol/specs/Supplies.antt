@@ -47,7 +47,7 @@ nextOf ws = pick (ltb (length ws) ENTRY-WORDS) short (next (claimOf ws) (drop EN
 unfoldable pub SameLeaf : (t src : List ℕ) → ℕ → ℕ → ℕ → ℕ → Type 0
 SameLeaf t src a n a′ n′ = (a′ + n′ ≤ length src) × (take n (drop a t) ≡ take n′ (drop a′ src))
 
--- R8.2: a range's flags, at its start
+-- R8.2: the flags byte with which a range starts
 unfoldable pub SameFlags : (t src : List ℕ) → ℕ → ℕ → Type 0
 SameFlags t src a a′ = (a′ < length src) × (getD t a 0 ≡ getD src a′ 0)
 
