@@ -1,5 +1,4 @@
 -- R4.14: running a compiled plan gives what the rules read off its descriptor give.
-pub mod CaseTable
 pub mod Words
 pub mod Shapes
 pub mod Places

@@ -2,4 +2,5 @@
 pub mod Accepted
 pub mod Lists
 pub mod Bytes
+pub mod Cases
 pub mod Theorems
