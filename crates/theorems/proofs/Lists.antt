@@ -15,18 +15,17 @@ use Rattle.run_plan.proofs.Numbers.{run-expected}
 use Rattle.find_path.proofs.Paths.{follow-nowhere, Within}
 use Rattle.find_path.proofs.Calls.{passed, nothing-listed, led}
 use Rattle.find_path.proofs.Indexes.{Distinct}
-use Rattle.descriptor_blocks.specs.Descriptor.{Description, refusedBy, noType as untyped, described, descriptionOf}
-use Rattle.descriptor_blocks.proofs.Numbers.{described-refusable}
-use Rattle.run_compiled.specs.OffDescriptor.{rulesOf}
-use Rattle.run_compiled.specs.Follows.{Entries}
 use Rattle.run_compiled.proofs.EntryBound.{run-fits}
 use Rattle.run_compiled.proofs.Numbers.{Told, rules-told}
 use Rattle.forms.specs.declared.Answer.{Answer}
 use Rattle.theorems.specs.Terms.{Words, RunNumber, IndexesApart}
+use Rattle.theorems.proofs.Accepted.{descriptor-number}
 use Rattle.protocol.specs.Constants.{ABSENT}
-use Rattle.protocol.specs.Lists.{Forest, empty, tree, words, count}
+use Rattle.protocol.specs.Lists.{Forest, empty, tree, words, count, Entries}
 use Rattle.protocol.specs.Values.{ValueOutcome}
-use Rattle.protocol.specs.Answers.{refused, accepted}
+use Rattle.protocol.specs.Answers.{Outcome, refused, accepted}
+use Rattle.protocol.specs.Descriptors.{bareForm, DescribedType, describe}
+use Rattle.protocol.specs.OffDescriptor.{rulesBy}
 use Rattle.protocol.specs.Plans.{noType, planFormed}
 use Rattle.protocol.specs.Running.{checked, runOf}
 use Rattle.protocol.specs.Finding.{Spot, nowhere, spot, topOf, follow, unfound, found, foundAt, foundIn, findOf}
@@ -37,19 +36,20 @@ use Rattle.protocol.specs.Crossing.{wordsIn, crosses, wordRoom, runAnswer, runF
 pub run-number : (p : List ℕ) → Words p → planFormed p ≡ true → (s : List ℕ) (room n q : ℕ) → runOf p s room ≡ refused n q → RunNumber (length s) n q
 run-number p w f s room n q e = rw e at (run-expected p w s room f)
 
-pub rules-number : (d root s : List ℕ) (room n q : ℕ) → rulesOf d root s room ≡ refused n q → (descriptionOf d root ≡ refusedBy n q) ⊎ RunNumber (length s) n q
-rules-number d root s room n q e = go (descriptionOf d root) refl (rw e at (rules-told d root s room))
+pub rules-number : (d root s : List ℕ) (room n q : ℕ) → rulesBy bareForm d root s room ≡ refused n q
+    → (describe bareForm d root ≡ refused n q) ⊎ RunNumber (length s) n q
+rules-number d root s room n q e = go (describe bareForm d root) refl (rw e at (rules-told d root s room))
   where
-    go : (t : Description) → descriptionOf d root ≡ t → Told t (length s) (refused n q) → (descriptionOf d root ≡ refusedBy n q) ⊎ RunNumber (length s) n q
-    go (refusedBy m p) w h = let a : m ≡ n = cc in let b : p ≡ q = cc in inl (w ∙ rw (a, b) refl)
-    go untyped w h = inr h
-    go (described bs i) w h = inr h
+    go : (t : Outcome DescribedType) → describe bareForm d root ≡ t → Told t (length s) (refused n q)
+        → (describe bareForm d root ≡ refused n q) ⊎ RunNumber (length s) n q
+    go (refused m p) w h = let a : m ≡ n = cc in let b : p ≡ q = cc in inl (w ∙ rw (a, b) refl)
+    go (accepted t) w h = inr h
 
 -- so none of them is 33
-pub never-33 : (d root s : List ℕ) (room n q : ℕ) → rulesOf d root s room ≡ refused n q → n ≡ 33 → ⊥
+pub never-33 : (d root s : List ℕ) (room n q : ℕ) → rulesBy bareForm d root s room ≡ refused n q → n ≡ 33 → ⊥
 never-33 d root s room n q e h =
     ⊎-elim
-    (λ (x : descriptionOf d root ≡ refusedBy n q). let y = rw x at (described-refusable d root) in omega (arith, y .1))
+    (λ (x : describe bareForm d root ≡ refused n q). omega (arith, descriptor-number d root n q x .1))
     (λ x. ⊎-elim (λ a. omega (arith, a .0)) (λ y. ⊎-elim (λ b. omega (arith, b .0 .1)) (λ a. omega (arith, a .0)) y) x)
     (rules-number d root s room n q e)
 
@@ -73,7 +73,8 @@ call-entries plan s r l l′ c = rw (c .answer) (go (runFrom plan s (wordRoom (l
     go (refused n q) e = none
     go (accepted f) e =
         ⊎-elim
-        (λ (x : (crosses (length plan) ≡ true) × (runOf (wordsIn plan) s (wordRoom (length l)) ≡ accepted f)). run-entries (wordsIn plan) s (wordRoom (length l)) f (x .1))
+        (λ (x : (crosses (length plan) ≡ true) × (runOf (wordsIn plan) s (wordRoom (length l)) ≡ accepted f)).
+        run-entries (wordsIn plan) s (wordRoom (length l)) f (x .1))
         (λ (x : (crosses (length plan) ≡ false) × (refused 33 0 ≡ accepted f)). let h = x .1 in let z : _≡_ {A = ℕ} 0 1 = cc in absurd (omega arith))
         (pick-split _ _ _ _ e)
 

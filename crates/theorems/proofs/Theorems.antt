@@ -1,7 +1,6 @@
 -- Each promise of specs/Theorems holds, in the order of that page.
 use mathlib.Core.Path.{refl, sym, _∙_}
 use Rattle.message_laws.proofs.Host.{read-then-written, written-then-read, written-then-full}
-use Rattle.run_plan.specs.Cases.{planA}
 use Rattle.run_plan.proofs.Numbers.{exact-33, exact-28, exact-31}
 use Rattle.find_path.proofs.Entries.{find-lines, found-entry}
 use Rattle.find_path.proofs.Indexes.{listed-distinct}
@@ -12,10 +11,7 @@ use Rattle.supply_laws.proofs.Complete.{complete, one-value, zeroed-length}
 use Rattle.supply_laws.proofs.Exact.{exact-34, exact-33 as supply-33, exact-32 as supply-32}
 use Rattle.supply_laws.proofs.Crossed.{exact-34-from-c}
 use Rattle.supply_laws.proofs.RoundTrip.{round-trip, round-trip-fits}
-use Rattle.descriptor_blocks.proofs.Numbers.{described-refusable}
-use Rattle.run_compiled.specs.Cases.{cases}
-use Rattle.run_compiled.proofs.Demand3.{demand-three, compiled-formed, refused-same}
-use Rattle.run_compiled.proofs.CaseTable.{case-table}
+use Rattle.run_compiled.proofs.Demand3.{demand-three, compiled-formed, compiled-small, refused-same}
 use Rattle.run_compiled.proofs.compile_and_run.Met.{met as compile-and-run-met}
 use Rattle.c_panel.proofs.rembulfose_read_message.Met.{met as read-message-met}
 use Rattle.c_panel.proofs.rembulfose_write_message.Met.{met as write-message-met}
@@ -29,9 +25,11 @@ use Rattle.theorems.specs.Theorems.{DescriptorNumbers, PlanGiven, NeverU
 use Rattle.theorems.specs.Theorems.{ValueAccepted, RunExact, FewEntries, FoundOnList, FoundIsEntry, OneEntry, OneNumber, FloatKept}
 use Rattle.theorems.specs.Theorems.{SignKept, SupplySound, SupplyComplete, SupplyUnique, SupplyExact, SupplyExactFromC, RoundTrip}
 use Rattle.theorems.specs.Theorems.{EveryCall, CompileAndRun, EdgeCases}
-use Rattle.theorems.proofs.Accepted.{message-exact, descriptor-exact, no-type-exact, plan-exact, full-exact, value-exact}
+use Rattle.theorems.proofs.Accepted.{message-exact, descriptor-exact, no-type-exact, descriptor-number, plan-exact, full-exact}
+use Rattle.theorems.proofs.Accepted.{refused-own, value-exact}
 use Rattle.theorems.proofs.Lists.{run-number, rules-number, never-33, run-entries, call-entries, indexes-apart, found-part}
 use Rattle.theorems.proofs.Bytes.{read-keeps, write-keeps, compile-keeps, run-keeps, value-keeps, runs-rules, call-runs-rules, written-bytes}
+use Rattle.theorems.proofs.Cases.{case-table}
 use Rattle.protocol.specs.Finding.{foundIn, findOf}
 
 -- ---- R1: refusals and success
@@ -59,21 +57,22 @@ pub descriptor-accepted-holds : DescriptorAccepted
 descriptor-accepted-holds = (descriptor-exact, no-type-exact)
 
 pub descriptor-numbers-holds : DescriptorNumbers
-descriptor-numbers-holds d root n p e = rw e at (described-refusable d root)
+descriptor-numbers-holds = descriptor-number
 
 -- ---- R4: plans, and the rules read off a descriptor
 
 pub plan-given-holds : PlanGiven
-plan-given-holds d root room = (plan-exact d root room, full-exact d root room)
+plan-given-holds d root room = (plan-exact d root room, full-exact d root room, refused-own d root room)
 
 pub never-unformed-holds : NeverUnformed
-never-unformed-holds d root ws w = (
-  compiled-formed d root ws w,
-  λ s room q e. never-33 d root s room 33 q (sym (demand-three d root ws w s room) ∙ e) refl,
+never-unformed-holds d root t w = (
+  compiled-small d root t w,
+  compiled-formed d root t w,
+  λ s room q e. never-33 d root s room 33 q (sym (demand-three d root t w s room) ∙ e) refl,
 )
 
 pub demand-three-holds : DemandThree
-demand-three-holds = (demand-three, refused-same)
+demand-three-holds d root = (demand-three d root, refused-same d root)
 
 pub demand-three-bytes-holds : DemandThreeBytes
 demand-three-bytes-holds d root r p p′ c z s = (runs-rules d root r p p′ c z s, call-runs-rules d root r p p′ c z s)
@@ -171,5 +170,4 @@ compile-and-run-holds M = compile-and-run-met {M = M}
 -- ---- the eleven cases
 
 pub edge-cases-holds : EdgeCases
-unfolding cases planA
 edge-cases-holds = case-table

@@ -1,24 +1,19 @@
--- What this library promises, on one page, in the order of the rules, R1 to R9. Each promise is a type with a name, and proofs/Theorems proves it.
--- A name that is not explained here is a definition of the specs/ folder that it comes from.
+-- What this library promises, on one page, in the order of the rules, R1 to R9. It must be believed together with crates/protocol, whose
+-- definitions it cites; of other crates it cites two contracts of inner calls, find_number/specs/Number and run_compiled/specs/Follows. Each
+-- promise is a type with a name, and proofs/Theorems proves it.
 use mathlib.Core.Path.{_≡_}
 use mathlib.Core.Bool.{true, false}
-use mathlib.Core.List.{List, [], _∷_, _++_, map}
+use mathlib.Core.List.{List, [], _++_, map}
 use mathlib.Core.Logic.{_⊎_, _↔_}
 use Prim.Native.Nat.{ℕ, _+_, _-_, _*_, _/_, _%_, _^_, _<_, _≤_}
 use lib.ListN.{length, getD, take, drop}
 use lib.Ieee.{Format, ones, hid, top, ofBits, toBits}
 use denote.Ref.{now}
-use Rattle.run_plan.specs.Cases.{refusal as refuses, list as lists}
 use Rattle.find_number.specs.Number.{Gives}
 use Rattle.find_number.specs.declared.Number.{Number}
-use Rattle.descriptor_fields.specs.Fields.{idAt}
-use Rattle.descriptor_blocks.specs.Descriptor.{Block, refusedBy, noType, described, descriptionOf, refusedPlan, plan, planOf, compileOf}
-use Rattle.run_compiled.specs.OffDescriptor.{rulesOf}
-use Rattle.run_compiled.specs.Follows.{Entries, Follows}
-use Rattle.run_compiled.specs.Cases.{Case, cases}
+use Rattle.run_compiled.specs.Follows.{Follows}
 use Rattle.run_compiled.proofs.compile_and_run as compile-and-run
 use Rattle.forms.specs.declared.Answer.{Answer}
-use Rattle.c_compile.specs.Compiles.{CompilesPlan}
 use Rattle.c_panel.proofs.rembulfose_read_message as read-message
 use Rattle.c_panel.proofs.rembulfose_write_message as write-message
 use Rattle.c_panel.proofs.rembulfose_compile as compile
@@ -26,21 +21,27 @@ use Rattle.c_panel.proofs.rembulfose_run as run
 use Rattle.c_panel.proofs.rembulfose_find as find
 use Rattle.c_panel.proofs.rembulfose_find_number as find-number
 use Rattle.c_panel.proofs.rembulfose_write_value as write-value
-use Rattle.theorems.specs.Terms.{Bytes, Words, Keeps, WholeMessage, TypedDescriptor, RunNumber, PathEntry, IndexesApart, NoneHas, Does}
-use Rattle.protocol.specs.Messages.{read, messageCall, contents}
-use Rattle.protocol.specs.Lists.{Forest, words}
+use Rattle.protocol.specs.Constants.{MOST-VALUE, VALUE-SIZE, PLAN-ROOM, LIST-ROOM, OUTPUT-ROOM, BAD-PLAN, NO-VALUE}
+use Rattle.protocol.specs.Numbers.{be}
 use Rattle.protocol.specs.Answers.{refused, accepted, refusedPut, putOut, outputRoomed}
+use Rattle.protocol.specs.Messages.{read, messageCall, contents}
+use Rattle.protocol.specs.Descriptors.{Block, bareForm, DescribedType, no-type, block-type, describe}
+use Rattle.protocol.specs.Lists.{Forest, words, Entries}
 use Rattle.protocol.specs.Plans.{planFormed}
+use Rattle.protocol.specs.Compiling.{wholePlan, compileBy}
 use Rattle.protocol.specs.Running.{valueBy, checked, runOf}
+use Rattle.protocol.specs.OffDescriptor.{rulesBy}
 use Rattle.protocol.specs.Finding.{unfound, found, findOf, linesIn, lead, foundOn, Numbered, extended}
 use Rattle.protocol.specs.Supplies.{HasSupply, zeroed}
 use Rattle.protocol.specs.Building.{writeOf}
-use Rattle.protocol.specs.Crossing.{wordsIn, crosses, wordRoom, refusal, success, ReadsMessage, WritesMessage, runFrom, SettlesRun}
-use Rattle.protocol.specs.Crossing.{RunsValue, findFrom, findAnswer, numberFrom, numberAnswer, writeFrom, WritesValue}
+use Rattle.protocol.specs.Crossing.{wordsIn, crosses, wordRoom, refusal, success, ReadsMessage, WritesMessage, CompilesPlan}
+use Rattle.protocol.specs.Crossing.{runFrom, SettlesRun, RunsValue, findFrom, findAnswer, numberFrom, numberAnswer, writeFrom, WritesValue}
+use Rattle.theorems.specs.Terms.{Bytes, Words, Keeps, WholeMessage, TypedDescriptor, RunNumber, PathEntry, IndexesApart, NoneHas, Does}
+use Rattle.theorems.specs.Cases.{Case, cases}
 
 -- ---- R1: refusals and success
 
--- Each C call that has a room keeps to that (R9.6, R9.7).
+-- Each C call that has a room writes no more of it than it answers, and leaves it as it was where it refuses (R1.1, R1.2, R9.6, R9.7).
 abbrev pub RoomsKept : Type 0
 RoomsKept =
     ((side : ℕ) (s : List ℕ) (r : Answer) (l l′ : List ℕ) → ReadsMessage side s r l l′ → Keeps r (4 * r .second) l l′)
@@ -72,54 +73,64 @@ WrittenThenRead =
     → (s : List ℕ) → take (r .first) s ≡ take (r .first) out′ → (q : Answer) (l l′ : List ℕ) → ReadsMessage side s q l l′
     → (length list / 4 ≤ wordRoom (length l)
     → (q ≡ success (r .first) (length list / 4)) × (getD s 0 0 ≡ t) × (contents s (wordsIn (take (4 * q .second) l′)) ≡ contents src (wordsIn list)))
-    × (wordRoom (length l) < length list / 4 → (q ≡ refusal 31 0) × (l′ ≡ l))
+    × (wordRoom (length l) < length list / 4 → (q ≡ refusal LIST-ROOM 0) × (l′ ≡ l))
 
 -- ---- R3: descriptors
 
 -- A descriptor is accepted exactly when its size, root id and blocks are so; or, as "no type", with no bytes and an id of zero (R3.14, R3.17).
 abbrev pub DescriptorAccepted : Type 0
 DescriptorAccepted =
-    ((d root : List ℕ) (bs : List Block) (i : ℕ) → (descriptionOf d root ≡ described bs i) ↔ TypedDescriptor d root bs i)
-    × ((d root : List ℕ) → (descriptionOf d root ≡ noType) ↔ ((d ≡ []) × (length root ≡ 16) × (idAt root 0 ≡ 0)))
+    ((d root : List ℕ) (bs : List Block) (i : ℕ) → (describe bareForm d root ≡ accepted (block-type bs i)) ↔ TypedDescriptor d root bs i)
+    × ((d root : List ℕ) → (describe bareForm d root ≡ accepted no-type) ↔ ((d ≡ []) × (length root ≡ 16) × (be root ≡ 0)))
 
 -- Else it is refused with a number from 10 to 18, at a place in it or at its end (R1.3).
 abbrev pub DescriptorNumbers : Type 0
-DescriptorNumbers = (d root : List ℕ) (n p : ℕ) → descriptionOf d root ≡ refusedBy n p → (10 ≤ n) × (n ≤ 18) × (p ≤ length d)
+DescriptorNumbers = (d root : List ℕ) (n p : ℕ) → describe bareForm d root ≡ refused n p → (10 ≤ n) × (n ≤ 18) × (p ≤ length d)
 
 -- ---- R4: plans, and the rules read off a descriptor
 
--- A plan is given exactly when the descriptor is accepted and its plan fits the room; 30 exactly when it does not fit (R1.8, R4.9).
+-- A plan is given exactly when the descriptor is accepted and its whole plan fits the room; 30 exactly when it does not fit; what is not accepted
+-- has its own number and place (R1.8, R4.7, R4.9).
 abbrev pub PlanGiven : Type 0
 PlanGiven =
     (d root : List ℕ) (room : ℕ)
-    → ((ws : List ℕ) → (compileOf d root room ≡ plan ws) ↔ ((planOf (descriptionOf d root) ≡ plan ws) × (length ws ≤ room)))
-    × ((compileOf d root room ≡ refusedPlan 30 0) ↔ ((ws : List ℕ) × (planOf (descriptionOf d root) ≡ plan ws) × (room < length ws)))
+    → ((ws : List ℕ)
+    → (compileBy bareForm d root room ≡ accepted ws)
+    ↔ ((t : DescribedType) × (describe bareForm d root ≡ accepted t) × (ws ≡ wholePlan t) × (length ws ≤ room)))
+    × ((compileBy bareForm d root room ≡ refused PLAN-ROOM 0)
+    ↔ ((t : DescribedType) × (describe bareForm d root ≡ accepted t) × (room < length (wholePlan t))))
+    × ((n p : ℕ) → describe bareForm d root ≡ refused n p → compileBy bareForm d root room ≡ refused n p)
 
--- A compiled plan is well formed, so no run of it is 33 (R4.4, R4.7).
+-- The plan of an accepted descriptor is made of words and well formed, so no run of it is 33 (R4.4, R4.7).
 abbrev pub NeverUnformed : Type 0
 NeverUnformed =
-    (d root ws : List ℕ) → planOf (descriptionOf d root) ≡ plan ws
-    → (planFormed ws ≡ true) × ((s : List ℕ) (room q : ℕ) → runOf ws s room ≡ refused 33 q → ⊥)
+    (d root : List ℕ) (t : DescribedType) → describe bareForm d root ≡ accepted t
+    → Words (wholePlan t)
+    × (planFormed (wholePlan t) ≡ true)
+    × ((s : List ℕ) (room q : ℕ) → runOf (wholePlan t) s room ≡ refused BAD-PLAN q → ⊥)
 
--- Demand 3: a run of the compiled plan is what the rules read off the descriptor give, for every value and room; and what compiling refuses,
--- the rules refuse with the same number and place (R4.10 to R4.14).
+-- Demand 3, R4.14: a run of an accepted descriptor's plan is what the rules read off the descriptor give, for every value and room; and a
+-- descriptor that is refused the rules refuse with the same number and place (R4.10 to R4.13).
 abbrev pub DemandThree : Type 0
 DemandThree =
-    ((d root ws : List ℕ) → planOf (descriptionOf d root) ≡ plan ws → (s : List ℕ) (room : ℕ) → runOf ws s room ≡ rulesOf d root s room)
-    × ((d root : List ℕ) (n p : ℕ) → planOf (descriptionOf d root) ≡ refusedPlan n p → (s : List ℕ) (room : ℕ) → rulesOf d root s room ≡ refused n p)
+    (d root : List ℕ)
+    → ((t : DescribedType) → describe bareForm d root ≡ accepted t
+    → (s : List ℕ) (room : ℕ) → runOf (wholePlan t) s room ≡ rulesBy bareForm d root s room)
+    × ((n p : ℕ) → describe bareForm d root ≡ refused n p → (s : List ℕ) (room : ℕ) → rulesBy bareForm d root s room ≡ refused n p)
 
 -- Demand 3 on bytes: what the C call compiled runs so, in every room, and the C call that runs it answers so and is never 33 (R4.14, R9.3).
 abbrev pub DemandThreeBytes : Type 0
 DemandThreeBytes =
     (d root : List ℕ) (r : Answer) (p p′ : List ℕ) → CompilesPlan d root r p p′ → r .number ≡ 0 → (s : List ℕ)
-    → ((room : ℕ) → runFrom (take (4 * r .first) p′) s room ≡ rulesOf d root s room)
+    → ((room : ℕ) → runFrom (take (4 * r .first) p′) s room ≡ rulesBy bareForm d root s room)
     × ((q : Answer) (l l′ : List ℕ) → RunsValue (take (4 * r .first) p′) s q l l′
-    → SettlesRun (rulesOf d root s (wordRoom (length l))) q l l′ × (q .number ≡ 33 → ⊥))
+    → SettlesRun (rulesBy bareForm d root s (wordRoom (length l))) q l l′ × (q .number ≡ BAD-PLAN → ⊥))
 
 -- The rules refuse with the descriptor's own number and place, or with a run's (R4.13).
 abbrev pub RulesNumbers : Type 0
 RulesNumbers =
-    (d root s : List ℕ) (room n q : ℕ) → rulesOf d root s room ≡ refused n q → (descriptionOf d root ≡ refusedBy n q) ⊎ RunNumber (length s) n q
+    (d root s : List ℕ) (room n q : ℕ) → rulesBy bareForm d root s room ≡ refused n q
+    → (describe bareForm d root ≡ refused n q) ⊎ RunNumber (length s) n q
 
 -- ---- R5, R6: values and their lists
 
@@ -127,16 +138,16 @@ RulesNumbers =
 abbrev pub ValueAccepted : Type 0
 ValueAccepted =
     (p s : List ℕ) (room : ℕ) (f : Forest)
-    → (runOf p s room ≡ accepted f) ↔ ((planFormed p ≡ true) × (length s ≤ 65535) × (valueBy p s ≡ accepted f) × (length (words f) ≤ room))
+    → (runOf p s room ≡ accepted f) ↔ ((planFormed p ≡ true) × (length s ≤ MOST-VALUE) × (valueBy p s ≡ accepted f) × (length (words f) ≤ room))
 
 -- 33 exactly when the plan is not well formed (R4.4); 28 exactly when it is and the value is too large (R5.1); 31 exactly when the value is
 -- accepted and its list has more words than the room (R6.9). By a well-formed plan any other number is one of 20 to 27 (R1.3).
 abbrev pub RunExact : Type 0
 RunExact =
     (p : List ℕ) → Words p → (s : List ℕ) (room : ℕ)
-    → ((runOf p s room ≡ refused 33 0) ↔ (planFormed p ≡ false))
-    × ((runOf p s room ≡ refused 28 0) ↔ ((planFormed p ≡ true) × (65535 < length s)))
-    × ((runOf p s room ≡ refused 31 0) ↔ ((f : Forest) × (checked p s ≡ accepted f) × (room < length (words f))))
+    → ((runOf p s room ≡ refused BAD-PLAN 0) ↔ (planFormed p ≡ false))
+    × ((runOf p s room ≡ refused VALUE-SIZE 0) ↔ ((planFormed p ≡ true) × (MOST-VALUE < length s)))
+    × ((runOf p s room ≡ refused LIST-ROOM 0) ↔ ((f : Forest) × (checked p s ≡ accepted f) × (room < length (words f))))
     × ((n q : ℕ) → planFormed p ≡ true → runOf p s room ≡ refused n q → RunNumber (length s) n q)
 
 -- A list is whole entries of five words, at most 1 + L/4 of a value of L bytes; so is the list that the C call gives (R6.1, R6.10).
@@ -197,15 +208,15 @@ SupplyUnique = (p s s′ ws src : List ℕ) → Bytes s → Bytes s′ → HasSu
 abbrev pub SupplyExact : Type 0
 SupplyExact =
     (p ws src : List ℕ) (room : ℕ) → Words ws → Bytes src
-    → ((writeOf p ws src room ≡ refusedPut 33) ↔ (planFormed p ≡ false))
-    × ((writeOf p ws src room ≡ refusedPut 34) ↔ ((planFormed p ≡ true) × NoneHas p ws src))
-    × ((writeOf p ws src room ≡ refusedPut 32) ↔ ((s : List ℕ) × Bytes s × HasSupply p s ws src × (room < length s)))
+    → ((writeOf p ws src room ≡ refusedPut BAD-PLAN) ↔ (planFormed p ≡ false))
+    × ((writeOf p ws src room ≡ refusedPut NO-VALUE) ↔ ((planFormed p ≡ true) × NoneHas p ws src))
+    × ((writeOf p ws src room ≡ refusedPut OUTPUT-ROOM) ↔ ((s : List ℕ) × Bytes s × HasSupply p s ws src × (room < length s)))
 
 -- From C 34 exactly when the plan crosses and is well formed, and the list does not cross or no accepted value has the supply (R9.4, R9.5).
 abbrev pub SupplyExactFromC : Type 0
 SupplyExactFromC =
     (plan list src : List ℕ) (room : ℕ) → Bytes list → Bytes src
-    → (writeFrom plan list src room ≡ refusedPut 34)
+    → (writeFrom plan list src room ≡ refusedPut NO-VALUE)
     ↔ ((crosses (length plan) ≡ true) × ((planFormed (wordsIn plan) ≡ true) × ((crosses (length list) ≡ false) ⊎ NoneHas (wordsIn plan) (wordsIn list) src)))
 
 -- An accepted value, listed and written again from its own list and bytes, is itself with its reserved fields zero, as long as before (R8.13).
@@ -234,7 +245,7 @@ pub record EveryCall : Type 2 where
   pub write-value-does : Does write-value.ended write-value.Symbol.routine
       (λ κs (p, (list, (src, (l, _)))) r (_, (_, (_, (l′, _)))). WritesValue (now p) (now list) (now src) r (now l) (now l′))
 
--- Demand 3 as one function, on words: it compiles, and then runs the plan alone (R4.14).
+-- Demand 3 as one function, on words: it compiles, and then runs the plan alone (R4.14); what it lists has few entries (R6.10).
 abbrev pub CompileAndRun : Type 2
 CompileAndRun =
     Does compile-and-run.ended compile-and-run.Symbol.routine
@@ -242,14 +253,6 @@ CompileAndRun =
 
 -- ---- the eleven cases
 
--- Document 01's cases 1 to 11 give these results, in order.
+-- What is done in each case gives what the table says (specs/Cases; R9.12).
 abbrev pub EdgeCases : Type 0
-EdgeCases =
-    map (λ (c : Case). c .gives) cases
-    ≡ (lists (6 ∷ 4 ∷ 1 ∷ 5 ∷ 2 ∷ 2 ∷ [])
-    ∷ lists (4 ∷ 0 ∷ 0 ∷ 44 ∷ 2 ∷ 2 ∷ 0 ∷ 24 ∷ 8 ∷ 0 ∷ 2 ∷ 1 ∷ 36 ∷ 8 ∷ 0 ∷ [])
-    ∷ lists (4 ∷ 0 ∷ 0 ∷ 12 ∷ 0 ∷ [])
-    ∷ refuses 22 0 ∷ refuses 20 0 ∷ refuses 21 0 ∷ refuses 24 24
-    ∷ refuses 13 34 ∷ refuses 15 34
-    ∷ refuses 27 0 ∷ refuses 26 0
-    ∷ [])
+EdgeCases = map (λ (c : Case). c .done) cases ≡ map (λ (c : Case). c .gives) cases
