@@ -239,7 +239,7 @@ rembulfose_number rembulfose_find_number(const uint8_t *plan, size_t plan_len, c
 
 /* A refusal number's meaning in English, without a full stop: "the message is not whole yet". 0 is "not refused", and what is
  * no refusal number says so. The text is constant and never null. This one is plain C (host/refusal.c), and nothing about it
- * is proved. The installed archive has it; a host that links libpanel.a itself compiles that file too. */
+ * is proved. The installed archive has it; a host that links libc_panel.a itself compiles that file too. */
 const char *rembulfose_refusal_text(uint32_t number);
 
 #ifdef __cplusplus

@@ -1,6 +1,6 @@
 /* The call that compiles a descriptor as a C host makes it, on cases worked out by hand.
  *
- *     cc -std=c11 -Wall -Wextra -pthread tests/c/descriptors.c target/staticlib/libpanel.a \
+ *     cc -std=c11 -Wall -Wextra -pthread tests/c/descriptors.c target/staticlib/libc_panel.a \
  *         -o target/c-descriptors
  *
  * Descriptors and values are written in hex, spaces for the eye only; plans and lists as decimal

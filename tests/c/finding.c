@@ -1,7 +1,7 @@
 /* The calls that find an element and its number as a C host makes them, on cases worked out by
  * hand.
  *
- *     cc -std=c11 -Wall -Wextra -pthread tests/c/finding.c target/staticlib/libpanel.a \
+ *     cc -std=c11 -Wall -Wextra -pthread tests/c/finding.c target/staticlib/libc_panel.a \
  *         -o target/c-finding
  *
  * Values are written in hex, spaces for the eye only; plans and paths as decimal words. What is

@@ -1,7 +1,7 @@
 /* The header's constants and its word reader: each is compared with document 01's number, written out here, and
  * with what the library gives. A constant that is wrong, or two that are exchanged, cannot pass.
  *
- *     cc -std=c11 -Wall -Wextra -pthread tests/c/header.c target/staticlib/libpanel.a \
+ *     cc -std=c11 -Wall -Wextra -pthread tests/c/header.c target/staticlib/libc_panel.a \
  *         -o target/c-header
  *
  * Descriptors and values are written in hex, spaces for the eye only; plans and lists as decimal words.

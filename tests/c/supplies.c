@@ -1,6 +1,6 @@
 /* The call that writes a value from a supply as a C host makes it, on cases worked out by hand.
  *
- *     cc -std=c11 -Wall -Wextra -pthread tests/c/supplies.c target/staticlib/libpanel.a \
+ *     cc -std=c11 -Wall -Wextra -pthread tests/c/supplies.c target/staticlib/libc_panel.a \
  *         -o target/c-supplies
  *
  * Sources and values are written in hex, spaces for the eye only; plans and lists as decimal words.

@@ -1,6 +1,6 @@
 /* The call for values by plan as a C host makes it, on cases worked out by hand.
  *
- *     cc -std=c11 -Wall -Wextra -pthread tests/c/values.c target/staticlib/libpanel.a \
+ *     cc -std=c11 -Wall -Wextra -pthread tests/c/values.c target/staticlib/libc_panel.a \
  *         -o target/c-values
  *
  * Values are written in hex, spaces for the eye only; plans and lists as decimal words. Every room
