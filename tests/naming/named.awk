@@ -5,10 +5,11 @@
 #   `crate::module::function`          a function, type or module of the code
 #   `crate/edit`                       a must-fail edit; in the tables of PROMISES: crate `edit`
 #   `rembulfose_..`, `make target`     a C call; a target of the Makefile
+#   `panel command`                    a command of the panel program, which has a file of that name in host/
 #   tests/.., host/.., ..              a file or folder, in backticks or not
 # In TRACE and PROMISES no other name may stand in backticks (kind 'unplaced'); elsewhere any other is a crate. The variable foreign lists words
 # that are no names of ours.
-# Code that is set apart gives paths and make's targets only; but for README's list of promises, which has names and their file.
+# Code that is set apart gives paths and make's targets only; but for ARCHITECTURE's list of promises, which has names and their file.
 BEGIN {
   TOP = "^(bench|build|crates|demo|docs|examples|host|include|second|tests|tools|[.]ci)/"
   PLACE = "^[a-z_]+/(specs|proofs|src)([/:,;.]|$)"
@@ -127,6 +128,7 @@ function ticked(token) {
   } else if (token ~ /^rembulfose_/) say("call", token)
   else if (token ~ /^REMBULFOSE_/) say("word", "include/rembulfose.h " token)
   else if (token ~ /^make /) target(token)
+  else if (token ~ /^panel [a-z]+/) command(token)
   else if (token ~ EDIT && token !~ TOP) say("edit", token)
   else if (token ~ TOP || token ~ /^[a-z-]+(\/|\.[a-z]+)$/) path(token)
   else if (token ~ PLACE) place(token)
@@ -172,6 +174,11 @@ function path(w) {
 function target(text,   words) {
   split(text, words, " ")
   say("target", words[2])
+}
+
+function command(text,   words) {
+  split(text, words, " ")
+  say("file", "host/" words[2] ".c")
 }
 
 # ---- code that is set apart
