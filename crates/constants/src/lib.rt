@@ -3,7 +3,10 @@
 // ---- Largest sizes (R1.4)
 
 // a message's length field
-pub const MOST_LENGTH: u32 = 65535;
+pub const MOST_LENGTH: usize = 65535;
+
+// the bytes of a message, its type byte among them
+pub const MOST_MESSAGE: usize = 65536;
 
 // the bytes of a descriptor
 pub const MOST_DESCRIPTOR: usize = 65535;

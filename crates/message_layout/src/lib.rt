@@ -138,11 +138,11 @@ const VALUES: [u8; 16] = [
     0x49,
     0x54,
     0x45,
-    0x6e,
-    0x6f,
-    0x41,
-    0x6d,
-    0x4d,
+    constants::CARDINALITY_NONE as u8,
+    constants::CARDINALITY_AT_MOST_ONE as u8,
+    constants::CARDINALITY_ONE as u8,
+    constants::CARDINALITY_MANY as u8,
+    constants::CARDINALITY_AT_LEAST_ONE as u8,
     1,
 ];
 
@@ -252,10 +252,10 @@ fn client_start(ty: u8) -> usize
 pub fn start_of(side: u32, ty: u8) -> usize
     ensures { λ r. ⌜ r ≡ startOf side ty ⌝ }
 {
-    if side == 1 {
+    if side == constants::SERVER {
         return server_start(ty);
     }
-    if side == 0 {
+    if side == constants::CLIENT {
         return client_start(ty);
     }
     NONE

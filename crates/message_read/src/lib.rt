@@ -117,11 +117,11 @@ fn one_field(m: &[u8], code: u8, judge: bool, at: usize, k: usize, list: &mut [u
 {
     match field_at(m, code, judge, at) {
         FieldRead::Short => Step::Refused {
-            no: 4,
+            no: constants::FIELD_PAST_END,
             place: at as u32,
         },
         FieldRead::Barred => Step::Refused {
-            no: 6,
+            no: constants::BAD_FIELD,
             place: at as u32,
         },
         FieldRead::At { start, len } => {
@@ -232,7 +232,7 @@ fn check_body(m: &[u8], start: usize, scratch: &mut [u32]) -> Answer
         Step::Reached { at, words } => {
             if at < m.len() {
                 return Answer::Refused {
-                    no: 5,
+                    no: constants::BYTES_LEFT,
                     place: at as u32,
                 };
             }
@@ -250,22 +250,37 @@ pub fn check(side: u32, s: &[u8], scratch: &mut [u32]) -> Answer
     ensures { λ r. ⌜ Checks (messageOf side (now (s .entry))) r (now (scratch .entry)) (now (scratch .exit)) ⌝ }
 {
     if s.len() < 5 {
-        return Answer::Refused { no: 1, place: 0 };
+        return Answer::Refused {
+            no: constants::NOT_WHOLE,
+            place: 0,
+        };
     }
     let n = wire::be::u32_at(s, 1) as usize;
     if n < 4 {
-        return Answer::Refused { no: 2, place: 0 };
+        return Answer::Refused {
+            no: constants::BAD_LENGTH,
+            place: 0,
+        };
     }
-    if 65535 < n {
-        return Answer::Refused { no: 2, place: 0 };
+    if constants::MOST_LENGTH < n {
+        return Answer::Refused {
+            no: constants::BAD_LENGTH,
+            place: 0,
+        };
     }
     let e = n + 1;
     if s.len() < e {
-        return Answer::Refused { no: 1, place: 0 };
+        return Answer::Refused {
+            no: constants::NOT_WHOLE,
+            place: 0,
+        };
     }
     let start = message_layout::start_of(side, s[0]);
     if message_layout::NONE <= start {
-        return Answer::Refused { no: 3, place: 0 };
+        return Answer::Refused {
+            no: constants::UNKNOWN_TYPE,
+            place: 0,
+        };
     }
     check_body(&s[..e], start, scratch)
 }
@@ -298,7 +313,10 @@ pub fn read(side: u32, s: &[u8], list: &mut [u32]) -> Answer
         return answer;
     };
     if list.len() < words as usize {
-        return Answer::Refused { no: 31, place: 0 };
+        return Answer::Refused {
+            no: constants::LIST_ROOM,
+            place: 0,
+        };
     }
     fill(side, s, list);
     answer

@@ -10,7 +10,7 @@ ghost use Rattle.message_write.specs.Emitting.{cap, Framed, put-at, stan
 ghost use Rattle.protocol.specs.Messages.{fitting, fieldBytes, nextField, fieldsWritten, messageWritten};
 
 // One past the largest message: where the running length stops growing.
-const LIMIT: usize = 65537;
+const LIMIT: usize = constants::MOST_MESSAGE + 1;
 
 // A writing so far: a fault, or the next word of the list and the next byte of the output.
 pub enum Emit {
@@ -194,22 +194,32 @@ pub fn write(side: u32, ty: u8, list: &[u32], src: &[u8], out: &mut [u8]) -> Wro
 {
     let start = message_layout::start_of(side, ty);
     if message_layout::NONE <= start {
-        return Wrote::Refused { no: 3 };
+        return Wrote::Refused {
+            no: constants::UNKNOWN_TYPE,
+        };
     }
     let table = message_layout::table();
     let mut none = [0u8; 0];
     let first = emit_walk(src, list, &table, start, true, 0, 5, &mut none);
     let Emit::Done { word, at } = first else {
-        return Wrote::Refused { no: 6 };
+        return Wrote::Refused {
+            no: constants::BAD_FIELD,
+        };
     };
     if word < list.len() {
-        return Wrote::Refused { no: 6 };
+        return Wrote::Refused {
+            no: constants::BAD_FIELD,
+        };
     }
-    if 65536 < at {
-        return Wrote::Refused { no: 2 };
+    if constants::MOST_MESSAGE < at {
+        return Wrote::Refused {
+            no: constants::BAD_LENGTH,
+        };
     }
     if out.len() < at {
-        return Wrote::Refused { no: 32 };
+        return Wrote::Refused {
+            no: constants::OUTPUT_ROOM,
+        };
     }
     out[0] = ty;
     wire::be::put_u32(out, 1, (at - 1) as u32);

@@ -9,10 +9,10 @@ ghost use Rattle.protocol.specs.Heads.{word, requires, elementIn, optional, pla
 pub fn required(card: u32) -> bool
     ensures { λ r. ⌜ r ≡ requires card ⌝ }
 {
-    if card == 0x41 {
+    if card == constants::CARDINALITY_ONE {
         return true;
     }
-    card == 0x4d
+    card == constants::CARDINALITY_AT_LEAST_ONE
 }
 
 // The data of an element, of `size` bytes from `start` on. A length is signed, and negative from 2147483648 on (23); what is left of
@@ -22,11 +22,11 @@ fn data_at(s: &[u8], i: usize, start: usize, size: u32) -> Head
     ensures { λ r. ⌜ r ≡ elementIn (now (s .entry)) i start size ⌝ }
 {
     if 2147483648 <= size {
-        return Head::Fault(23);
+        return Head::Fault(constants::BAD_SIZE);
     }
     let n = size as usize;
     if s.len() - start < n {
-        return Head::Fault(20);
+        return Head::Fault(constants::CONTAINER_END);
     }
     Head::Present {
         index: i,
@@ -41,7 +41,7 @@ pub fn plain_head(s: &[u8], gap: usize, i: usize, at: usize) -> Head
     ensures { λ r. ⌜ r ≡ plainHead (now (s .entry)) gap i at ⌝ }
 {
     if s.len() - at < gap + 4 {
-        return Head::Fault(20);
+        return Head::Fault(constants::CONTAINER_END);
     }
     let field = at + gap;
     let size = wire::be::u32_at(s, field);
@@ -55,9 +55,9 @@ pub fn sparse_length(s: &[u8], required: bool, i: usize, at: usize) -> Head
     ensures { λ r. ⌜ r ≡ optional (now (s .entry)) required i (at + 8) (word (now (s .entry)) (at + 4)) ⌝ }
 {
     let size = wire::be::u32_at(s, at + 4);
-    if size == 4294967295 {
+    if size == constants::ABSENT {
         if required {
-            return Head::Fault(27);
+            return Head::Fault(constants::REQUIRED);
         }
         return Head::Absent {
             index: i,
@@ -73,7 +73,7 @@ pub fn object_head(s: &[u8], required: bool, i: usize, at: usize) -> Head
     ensures { λ r. ⌜ r ≡ objectHead (now (s .entry)) required i at ⌝ }
 {
     if s.len() - at < 8 {
-        return Head::Fault(20);
+        return Head::Fault(constants::CONTAINER_END);
     }
     sparse_length(s, required, i, at)
 }
@@ -85,22 +85,22 @@ pub fn envelope_head(s: &[u8], i: usize, at: usize) -> Head
     ensures { λ r. ⌜ r ≡ envelopeHead (now (s .entry)) i at ⌝ }
 {
     if s.len() - at < 16 {
-        return Head::Fault(20);
+        return Head::Fault(constants::CONTAINER_END);
     }
     let one = wire::be::u32_at(s, at + 4);
     if one == 1 {
         let inner = wire::be::u32_at(s, at + 12);
         if 2147483648 <= inner {
-            return Head::Fault(23);
+            return Head::Fault(constants::BAD_SIZE);
         }
         let outer = wire::be::u32_at(s, at);
         if 2147483648 <= outer {
-            return Head::Fault(22);
+            return Head::Fault(constants::BAD_HEAD);
         }
         if outer == 12 + inner {
             return data_at(s, i, at + 16, inner);
         }
-        return Head::Fault(22);
+        return Head::Fault(constants::BAD_HEAD);
     }
-    Head::Fault(22)
+    Head::Fault(constants::BAD_HEAD)
 }

@@ -11,13 +11,10 @@ ghost use Rattle.value_heads.specs.Marks.{marked, repeats, indexesIn, in
 ghost use Rattle.protocol.specs.Numbers.{pick};
 ghost use Rattle.protocol.specs.Heads.{sparseIndex};
 
-// How many marks a set has: as many as a shape can have elements (R1.4).
-pub const MOST: usize = 512;
-
 // Which indexes of a sparse object were given, and whether one of those that came last had been given before. The marks are read and written
 // by the methods here alone: each takes the set by value and returns it with the mark (R9.11).
 pub struct Seen {
-    pub marks: [bool; 512],
+    pub marks: [bool; constants::MOST_ITEMS],
     pub twice: bool,
 }
 
@@ -27,7 +24,7 @@ impl Seen {
         ensures { λ r. ⌜ (r .marks ≡ replicate 512 false) × (r .twice ≡ false) ⌝ }
     {
         Seen {
-            marks: [false; 512],
+            marks: [false; constants::MOST_ITEMS],
             twice: false,
         }
     }
@@ -54,7 +51,7 @@ impl Seen {
         let mut left = n;
         let mut pos = at;
         while 0 < left {
-            let index = sparse_index(s, MOST, pos);
+            let index = sparse_index(s, constants::MOST_ITEMS, pos);
             let Index::Known(i) = index else {
                 return Seen { marks, twice };
             };
@@ -89,7 +86,7 @@ impl Seen {
                 return Seen { marks, twice };
             }
             let i = list[word] as usize;
-            if i < MOST {
+            if i < constants::MOST_ITEMS {
                 twice = either(twice, marks[i]);
                 marks[i] = true;
             }
@@ -117,11 +114,11 @@ pub fn sparse_index(s: &[u8], n: usize, at: usize) -> Index
     ensures { λ r. ⌜ r ≡ sparseIndex (now (s .entry)) n [] at ⌝ }
 {
     if s.len() - at < 8 {
-        return Index::Bad(20);
+        return Index::Bad(constants::CONTAINER_END);
     }
     let i = wire::be::u32_at(s, at) as usize;
     if n <= i {
-        return Index::Bad(25);
+        return Index::Bad(constants::INDEX_OUTSIDE);
     }
     Index::Known(i)
 }

@@ -12,17 +12,17 @@ fn dimension_of(s: &[u8]) -> Opening
     ensures { λ r. ⌜ r ≡ dimension (now (s .entry)) ⌝ }
 {
     if s.len() < 16 {
-        return Opening::Wrong(20);
+        return Opening::Wrong(constants::CONTAINER_END);
     }
     let upper = wire::be::u32_at(s, 12);
     if upper == 0 {
-        return Opening::Wrong(22);
+        return Opening::Wrong(constants::BAD_HEAD);
     }
     if 2147483648 <= upper {
-        return Opening::Wrong(22);
+        return Opening::Wrong(constants::BAD_HEAD);
     }
     if s.len() < 20 {
-        return Opening::Wrong(20);
+        return Opening::Wrong(constants::CONTAINER_END);
     }
     let lower = wire::be::u32_at(s, 16);
     if lower == 1 {
@@ -32,7 +32,7 @@ fn dimension_of(s: &[u8]) -> Opening
             at: 20,
         };
     }
-    Opening::Wrong(22)
+    Opening::Wrong(constants::BAD_HEAD)
 }
 
 // A set or an array: no dimension or one, and eight reserved bytes, which are skipped.
@@ -40,14 +40,14 @@ pub fn set_opening(s: &[u8]) -> Opening
     ensures { λ r. ⌜ r ≡ setOpening (now (s .entry)) ⌝ }
 {
     if s.len() < 4 {
-        return Opening::Wrong(20);
+        return Opening::Wrong(constants::CONTAINER_END);
     }
     let dims = wire::be::u32_at(s, 0);
     if 1 < dims {
-        return Opening::Wrong(22);
+        return Opening::Wrong(constants::BAD_HEAD);
     }
     if s.len() < 12 {
-        return Opening::Wrong(20);
+        return Opening::Wrong(constants::CONTAINER_END);
     }
     if dims == 0 {
         return Opening::Elements {
@@ -64,7 +64,7 @@ pub fn count_opening(s: &[u8], n: usize) -> Opening
     ensures { λ r. ⌜ r ≡ countOpening n (now (s .entry)) ⌝ }
 {
     if s.len() < 4 {
-        return Opening::Wrong(20);
+        return Opening::Wrong(constants::CONTAINER_END);
     }
     let count = wire::be::u32_at(s, 0) as usize;
     if count == n {
@@ -74,7 +74,7 @@ pub fn count_opening(s: &[u8], n: usize) -> Opening
             at: 4,
         };
     }
-    Opening::Wrong(22)
+    Opening::Wrong(constants::BAD_HEAD)
 }
 
 // A sparse object: any number of elements that is not negative.
@@ -82,11 +82,11 @@ pub fn sparse_opening(s: &[u8]) -> Opening
     ensures { λ r. ⌜ r ≡ sparseOpening (now (s .entry)) ⌝ }
 {
     if s.len() < 4 {
-        return Opening::Wrong(20);
+        return Opening::Wrong(constants::CONTAINER_END);
     }
     let count = wire::be::u32_at(s, 0);
     if 2147483648 <= count {
-        return Opening::Wrong(22);
+        return Opening::Wrong(constants::BAD_HEAD);
     }
     Opening::Elements {
         count: count as usize,
@@ -178,11 +178,11 @@ pub fn range_opening(s: &[u8]) -> Opening
     ensures { λ r. ⌜ r ≡ rangeOpening (now (s .entry)) ⌝ }
 {
     if s.len() < 1 {
-        return Opening::Wrong(20);
+        return Opening::Wrong(constants::CONTAINER_END);
     }
     let f = s[0];
     if known_flags(f) {
         return bounds_of(f);
     }
-    Opening::Wrong(22)
+    Opening::Wrong(constants::BAD_HEAD)
 }

@@ -45,12 +45,12 @@ fn ruled_ok(format: u32, v: &[u8]) -> bool
     ensures { λ r. ⌜ r ≡ scalar format (now (v .entry)) ⌝ }
 {
     match format {
-        format::STR => wire::text::is_utf8(v),
-        format::BYTES => true,
-        format::DECIMAL => number::decimal_ok(v),
-        format::DURATION => duration_ok(v),
-        format::JSON => json_ok(v),
-        format::BIGINT => number::bigint_ok(v),
+        constants::FORMAT_STR => wire::text::is_utf8(v),
+        constants::FORMAT_BYTES => true,
+        constants::FORMAT_DECIMAL => number::decimal_ok(v),
+        constants::FORMAT_DURATION => duration_ok(v),
+        constants::FORMAT_JSON => json_ok(v),
+        constants::FORMAT_BIGINT => number::bigint_ok(v),
         _ => false,
     }
 }
@@ -63,7 +63,7 @@ pub fn scalar_ok(format: u32, v: &[u8]) -> bool
     if 0 < n {
         return v.len() == n;
     }
-    if format == format::BOOL {
+    if format == constants::FORMAT_BOOL {
         return bool_ok(v);
     }
     ruled_ok(format, v)
