@@ -10,9 +10,6 @@ ghost use lib.ListN.{length, getD};
 ghost use Rattle.plan_check.specs.Reading.{Reads};
 ghost use Rattle.protocol.specs.Plans.{nodesOf, startsIn, noType, planFormed};
 
-// The most nodes of a plan.
-const MOST_NODES: usize = 1024;
-
 // What reading the nodes gives: the plan is not well formed, or how many there are.
 pub enum Count {
     Faulty,
@@ -27,7 +24,7 @@ fn read_nodes(plan: &[u32], starts: &mut [u32], heights: &mut [u8]) -> Count
     let mut n: usize = 0;
     let mut at: usize = 2;
     while at < plan.len() {
-        if MOST_NODES <= n {
+        if constants::MOST_BLOCKS <= n {
             return Count::Faulty;
         }
         let size = size_at(plan, at);
@@ -71,8 +68,8 @@ fn large_ok(plan: &[u32]) -> bool
     requires { ⌜ (2 ≤ length (now plan)) × (length (now plan) < 2 ^ 32) ⌝ }
     ensures { λ b. ⌜ b ≡ startsIn (nodesOf (now (plan .entry))) (getD (now (plan .entry)) 1 0) ⌝ }
 {
-    let mut starts = [0u32; 1024];
-    let mut heights = [0u8; 1024];
+    let mut starts = [0u32; constants::MOST_BLOCKS];
+    let mut heights = [0u8; constants::MOST_BLOCKS];
     nodes_ok(plan, &mut starts, &mut heights)
 }
 

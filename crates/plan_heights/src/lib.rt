@@ -1,4 +1,15 @@
 // The height of a plan's node, by the starts and heights of the nodes before it, to which alone it may refer. A start is found by halving.
+use constants::FORMATS;
+use constants::KIND_ENUMERATION;
+use constants::KIND_INPUT_OBJECT;
+use constants::KIND_LEAF;
+use constants::KIND_OUTPUT_OBJECT;
+use constants::KIND_RANGE;
+use constants::KIND_SET_OF_ARRAYS;
+use constants::KIND_SET_OR_ARRAY;
+use constants::KIND_TUPLE;
+use constants::MOST_HEIGHT;
+use constants::MOST_ITEMS;
 use plan_nodes::words::is_cardinality;
 use plan_nodes::words::wide;
 ghost use mathlib.Core.Path.{_≡_};
@@ -8,14 +19,8 @@ ghost use Rattle.plan_heights.specs.Scan.{knownOf, Rising, Scanned, Amon
 ghost use Rattle.protocol.specs.Plans.{mayRefer, allCardinalities, pairRef, pairCard, refer, referAll, nodeSize, nodeHeight, manyHeight};
 ghost use Rattle.protocol.specs.Numbers.{pick};
 
-// The most elements of a tuple or an object.
-const MOST_ELEMENTS: usize = 512;
-
-// The height of the highest node that another may refer to: one higher is 32.
-const HIGH: u8 = 31;
-
-// How many scalar formats there are.
-const FORMATS: u32 = 20;
+// The height of the highest node that another may refer to.
+const HIGH: u8 = MOST_HEIGHT as u8 - 1;
 
 // The index of r among the first n starts, or n where it is none of them, by halving.
 fn halve(starts: &[u32], n: usize, r: u32) -> usize
@@ -59,17 +64,17 @@ pub fn search(starts: &[u32], n: usize, r: u32) -> usize
 fn may_refer(kind: u32, other: u32) -> bool
     ensures { λ b. ⌜ b ≡ mayRefer kind other ⌝ }
 {
-    if kind == 2 {
-        if other == 2 {
+    if kind == KIND_SET_OR_ARRAY {
+        if other == KIND_SET_OR_ARRAY {
             return false;
         }
-        return other != 3;
+        return other != KIND_SET_OF_ARRAYS;
     }
-    if kind == 3 {
-        return other == 2;
+    if kind == KIND_SET_OF_ARRAYS {
+        return other == KIND_SET_OR_ARRAY;
     }
-    if kind == 7 {
-        return other == 1;
+    if kind == KIND_RANGE {
+        return other == KIND_LEAF;
     }
     true
 }
@@ -120,7 +125,16 @@ fn tuple_height(
     let mut h: u8 = 1;
     let mut k: usize = 0;
     while k < count {
-        h = refer_to(plan, starts, heights, n, at, 4, plan[at + 2 + k], h);
+        h = refer_to(
+            plan,
+            starts,
+            heights,
+            n,
+            at,
+            KIND_TUPLE,
+            plan[at + 2 + k],
+            h,
+        );
         if h == 0 {
             return 0;
         }
@@ -172,17 +186,17 @@ fn many_height(
     requires { ⌜ (Scanned (now plan) (now starts) (now heights) n at) × (at + nodeSize kind count ≤ length (now plan)) ⌝ }
     ensures { λ b. ⌜ b ≡ manyHeight (now (plan .entry)) at (knownOf (now (plan .entry)) (now (starts .entry)) (now (heights .entry)) n) kind count ⌝ }
 {
-    if MOST_ELEMENTS < count {
+    if MOST_ITEMS < count {
         return 0;
     }
-    if kind == 4 {
+    if kind == KIND_TUPLE {
         return tuple_height(plan, starts, heights, n, at, count);
     }
-    if kind == 5 {
-        return pairs_height(plan, starts, heights, n, at, 5, count);
+    if kind == KIND_OUTPUT_OBJECT {
+        return pairs_height(plan, starts, heights, n, at, KIND_OUTPUT_OBJECT, count);
     }
-    if kind == 6 {
-        return pairs_height(plan, starts, heights, n, at, 6, count);
+    if kind == KIND_INPUT_OBJECT {
+        return pairs_height(plan, starts, heights, n, at, KIND_INPUT_OBJECT, count);
     }
     0
 }
@@ -194,24 +208,24 @@ pub fn height_at(plan: &[u32], starts: &[u32], heights: &[u8], n: usize, at: usi
         ≡ nodeHeight (now (plan .entry)) at (knownOf (now (plan .entry)) (now (starts .entry)) (now (heights .entry)) n) (getD (now (plan .entry)) at 0) (getD (now (plan .entry)) (at + 1) 0) ⌝ }
 {
     let kind = plan[at];
-    if kind == 8 {
+    if kind == KIND_ENUMERATION {
         return 1;
     }
     let second = plan[at + 1];
-    if kind == 1 {
+    if kind == KIND_LEAF {
         if second < FORMATS {
             return 1;
         }
         return 0;
     }
-    if kind == 2 {
-        return refer_to(plan, starts, heights, n, at, 2, second, 1);
+    if kind == KIND_SET_OR_ARRAY {
+        return refer_to(plan, starts, heights, n, at, KIND_SET_OR_ARRAY, second, 1);
     }
-    if kind == 3 {
-        return refer_to(plan, starts, heights, n, at, 3, second, 1);
+    if kind == KIND_SET_OF_ARRAYS {
+        return refer_to(plan, starts, heights, n, at, KIND_SET_OF_ARRAYS, second, 1);
     }
-    if kind == 7 {
-        return refer_to(plan, starts, heights, n, at, 7, second, 1);
+    if kind == KIND_RANGE {
+        return refer_to(plan, starts, heights, n, at, KIND_RANGE, second, 1);
     }
     many_height(plan, starts, heights, n, at, kind, wide(second))
 }

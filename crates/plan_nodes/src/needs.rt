@@ -10,9 +10,6 @@ ghost use lib.ListN.{length, getD};
 ghost use Rattle.plan_nodes.specs.Memo.{neededAt, Filled, OneMore, Memo};
 ghost use Rattle.plan_nodes.specs.Readers.{At};
 
-// The kind of a sparse object.
-const SPARSE: u32 = 6;
-
 // How many of the n elements of the object at a position are required.
 fn count_required(plan: &[u32], at: usize, n: usize) -> usize
     requires { ⌜ (n ≡ getD (now plan) (at + 1) 0) × (at + 2 + 2 * n ≤ length (now plan)) ⌝ }
@@ -57,7 +54,7 @@ pub fn fill(plan: &[u32], table: &mut [u32]) -> usize
         if plan.len() - at < size {
             return m;
         }
-        if plan[at] == SPARSE {
+        if plan[at] == constants::KIND_INPUT_OBJECT {
             m = put_pair(plan, table, m, at);
         }
         at += size;

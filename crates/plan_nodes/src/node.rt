@@ -40,13 +40,13 @@ pub fn ref_of(plan: &[u32], node: usize, i: usize) -> usize
     ensures { λ r. ⌜ refAt (look (now (plan .entry)) node) i ≡ some r ⌝ }
 {
     let kind = plan[node];
-    if kind < 4 {
+    if kind < constants::KIND_TUPLE {
         return wide(plan[node + 1]);
     }
-    if kind == 4 {
+    if kind == constants::KIND_TUPLE {
         return wide(plan[node + 2 + i]);
     }
-    if kind < 7 {
+    if kind < constants::KIND_RANGE {
         return wide(plan[node + 2 + 2 * i]);
     }
     wide(plan[node + 1])

@@ -35,11 +35,11 @@ pub fn is_cardinality(c: u32) -> bool
     ensures { λ b. ⌜ b ≡ isCardinality c ⌝ }
 {
     match c {
-        0x6e => true,
-        0x6f => true,
-        0x41 => true,
-        0x6d => true,
-        0x4d => true,
+        constants::CARDINALITY_NONE => true,
+        constants::CARDINALITY_AT_MOST_ONE => true,
+        constants::CARDINALITY_ONE => true,
+        constants::CARDINALITY_MANY => true,
+        constants::CARDINALITY_AT_LEAST_ONE => true,
         _ => false,
     }
 }
@@ -51,16 +51,16 @@ pub fn size_at(plan: &[u32], at: usize) -> usize
 {
     let kind = plan[at];
     let n = wide(word_at(plan, at + 1));
-    if kind == 4 {
+    if kind == constants::KIND_TUPLE {
         return 2 + n;
     }
-    if kind == 5 {
+    if kind == constants::KIND_OUTPUT_OBJECT {
         return 2 + 2 * n;
     }
-    if kind == 6 {
+    if kind == constants::KIND_INPUT_OBJECT {
         return 2 + 2 * n;
     }
-    if kind == 8 {
+    if kind == constants::KIND_ENUMERATION {
         return 1;
     }
     2

@@ -23,12 +23,12 @@ fn early_fault(plan: &[u32], value: &[u8]) -> u32
     ensures { λ r. ⌜ r ≡ earlyFault (now (plan .entry)) (now (value .entry)) ⌝ }
 {
     if plan_check::plan_ok(plan) {
-        if 65535 < value.len() {
-            return 28;
+        if constants::MOST_VALUE < value.len() {
+            return constants::VALUE_SIZE;
         }
         return 0;
     }
-    33
+    constants::BAD_PLAN
 }
 
 // A value by a plan that is well formed. `needs` says how many elements of the plan's sparse objects are required.
@@ -41,7 +41,10 @@ fn check_value(plan: &[u32], needs: &[u32], value: &[u8], scratch: &mut [u32]) -
         if value.len() == 0 {
             return Answer::Listed { words: 0 };
         }
-        return Answer::Refused { no: 21, place: 0 };
+        return Answer::Refused {
+            no: constants::VALUE_LEFT,
+            place: 0,
+        };
     }
     match value_walk::walk_value(plan, needs, root, 0, 0, value, scratch, 0) {
         Step::Refused { no, place } => Answer::Refused { no, place },
@@ -54,7 +57,7 @@ fn check_many(plan: &[u32], value: &[u8], scratch: &mut [u32]) -> Answer
     requires { ⌜ (planFormed (now plan) ≡ true) × (length (now value) ≤ 65535) ⌝ }
     ensures { λ r. ⌜ Checks (length (now (value .entry))) (valueBy (now (plan .entry)) (now (value .entry))) r (now (scratch .entry)) (now (scratch .exit)) ⌝ }
 {
-    let mut table = [0u32; 2048];
+    let mut table = [0u32; 2 * constants::MOST_BLOCKS];
     let words = 2 * plan_nodes::needs::fill(plan, &mut table);
     check_value(plan, &table[..words], value, scratch)
 }
@@ -88,7 +91,10 @@ fn run_value(plan: &[u32], needs: &[u32], value: &[u8], list: &mut [u32]) -> Ans
         return answer;
     };
     if list.len() < words as usize {
-        return Answer::Refused { no: 31, place: 0 };
+        return Answer::Refused {
+            no: constants::LIST_ROOM,
+            place: 0,
+        };
     }
     check_value(plan, needs, value, list);
     answer
@@ -99,7 +105,7 @@ fn run_many(plan: &[u32], value: &[u8], list: &mut [u32]) -> Answer
     requires { ⌜ (planFormed (now plan) ≡ true) × (length (now value) ≤ 65535) ⌝ }
     ensures { λ r. ⌜ Gives (listRoomed (length (now (list .entry))) (valueBy (now (plan .entry)) (now (value .entry)))) r (now (list .entry)) (now (list .exit)) ⌝ }
 {
-    let mut table = [0u32; 2048];
+    let mut table = [0u32; 2 * constants::MOST_BLOCKS];
     let words = 2 * plan_nodes::needs::fill(plan, &mut table);
     run_value(plan, &table[..words], value, list)
 }

@@ -3,7 +3,6 @@
 // time alone: what is left after it leads to the same place.
 use forms::Head;
 use forms::Index;
-use value_heads::sparse::MOST;
 use value_heads::sparse::Seen;
 use value_parts::Gathered;
 use value_parts::entry;
@@ -50,7 +49,7 @@ fn fixed_at(plan: &[u32], node: usize) -> usize
     ensures { λ r. ⌜ FixedAt (now (plan .entry)) node r ⌝ }
 {
     let kind = plan_nodes::node::kind_at(plan, node);
-    if kind == 1 {
+    if kind == constants::KIND_LEAF {
         return value_scalars::format::fixed_size(plan_nodes::node::second_at(plan, node) as u32);
     }
     0
@@ -104,7 +103,7 @@ fn same_leaves(
             return Stretch { left, pos, at: to };
         };
         entry::put_entry(list, to, child, i, base + start, n, 0);
-        to += entry::WORDS;
+        to += constants::ENTRY_WORDS;
         pos = start + n;
         i += 1;
         left -= 1;
@@ -129,10 +128,10 @@ fn is_good(plan: &[u32], node: usize, kind: u32, part: &[u8], start: usize, size
 fn gap_of(kind: u32) -> usize
     ensures { λ r. ⌜ r ≡ gapOf kind ⌝ }
 {
-    if kind == 4 {
+    if kind == constants::KIND_TUPLE {
         return 4;
     }
-    if kind == 5 {
+    if kind == constants::KIND_OUTPUT_OBJECT {
         return 4;
     }
     0
@@ -191,7 +190,7 @@ fn other_leaves(
             return Stretch { left, pos, at: to };
         };
         entry::put_entry(list, to, child, i, base + start, size, 0);
-        to += entry::WORDS;
+        to += constants::ENTRY_WORDS;
         pos = start + size;
         i += 1;
         left -= 1;
@@ -216,14 +215,14 @@ pub fn walk_leaves(
     ensures { λ r. ⌜ Stretched (now (plan .entry)) node base (now (part .entry)) (first + count) count first from at (now (list .entry)) (r .left) (r .pos) (r .at) (now (list .exit)) ⌝ }
 {
     let kind = plan_nodes::node::kind_at(plan, node);
-    if kind == 3 {
+    if kind == constants::KIND_SET_OF_ARRAYS {
         return Stretch {
             left: count,
             pos: from,
             at,
         };
     }
-    if kind == 2 {
+    if kind == constants::KIND_SET_OR_ARRAY {
         let child = plan_nodes::node::ref_of(plan, node, first);
         if 0 < fixed_at(plan, child) {
             return same_leaves(plan, node, count, first, base, from, part, list, at);
@@ -283,7 +282,7 @@ pub fn sparse_leaves(
     ensures { λ r. ⌜ Gathers (now (plan .entry)) node base (now (part .entry)) count from at (now (list .entry)) (r .seen .marks)
         (r .seen .twice) (r .given) (r .left) (r .pos) (r .at) (now (list .exit)) ⌝ }
 {
-    let most = wire::copy::least(count, MOST);
+    let most = wire::copy::least(count, constants::MOST_ITEMS);
     let mut n: usize = 0;
     let mut given: usize = 0;
     let mut pos = from;
@@ -302,7 +301,7 @@ pub fn sparse_leaves(
         n += 1;
         given = node::count_given(plan, node, index, given);
         entry::put_entry(list, to, child, index, base + start, size, 0);
-        to += entry::WORDS;
+        to += constants::ENTRY_WORDS;
         pos = start + size;
     }
     if n == 0 {

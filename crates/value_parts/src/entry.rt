@@ -5,9 +5,6 @@ ghost use Prim.Native.Nat.{_^_, _<_, _≤_};
 ghost use lib.Seq.{sets};
 ghost use Rattle.protocol.specs.Lists.{entryWords, entryOf};
 
-// How many words an entry has.
-pub const WORDS: usize = 5;
-
 // The words of an entry at the list's end, each if there is room for it.
 fn put_part(list: &mut [u32], at: usize, node: u32, index: u32, start: u32, size: u32, count: u32)
     requires { ⌜ at ≤ 131072 ⌝ }
@@ -33,7 +30,7 @@ pub fn put_entry(
     requires { ⌜ (at ≤ 131072) × (node < 2 ^ 32) × (index < 2 ^ 32) × (start < 2 ^ 32) × (size < 2 ^ 32) × (count < 2 ^ 32) ⌝ }
     ensures { λ _. ⌜ now (list .exit) ≡ sets (now (list .entry)) at (entryWords (entryOf node index start size) count) ⌝ }
 {
-    if at + WORDS <= list.len() {
+    if at + constants::ENTRY_WORDS <= list.len() {
         list[at] = node as u32;
         list[at + 1] = index as u32;
         list[at + 2] = start as u32;

@@ -18,10 +18,10 @@ ghost use Rattle.plan_nodes.specs.Readers.{At};
 pub fn is_leaf(kind: u32) -> bool
     ensures { λ b. ⌜ b ≡ leafKind kind ⌝ }
 {
-    if kind == 1 {
+    if kind == constants::KIND_LEAF {
         return true;
     }
-    kind == 8
+    kind == constants::KIND_ENUMERATION
 }
 
 // Whether a leaf's content is permitted.
@@ -29,7 +29,7 @@ pub fn leaf_ok(plan: &[u32], node: usize, kind: u32, part: &[u8]) -> bool
     requires { ⌜ (At (now plan) node) × (kind ≡ getD (now plan) node 0) × (leafKind kind ≡ true) ⌝ }
     ensures { λ b. ⌜ b ≡ leafGood (look (now (plan .entry)) node) (now (part .entry)) ⌝ }
 {
-    if kind == 8 {
+    if kind == constants::KIND_ENUMERATION {
         return value_scalars::enumeration_ok(part);
     }
     value_scalars::scalar_ok(plan_nodes::node::second_at(plan, node) as u32, part)
@@ -40,13 +40,13 @@ pub fn open_node(plan: &[u32], node: usize, kind: u32, part: &[u8]) -> Opening
     requires { ⌜ (At (now plan) node) × (Container (now plan) node kind) ⌝ }
     ensures { λ r. ⌜ r ≡ openingOf (look (now (plan .entry)) node) (now (part .entry)) ⌝ }
 {
-    if kind == 6 {
+    if kind == constants::KIND_INPUT_OBJECT {
         return value_openings::sparse_opening(part);
     }
-    if kind == 7 {
+    if kind == constants::KIND_RANGE {
         return value_openings::range_opening(part);
     }
-    if kind < 4 {
+    if kind < constants::KIND_TUPLE {
         return value_openings::set_opening(part);
     }
     value_openings::count_opening(part, plan_nodes::node::second_at(plan, node))
@@ -57,13 +57,13 @@ pub fn row_head(plan: &[u32], node: usize, kind: u32, part: &[u8], i: usize, at:
     requires { ⌜ (At (now plan) node) × (Container (now plan) node kind) × (kind ≡ 6 → ⊥) × (kind ≡ 5 → i < getD (now plan) (node + 1) 0) × (at ≤ length (now part)) ⌝ }
     ensures { λ r. ⌜ r ≡ rowHead (look (now (plan .entry)) node) (now (part .entry)) i at ⌝ }
 {
-    if kind == 4 {
+    if kind == constants::KIND_TUPLE {
         return value_heads::element::plain_head(part, 4, i, at);
     }
-    if kind == 3 {
+    if kind == constants::KIND_SET_OF_ARRAYS {
         return value_heads::element::envelope_head(part, i, at);
     }
-    if kind == 5 {
+    if kind == constants::KIND_OUTPUT_OBJECT {
         let required = value_heads::element::required(plan_nodes::node::card_of(plan, node, i));
         return value_heads::element::object_head(part, required, i, at);
     }

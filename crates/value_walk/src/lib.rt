@@ -22,6 +22,9 @@ ghost use Rattle.protocol.specs.Values.{absent, elementOutcome, elements, rowFo
 ghost use Rattle.protocol.specs.Plans.{look, cardsAt};
 ghost use Rattle.plan_nodes.specs.Readers.{At};
 
+// The length of an element that is absent, as put_entry takes it.
+const ABSENT: usize = constants::ABSENT as usize;
+
 // A refusal of what stands at a place.
 fn refused(no: u32, place: usize) -> Step
     requires { ⌜ place ≤ 65535 ⌝ }
@@ -40,11 +43,11 @@ fn end_elements(whole: bool, lacking: bool, base: usize, to: usize) -> Step
 {
     if whole {
         if lacking {
-            return refused(27, base);
+            return refused(constants::REQUIRED, base);
         }
         return Step::Reached { at: to as u32 };
     }
-    refused(21, base)
+    refused(constants::VALUE_LEFT, base)
 }
 
 // A scalar or an enumeration, whose content is permitted or not (24).
@@ -65,10 +68,10 @@ fn walk_leaf(
     if node::leaf_ok(plan, node, kind, part) {
         entry::put_entry(list, at, node, index, base, part.len(), 0);
         return Step::Reached {
-            at: (at + entry::WORDS) as u32,
+            at: (at + constants::ENTRY_WORDS) as u32,
         };
     }
-    refused(24, base)
+    refused(constants::BAD_SCALAR, base)
 }
 
 // An element of length -1, which is listed with the length of all ones and nothing below it.
@@ -77,9 +80,9 @@ fn walk_absent(node: usize, index: usize, start: usize, list: &mut [u32], at: us
     ensures { λ r. ⌜ walkOf r (now (list .exit)) ≡ led (absent (some node) index start) at (now (list .entry)) ⌝ }
     ensures within { λ r. ⌜ r ≡ Reached (at + 5) ⌝ }
 {
-    entry::put_entry(list, at, node, index, start, 4294967295, 0);
+    entry::put_entry(list, at, node, index, start, ABSENT, 0);
     Step::Reached {
-        at: (at + entry::WORDS) as u32,
+        at: (at + constants::ENTRY_WORDS) as u32,
     }
 }
 
@@ -133,11 +136,11 @@ fn walk_container(
         return refused(value_heads::parts::opening_fault(opening), base);
     };
     entry::put_entry(list, at, node, index, base, part.len(), count);
-    let to = at + entry::WORDS;
-    if kind == 6 {
+    let to = at + constants::ENTRY_WORDS;
+    if kind == constants::KIND_INPUT_OBJECT {
         let run = value_leaves::sparse_leaves(plan, node, count, base, from, part, list, to);
         if run.seen.twice {
-            return refused(26, base);
+            return refused(constants::INDEX_TWICE, base);
         }
         return walk_sparse(plan, needs, node, base, part, run, list);
     }
@@ -231,7 +234,7 @@ fn walk_sparse(
         };
         seen = seen.mark(i);
         if seen.twice {
-            return refused(26, base);
+            return refused(constants::INDEX_TWICE, base);
         }
         given = node::count_given(plan, node, i, given);
         let head = node::sparse_head(plan, node, part, i, pos);
