@@ -11,15 +11,12 @@ ghost use Rattle.find_path.specs.Descent.{headAt, ends, seek, childHead}
 ghost use Rattle.protocol.specs.Plans.{look};
 ghost use Rattle.plan_nodes.specs.Readers.{At};
 
-// No element has the index.
-const NONE: u32 = 35;
-
 // The head of the next element, whose index is i unless the wire names it.
 fn head_at(plan: &[u32], node: usize, kind: u32, part: &[u8], i: usize, at: usize) -> Head
     requires { ⌜ (At (now plan) node) × (Container (now plan) node kind) × (kind ≡ 5 → i < getD (now plan) (node + 1) 0) × (at ≤ length (now part)) ⌝ }
     ensures { λ r. ⌜ r ≡ headAt (look (now (plan .entry)) node) (now (part .entry)) i at ⌝ }
 {
-    if kind == 6 {
+    if kind == constants::KIND_INPUT_OBJECT {
         let index = value_parts::node::index_at(plan, node, part, at);
         let Index::Known(k) = index else {
             return Head::Fault(value_heads::parts::index_fault(index));
@@ -74,7 +71,7 @@ fn seek_head(
         i += 1;
         left -= 1;
     }
-    Head::Fault(NONE)
+    Head::Fault(constants::NO_ENTRY)
 }
 
 // The head of the element with an index, in a value of a node: a leaf has none.
@@ -84,7 +81,7 @@ pub fn child_head(plan: &[u32], node: usize, part: &[u8], wanted: usize) -> Head
 {
     let kind = plan_nodes::node::kind_at(plan, node);
     if value_parts::node::is_leaf(kind) {
-        return Head::Fault(NONE);
+        return Head::Fault(constants::NO_ENTRY);
     }
     let opening = value_parts::node::open_node(plan, node, kind, part);
     let Opening::Elements {
@@ -93,7 +90,7 @@ pub fn child_head(plan: &[u32], node: usize, part: &[u8], wanted: usize) -> Head
         at: from,
     } = opening
     else {
-        return Head::Fault(NONE);
+        return Head::Fault(constants::NO_ENTRY);
     };
     seek_head(plan, node, kind, part, wanted, count, first, from)
 }

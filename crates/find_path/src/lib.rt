@@ -16,12 +16,12 @@ fn lost_number(head: Head, length: usize) -> u32
     ensures { λ r. ⌜ r ≡ lostAt head length ⌝ }
 {
     let Head::Absent { index: _, start: _ } = head else {
-        return 35;
+        return constants::NO_ENTRY;
     };
     if length == 1 {
-        return 36;
+        return constants::ABSENT_ELEMENT;
     }
-    35
+    constants::NO_ENTRY
 }
 
 // What the path leads to from a value of a node; places count from `base`.
@@ -108,7 +108,7 @@ pub fn find<'v>(
     };
     *place = 0;
     if plan_check::no_type(plan) {
-        *no = 35;
+        *no = constants::NO_ENTRY;
         *node = 0;
         *start = 0;
         return &value[0..0];

@@ -46,7 +46,7 @@ fn build_leaf(
     }
     let s = entry.start as usize;
     let n = entry.size as usize;
-    if front::LARGEST < at + n {
+    if constants::MOST_VALUE < at + n {
         return Built::Failed;
     }
     let e = s + n;
@@ -66,10 +66,10 @@ fn may_lack(plan: &[u32], node: usize, kind: u32, i: usize) -> bool
     requires { ⌜ (At (now plan) node) × (Container (now plan) node kind) × (Refers (look (now plan) node) i) ⌝ }
     ensures { λ b. ⌜ b ≡ mayLack (look (now (plan .entry)) node) i ⌝ }
 {
-    if kind == 5 {
+    if kind == constants::KIND_OUTPUT_OBJECT {
         return !value_heads::element::required(plan_nodes::node::card_of(plan, node, i));
     }
-    if kind == 6 {
+    if kind == constants::KIND_INPUT_OBJECT {
         return !value_heads::element::required(plan_nodes::node::card_of(plan, node, i));
     }
     false
@@ -96,10 +96,10 @@ fn build_absent(
         if entry.count != 0 {
             return Built::Failed;
         }
-        if front::LARGEST < at + 8 {
+        if constants::MOST_VALUE < at + 8 {
             return Built::Failed;
         }
-        head::put_head(kind, entry.index, list::ABSENT, out, at);
+        head::put_head(kind, entry.index, constants::ABSENT, out, at);
         return Built::Done { word, at: at + 8 };
     }
     Built::Failed
@@ -127,7 +127,7 @@ pub fn build_value(
         return Built::Failed;
     }
     let kind = plan_nodes::node::kind_at(plan, node);
-    let below = word + list::WORDS;
+    let below = word + constants::ENTRY_WORDS;
     if value_parts::node::is_leaf(kind) {
         return build_leaf(plan, node, kind, src, entry, below, out, at);
     }
@@ -136,7 +136,7 @@ pub fn build_value(
         return Built::Failed;
     };
     let count = entry.count as usize;
-    if kind == 6 {
+    if kind == constants::KIND_INPUT_OBJECT {
         let run = leaf::put_given(plan, node, src, list, count, below, out, from);
         if run.seen.twice {
             return Built::Failed;
@@ -255,8 +255,17 @@ fn build_member(
 {
     let kind = plan_nodes::node::kind_at(plan, node);
     let child = plan_nodes::node::ref_of(plan, node, entry.index as usize);
-    if entry.size == list::ABSENT {
-        return build_absent(plan, node, kind, child, entry, word + list::WORDS, out, at);
+    if entry.size == constants::ABSENT {
+        return build_absent(
+            plan,
+            node,
+            kind,
+            child,
+            entry,
+            word + constants::ENTRY_WORDS,
+            out,
+            at,
+        );
     }
     let from = at + head::head_size(kind);
     let built = build_value(plan, needs, child, src, list, entry, word, out, from);

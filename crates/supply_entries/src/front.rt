@@ -15,16 +15,13 @@ ghost use Rattle.protocol.specs.Plans.{look};
 ghost use Rattle.plan_nodes.specs.Readers.{At};
 ghost use Rattle.protocol.specs.Building.{front, setBytes, rangeFront, frontOf};
 
-// The most bytes of a value (R1.4, R8.10).
-pub const LARGEST: usize = 65535;
-
 // A set or an array: no dimension where it is empty; else one, with as many elements as it says, and the lower bound 1.
 fn set_front(count: u32, out: &mut [u8], at: usize) -> Opened
     requires { ⌜ at ≤ 65551 ⌝ }
     ensures { λ r. ⌜ beginningOf r (now (out .exit)) ≡ begin-at (front (setBytes count) 0) at (now (out .entry)) ⌝ }
 {
     if count == 0 {
-        if LARGEST < at + 12 {
+        if constants::MOST_VALUE < at + 12 {
             return Opened::Shut;
         }
         put_pair(0, 0, out, at);
@@ -34,7 +31,7 @@ fn set_front(count: u32, out: &mut [u8], at: usize) -> Opened
             at: at + 12,
         };
     }
-    if LARGEST < at + 20 {
+    if constants::MOST_VALUE < at + 20 {
         return Opened::Shut;
     }
     put_pair(1, 0, out, at);
@@ -51,7 +48,7 @@ fn count_front(count: u32, out: &mut [u8], at: usize) -> Opened
     requires { ⌜ at ≤ 65551 ⌝ }
     ensures { λ r. ⌜ beginningOf r (now (out .exit)) ≡ begin-at (front (bytesBe 4 count) 0) at (now (out .entry)) ⌝ }
 {
-    if LARGEST < at + 4 {
+    if constants::MOST_VALUE < at + 4 {
         return Opened::Shut;
     }
     put_word(count, out, at);
@@ -83,7 +80,7 @@ fn range_front(src: &[u8], entry: Entry, out: &mut [u8], at: usize) -> Opened
     if entry.count as usize != count {
         return Opened::Shut;
     }
-    if LARGEST <= at {
+    if constants::MOST_VALUE <= at {
         return Opened::Shut;
     }
     put_byte(src[s], out, at);
@@ -103,13 +100,13 @@ pub fn put_front(
     requires { ⌜ (At (now plan) node) × (Container (now plan) node kind) × (at ≤ 65551) ⌝ }
     ensures { λ r. ⌜ beginningOf r (now (out .exit)) ≡ begin-at (frontOf (look (now (plan .entry)) node) (now (src .entry)) (claim entry)) at (now (out .entry)) ⌝ }
 {
-    if kind == 7 {
+    if kind == constants::KIND_RANGE {
         return range_front(src, entry, out, at);
     }
-    if kind < 4 {
+    if kind < constants::KIND_TUPLE {
         return set_front(entry.count, out, at);
     }
-    if kind == 6 {
+    if kind == constants::KIND_INPUT_OBJECT {
         return count_front(entry.count, out, at);
     }
     if entry.count as usize == plan_nodes::node::second_at(plan, node) {

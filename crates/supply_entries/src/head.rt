@@ -46,13 +46,13 @@ pub fn put_pair(a: u32, b: u32, out: &mut [u8], at: usize)
 pub fn head_size(kind: u32) -> usize
     ensures { λ r. ⌜ r ≡ headSize kind ⌝ }
 {
-    if kind == 3 {
+    if kind == constants::KIND_SET_OF_ARRAYS {
         return 16;
     }
-    if kind == 2 {
+    if kind == constants::KIND_SET_OR_ARRAY {
         return 4;
     }
-    if kind == 7 {
+    if kind == constants::KIND_RANGE {
         return 4;
     }
     8
@@ -65,20 +65,20 @@ pub fn put_head(kind: u32, index: u32, n: u32, out: &mut [u8], at: usize)
     requires { ⌜ (at ≤ 65535) × (kind ≡ 3 → n ≤ 65535) ⌝ }
     ensures { λ _. ⌜ now (out .exit) ≡ sets (now (out .entry)) at (headOf kind index n) ⌝ }
 {
-    if kind == 3 {
+    if kind == constants::KIND_SET_OF_ARRAYS {
         put_pair(12 + n, 1, out, at);
         put_pair(0, n, out, at + 8);
         return;
     }
-    if kind == 6 {
+    if kind == constants::KIND_INPUT_OBJECT {
         put_pair(index, n, out, at);
         return;
     }
-    if kind == 2 {
+    if kind == constants::KIND_SET_OR_ARRAY {
         put_word(n, out, at);
         return;
     }
-    if kind == 7 {
+    if kind == constants::KIND_RANGE {
         put_word(n, out, at);
         return;
     }

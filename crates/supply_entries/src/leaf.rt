@@ -6,10 +6,8 @@ use crate::Entry;
 use crate::Gathered;
 use crate::Place;
 use crate::Read;
-use crate::front;
 use crate::head;
 use crate::list;
-use value_heads::sparse::MOST;
 use value_heads::sparse::Seen;
 ghost use mathlib.Core.Path.{_≡_};
 ghost use Prim.Native.Nat.{_+_, _-_, _^_, _<_, _≤_};
@@ -27,7 +25,7 @@ fn leaf_fits(plan: &[u32], node: usize, src: &[u8], s: usize, e: usize) -> bool
     ensures { λ b. ⌜ b ≡ leafGood (look (now (plan .entry)) node) (take (e - s) (drop s (now (src .entry)))) ⌝ }
 {
     let kind = plan_nodes::node::kind_at(plan, node);
-    if kind == 1 {
+    if kind == constants::KIND_LEAF {
         let size = value_scalars::format::fixed_size(
             plan_nodes::node::second_at(plan, node) as u32,
         );
@@ -46,7 +44,7 @@ fn put_head(kind: u32, index: u32, n: u32, out: &mut [u8], at: usize)
     requires { ⌜ (at ≤ 65535) × (kind ≡ 3 → n ≤ 65535) ⌝ }
     ensures { λ _. ⌜ now (out .exit) ≡ sets (now (out .entry)) at (headOf kind index n) ⌝ }
 {
-    if kind == 2 {
+    if kind == constants::KIND_SET_OR_ARRAY {
         head::put_word(n, out, at);
         return;
     }
@@ -77,7 +75,7 @@ fn put_leaf(
     let e = s + entry.size as usize;
     let head = head::head_size(kind);
     let size = head + (e - s);
-    if front::LARGEST < at + size {
+    if constants::MOST_VALUE < at + size {
         return Emitted::Other;
     }
     if src.len() < e {
@@ -123,7 +121,7 @@ pub fn put_leaves(
         let Emitted::Leaf { size } = leaf else {
             break;
         };
-        word += list::WORDS;
+        word += constants::ENTRY_WORDS;
         at += size;
         index += 1;
     }
@@ -148,7 +146,7 @@ pub fn put_given(
         (r .seen .marks) (r .seen .twice) (r .given) (r .left) (drop (r .word) (now (list .entry))) (r .at) (now (out .exit)) ⌝ }
 {
     let known = plan_nodes::node::second_at(plan, node);
-    let most = wire::copy::least(count, MOST);
+    let most = wire::copy::least(count, constants::MOST_ITEMS);
     let first = word;
     let mut n: usize = 0;
     let mut given: usize = 0;
@@ -156,13 +154,21 @@ pub fn put_given(
         let Read::Whole(entry) = list::known_entry(list, word, known) else {
             break;
         };
-        let leaf = put_leaf(plan, node, 6, src, entry, out, at);
+        let leaf = put_leaf(
+            plan,
+            node,
+            constants::KIND_INPUT_OBJECT,
+            src,
+            entry,
+            out,
+            at,
+        );
         let Emitted::Leaf { size } = leaf else {
             break;
         };
         n += 1;
         given = value_parts::node::count_given(plan, node, entry.index as usize, given);
-        word += list::WORDS;
+        word += constants::ENTRY_WORDS;
         at += size;
     }
     if n == 0 {
@@ -174,7 +180,7 @@ pub fn put_given(
             at,
         };
     }
-    let seen = Seen::new().mark_entries(list, n, first + list::INDEX, list::WORDS);
+    let seen = Seen::new().mark_entries(list, n, first + list::INDEX, constants::ENTRY_WORDS);
     Gathered {
         seen,
         given,

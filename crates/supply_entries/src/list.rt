@@ -6,14 +6,8 @@ ghost use lib.ListN.{drop};
 ghost use Rattle.supply_entries.specs.Emitting.{readOf, known};
 ghost use Rattle.protocol.specs.Supplies.{nextOf};
 
-// How many words an entry has.
-pub const WORDS: usize = 5;
-
-// Which of them is its index.
+// Which word of an entry is its index.
 pub const INDEX: usize = 1;
-
-// The length word of an absent element (R6.5).
-pub const ABSENT: u32 = 4294967295;
 
 // The entry at a word of the list. The words may run out before it is whole.
 pub fn next_entry(list: &[u32], word: usize) -> Read
@@ -22,7 +16,7 @@ pub fn next_entry(list: &[u32], word: usize) -> Read
     if list.len() <= word {
         return Read::Short;
     }
-    if list.len() - word < WORDS {
+    if list.len() - word < constants::ENTRY_WORDS {
         return Read::Short;
     }
     Read::Whole(Entry {

@@ -2,7 +2,6 @@
 // change no byte of the output (R1.1).
 use supply_entries::Built;
 use supply_entries::Read;
-use supply_entries::front;
 use supply_entries::list;
 ghost use mathlib.Core.Path.{_≡_};
 ghost use mathlib.Core.Bool.{true};
@@ -42,7 +41,7 @@ fn build_top(
     if entry.index != 0 {
         return Built::Failed;
     }
-    if entry.size == list::ABSENT {
+    if entry.size == constants::ABSENT {
         return Built::Failed;
     }
     supply_build::build_value(plan, needs, node, src, list, entry, 0, out, 0)
@@ -75,13 +74,19 @@ fn write_value(
 {
     let built = build_whole(plan, needs, src, list, scratch);
     let Built::Done { word, at } = built else {
-        return Answer::Refused { no: 34 };
+        return Answer::Refused {
+            no: constants::NO_VALUE,
+        };
     };
     if word < list.len() {
-        return Answer::Refused { no: 34 };
+        return Answer::Refused {
+            no: constants::NO_VALUE,
+        };
     }
     if out.len() < at {
-        return Answer::Refused { no: 32 };
+        return Answer::Refused {
+            no: constants::OUTPUT_ROOM,
+        };
     }
     if scratch.len() < at {
         build_whole(plan, needs, src, list, out);
@@ -113,7 +118,7 @@ fn write_large(plan: &[u32], needs: &[u32], list: &[u32], src: &[u8], out: &mut 
     requires { ⌜ (planFormed (now plan) ≡ true) × (Memo (now plan) (now needs)) ⌝ }
     ensures { λ r. ⌜ Puts (writeOf (now (plan .entry)) (now (list .entry)) (now (src .entry)) (length (now (out .entry)))) r (now (out .entry)) (now (out .exit)) ⌝ }
 {
-    let mut scratch = [0u8; front::LARGEST];
+    let mut scratch = [0u8; constants::MOST_VALUE];
     write_value(plan, needs, list, src, &mut scratch, out)
 }
 
@@ -141,7 +146,7 @@ fn write_many(plan: &[u32], list: &[u32], src: &[u8], out: &mut [u8]) -> Answer
     requires { ⌜ planFormed (now plan) ≡ true ⌝ }
     ensures { λ r. ⌜ Puts (writeOf (now (plan .entry)) (now (list .entry)) (now (src .entry)) (length (now (out .entry)))) r (now (out .entry)) (now (out .exit)) ⌝ }
 {
-    let mut table = [0u32; 2048];
+    let mut table = [0u32; 2 * constants::MOST_BLOCKS];
     let words = 2 * plan_nodes::needs::fill(plan, &mut table);
     write_sized(plan, &table[..words], list, src, out)
 }
@@ -159,5 +164,7 @@ pub fn write(plan: &[u32], list: &[u32], src: &[u8], out: &mut [u8]) -> Answer
         }
         return write_many(plan, list, src, out);
     }
-    Answer::Refused { no: 33 }
+    Answer::Refused {
+        no: constants::BAD_PLAN,
+    }
 }
