@@ -117,7 +117,7 @@ pub fn read(
     ensures inside { λ r. ⌜ Inside (length (now (d .entry))) (x .count + push code) r ⌝ }
 {
     if d.len() < x.at + number::extent_of(d, code, x.at) {
-        return Part::Fault(10);
+        return Part::Fault(constants::DESCRIPTOR_END);
     }
     let no = fault(d, known, n, tag, code, x, elements);
     if no != 0 {

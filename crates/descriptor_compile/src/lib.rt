@@ -62,7 +62,7 @@ fn check_blocks(
         return Answer::Words { words: to as u32 };
     }
     Answer::Refused {
-        no: 18,
+        no: constants::NO_ROOT,
         place: d.len() as u32,
     }
 }
@@ -72,22 +72,31 @@ fn check_blocks(
 pub fn check(d: &[u8], root: &[u8], scratch: &mut [u32]) -> Answer
     ensures { λ r. ⌜ Checks (planOf (descriptionOf (now (d .entry)) (now (root .entry)))) r (now (scratch .entry)) (now (scratch .exit)) ⌝ }
 {
-    if 65535 < d.len() {
-        return Answer::Refused { no: 17, place: 0 };
+    if constants::MOST_DESCRIPTOR < d.len() {
+        return Answer::Refused {
+            no: constants::DESCRIPTOR_SIZE,
+            place: 0,
+        };
     }
     let end = d.len() as u32;
     if root.len() != 16 {
-        return Answer::Refused { no: 18, place: end };
+        return Answer::Refused {
+            no: constants::NO_ROOT,
+            place: end,
+        };
     }
     if id::is_zero(root, 0) {
         if d.len() == 0 {
             descriptor_nodes::put_two(scratch, 0, 2, 0);
             return Answer::Words { words: 2 };
         }
-        return Answer::Refused { no: 18, place: end };
+        return Answer::Refused {
+            no: constants::NO_ROOT,
+            place: end,
+        };
     }
-    let mut known = [0u32; 3072];
-    let mut elements = [0u32; 1536];
+    let mut known = [0u32; 3 * constants::MOST_BLOCKS];
+    let mut elements = [0u32; 3 * constants::MOST_ITEMS];
     check_blocks(d, root, &mut known, &mut elements, scratch)
 }
 
@@ -101,7 +110,10 @@ pub fn compile(d: &[u8], root: &[u8], plan: &mut [u32]) -> Answer
         return answer;
     };
     if plan.len() < words as usize {
-        return Answer::Refused { no: 30, place: 0 };
+        return Answer::Refused {
+            no: constants::PLAN_ROOM,
+            place: 0,
+        };
     }
     check(d, root, plan);
     answer

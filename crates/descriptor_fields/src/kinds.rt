@@ -44,15 +44,6 @@ pub const ARRAY_ELEMENT: u8 = 19;
 
 pub const RANGE_ELEMENT: u8 = 20;
 
-// The tags that rules name.
-pub const SET: u32 = 0;
-
-pub const SCALAR: u32 = 3;
-
-pub const ARRAY: u32 = 6;
-
-pub const ANNOTATION: u32 = 127;
-
 // The kinds of a block's fields, each run of them up to the first END: the first fields, those of each item that they count, and the
 // same once more.
 pub struct BlockFields {
@@ -97,30 +88,30 @@ pub fn layout_of(tag: u32) -> BlockFields
     ensures { λ r. ⌜ r ≡ encoded (layout tag) ⌝ }
 {
     match tag {
-        0 => simple([ID, SET_ELEMENT, END, END, END, END], NONE),
-        1 => simple(
+        constants::TAG_SET => simple([ID, SET_ELEMENT, END, END, END, END], NONE),
+        constants::TAG_OUTPUT_SHAPE => simple(
             [ID, FREE, OBJECT, COUNT, END, END],
             [SHAPE_FLAGS, CARDINALITY, TEXT, ELEMENT, OBJECT, END],
         ),
-        4 => typed(ONE_COUNT, [ELEMENT, END, END, END, END, END]),
-        5 => typed(ONE_COUNT, [NAME, ELEMENT, END, END, END, END]),
-        6 => typed([ARRAY_ELEMENT, DIMENSIONS, BOUND, END, END, END], NONE),
-        7 => typed(ONE_COUNT, [TEXT, END, END, END, END, END]),
-        8 => simple(
+        constants::TAG_TUPLE => typed(ONE_COUNT, [ELEMENT, END, END, END, END, END]),
+        constants::TAG_NAMED_TUPLE => typed(ONE_COUNT, [NAME, ELEMENT, END, END, END, END]),
+        constants::TAG_ARRAY => typed([ARRAY_ELEMENT, DIMENSIONS, BOUND, END, END, END], NONE),
+        constants::TAG_ENUMERATION => typed(ONE_COUNT, [TEXT, END, END, END, END, END]),
+        constants::TAG_INPUT_SHAPE => simple(
             [ID, COUNT, END, END, END, END],
             [INPUT_FLAGS, CARDINALITY, NAME, ELEMENT, END, END],
         ),
-        9 => typed([RANGE_ELEMENT, END, END, END, END, END], NONE),
-        10 => simple([ID, TEXT, BOOL, END, END, END], NONE),
-        11 => simple(
+        constants::TAG_RANGE => typed([RANGE_ELEMENT, END, END, END, END, END], NONE),
+        constants::TAG_OBJECT_TYPE => simple([ID, TEXT, BOOL, END, END, END], NONE),
+        constants::TAG_COMPOUND_TYPE => simple(
             [ID, TEXT, BOOL, OPERATION, COUNT, END],
             [OBJECT, END, END, END, END, END],
         ),
-        13 => simple(
+        constants::TAG_RECORD => simple(
             [ID, COUNT, END, END, END, END],
             [TEXT, ANY, END, END, END, END],
         ),
-        127 => simple([ANY, TEXT, TEXT, END, END, END], NONE),
+        constants::TAG_ANNOTATION => simple([ANY, TEXT, TEXT, END, END, END], NONE),
         _ => typed(NONE, NONE),
     }
 }
@@ -129,19 +120,19 @@ pub fn layout_of(tag: u32) -> BlockFields
 pub fn is_known(tag: u32) -> bool
     ensures { λ r. ⌜ r ≡ knownTag tag ⌝ }
 {
-    if tag <= 1 {
+    if tag <= constants::TAG_OUTPUT_SHAPE {
         return true;
     }
-    if tag < 3 {
+    if tag < constants::TAG_SCALAR {
         return false;
     }
-    if tag <= 11 {
+    if tag <= constants::TAG_COMPOUND_TYPE {
         return true;
     }
-    if tag == 13 {
+    if tag == constants::TAG_RECORD {
         return true;
     }
-    tag == 127
+    tag == constants::TAG_ANNOTATION
 }
 
 // Whether a block has values (R3.2).
@@ -149,9 +140,9 @@ pub fn has_values(tag: u32) -> bool
     ensures { λ r. ⌜ r ≡ valued tag ⌝ }
 {
     match tag {
-        10 => false,
-        11 => false,
-        13 => false,
+        constants::TAG_OBJECT_TYPE => false,
+        constants::TAG_COMPOUND_TYPE => false,
+        constants::TAG_RECORD => false,
         _ => true,
     }
 }
@@ -160,8 +151,8 @@ pub fn has_values(tag: u32) -> bool
 pub fn is_object(tag: u32) -> bool
     ensures { λ r. ⌜ r ≡ objectType tag ⌝ }
 {
-    if tag == 10 {
+    if tag == constants::TAG_OBJECT_TYPE {
         return true;
     }
-    tag == 11
+    tag == constants::TAG_COMPOUND_TYPE
 }

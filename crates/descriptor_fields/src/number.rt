@@ -9,6 +9,9 @@ ghost use lib.ListN.{length};
 ghost use Rattle.descriptor_fields.specs.Fields.{widthOf, numberAt, extent, permits, numberFault, formatless, countFault};
 ghost use Rattle.protocol.specs.Numbers.{pick};
 
+// The most items of a count, which is a number of a field.
+const MOST_ITEMS: u32 = constants::MOST_ITEMS as u32;
+
 // The number of a field.
 pub fn number_at(d: &[u8], code: u8, at: usize) -> u32
     requires { ⌜ at + widthOf code ≤ length (now d) ⌝ }
@@ -76,7 +79,7 @@ fn is_permitted(code: u8, v: u32) -> bool
         kinds::CARDINALITY => plan_nodes::words::is_cardinality(v),
         kinds::SHAPE_FLAGS => v < 8,
         kinds::INPUT_FLAGS => v == 0,
-        kinds::BOUND => v == 4294967295,
+        kinds::BOUND => v == constants::UNBOUNDED,
         _ => v == 1,
     }
 }
@@ -88,14 +91,14 @@ pub fn fault(code: u8, v: u32) -> u32
     if is_permitted(code, v) {
         return 0;
     }
-    12
+    constants::BAD_CONTENT
 }
 
 // Whether the block is a scalar whose format is yet to come.
 pub fn is_formatless(tag: u32, x: Draft) -> bool
     ensures { λ r. ⌜ r ≡ formatless tag x ⌝ }
 {
-    if tag == kinds::SCALAR {
+    if tag == constants::TAG_SCALAR {
         return x.format == crate::NO_FORMAT;
     }
     false
@@ -105,13 +108,13 @@ pub fn is_formatless(tag: u32, x: Draft) -> bool
 pub fn count_fault(tag: u32, code: u8, x: Draft, v: u32) -> u32
     ensures { λ r. ⌜ r ≡ countFault tag code x v ⌝ }
 {
-    if 512 < v {
-        return 17;
+    if MOST_ITEMS < v {
+        return constants::DESCRIPTOR_SIZE;
     }
     if code == kinds::ANCESTORS {
         if v == 0 {
             if is_formatless(tag, x) {
-                return 12;
+                return constants::BAD_CONTENT;
             }
         }
     }

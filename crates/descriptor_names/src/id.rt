@@ -58,7 +58,7 @@ pub fn format_of(s: &[u8], at: usize) -> u32
         return (low - 0x100) as u32;
     }
     if low == 0x130 {
-        return 19;
+        return constants::FORMAT_MEMORY;
     }
     NO_FORMAT
 }
@@ -85,10 +85,10 @@ pub fn fault(d: &[u8], known: &[u32], n: usize, at: usize) -> u32
     ensures { λ r. ⌜ r ≡ idFault (now (d .entry)) (knownOf (now (d .entry)) (now (known .entry)) n) (idAt (now (d .entry)) at) ⌝ }
 {
     if is_zero(d, at) {
-        return 15;
+        return constants::BAD_ID;
     }
     if find(d, known, n, d, at) < n {
-        return 15;
+        return constants::BAD_ID;
     }
     0
 }

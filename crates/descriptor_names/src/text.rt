@@ -82,11 +82,11 @@ pub fn fault(d: &[u8], elements: &[u32], n: usize, code: u8, at: usize) -> u32
 {
     let text = content(d, at);
     if !wire::text::is_utf8(text) {
-        return 12;
+        return constants::BAD_CONTENT;
     }
     if code == kinds::NAME {
         if is_named(d, elements, n, at) {
-            return 16;
+            return constants::NAME_TWICE;
         }
     }
     0

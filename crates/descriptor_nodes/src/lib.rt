@@ -105,16 +105,16 @@ fn single_kind(d: &[u8], known: &[u32], n: usize, tag: u32, r: u32) -> u32
     requires { ⌜ Told (now d) (now known) n ⌝ }
     ensures { λ k. ⌜ k ≡ singleKind (knownOf (now (d .entry)) (now (known .entry)) n) tag r ⌝ }
 {
-    if tag == 9 {
-        return 7;
+    if tag == constants::TAG_RANGE {
+        return constants::KIND_RANGE;
     }
-    if tag == kinds::SET {
-        if tag_at(d, known, n, r) == kinds::ARRAY {
-            return 3;
+    if tag == constants::TAG_SET {
+        if tag_at(d, known, n, r) == constants::TAG_ARRAY {
+            return constants::KIND_SET_OF_ARRAYS;
         }
-        return 2;
+        return constants::KIND_SET_OR_ARRAY;
     }
-    2
+    constants::KIND_SET_OR_ARRAY
 }
 
 // A node with one reference.
@@ -140,17 +140,17 @@ fn put_many(
     requires { ⌜ (Told (now d) (now known) n) × (Roomy (now elements) count) × (to ≤ 2097152) ⌝ }
     ensures { λ r. ⌜ Puts (manyWords (knownOf (now (d .entry)) (now (known .entry)) n) tag (elementsOf (now (elements .entry)) count)) to r (now (plan .entry)) (now (plan .exit)) ⌝ }
 {
-    if tag == 1 {
-        put_two(plan, to, 5, count as u32);
+    if tag == constants::TAG_OUTPUT_SHAPE {
+        put_two(plan, to, constants::KIND_OUTPUT_OBJECT, count as u32);
         put_pairs(d, known, n, elements, count, plan, to + 2);
         return to + 2 + 2 * count;
     }
-    if tag == 8 {
-        put_two(plan, to, 6, count as u32);
+    if tag == constants::TAG_INPUT_SHAPE {
+        put_two(plan, to, constants::KIND_INPUT_OBJECT, count as u32);
         put_pairs(d, known, n, elements, count, plan, to + 2);
         return to + 2 + 2 * count;
     }
-    put_two(plan, to, 4, count as u32);
+    put_two(plan, to, constants::KIND_TUPLE, count as u32);
     put_refs(d, known, n, elements, count, plan, to + 2);
     to + 2 + count
 }
@@ -173,15 +173,15 @@ pub fn put_node(
         return to;
     }
     match tag {
-        kinds::SCALAR => {
-            put_two(plan, to, 1, x.format);
+        constants::TAG_SCALAR => {
+            put_two(plan, to, constants::KIND_LEAF, x.format);
             to + 2
         }
-        7 => {
-            put_word(plan, to, 8);
+        constants::TAG_ENUMERATION => {
+            put_word(plan, to, constants::KIND_ENUMERATION);
             to + 1
         }
-        0 | 6 | 9 => {
+        constants::TAG_SET | constants::TAG_ARRAY | constants::TAG_RANGE => {
             put_single(d, known, n, tag, only_ref(elements, x.count), plan, to);
             to + 2
         }

@@ -15,9 +15,6 @@ ghost use Rattle.descriptor_fields.specs.Fields.{noBlock, decides, formatBy, fi
 ghost use Rattle.descriptor_fields.specs.Arrays.{Told, knownAt, knownOf};
 ghost use Rattle.protocol.specs.Numbers.{pick};
 
-// The greatest height of a block (R1.4).
-const MOST_HEIGHT: u32 = 32;
-
 // Whether the ancestor that is read now is the one that the format comes from.
 pub fn is_deciding(tag: u32, x: Draft) -> bool
     ensures { λ r. ⌜ r ≡ decides tag x ⌝ }
@@ -50,7 +47,7 @@ pub fn format_by(d: &[u8], known: &[u32], n: usize, i: usize) -> u32
     requires { ⌜ (Told (now d) (now known) n) × (i < n) ⌝ }
     ensures { λ r. ⌜ r ≡ formatBy (now (d .entry)) (knownAt (now (d .entry)) (now (known .entry)) i) ⌝ }
 {
-    if tag_of(d, known, n, i) == kinds::SCALAR {
+    if tag_of(d, known, n, i) == constants::TAG_SCALAR {
         let start = wide(known[3 * i]);
         return id::format_of(d, start + 1);
     }
@@ -61,7 +58,7 @@ pub fn format_by(d: &[u8], known: &[u32], n: usize, i: usize) -> u32
 fn may_be_in_set(tag: u32) -> bool
     ensures { λ r. ⌜ r ≡ pick (eqb tag 0) false (valued tag) ⌝ }
 {
-    if tag == kinds::SET {
+    if tag == constants::TAG_SET {
         return false;
     }
     kinds::has_values(tag)
@@ -71,10 +68,10 @@ fn may_be_in_set(tag: u32) -> bool
 fn may_be_in_array(tag: u32) -> bool
     ensures { λ r. ⌜ r ≡ pick (eqb tag 0) false (pick (eqb tag 6) false (valued tag)) ⌝ }
 {
-    if tag == kinds::SET {
+    if tag == constants::TAG_SET {
         return false;
     }
-    if tag == kinds::ARRAY {
+    if tag == constants::TAG_ARRAY {
         return false;
     }
     kinds::has_values(tag)
@@ -98,7 +95,7 @@ fn is_fitting(d: &[u8], known: &[u32], n: usize, tag: u32, code: u8, x: Draft, i
         kinds::ELEMENT => kinds::has_values(other),
         kinds::SET_ELEMENT => may_be_in_set(other),
         kinds::ARRAY_ELEMENT => may_be_in_array(other),
-        _ => other == kinds::SCALAR,
+        _ => other == constants::TAG_SCALAR,
     }
 }
 
@@ -108,11 +105,11 @@ fn kind_fault(d: &[u8], known: &[u32], n: usize, tag: u32, code: u8, x: Draft, i
     ensures { λ r. ⌜ r ≡ kindFault (now (d .entry)) tag code x (knownAt (now (d .entry)) (now (known .entry)) i) ⌝ }
 {
     if !is_fitting(d, known, n, tag, code, x, i) {
-        return 14;
+        return constants::WRONG_KIND;
     }
     if kinds::ELEMENT <= code {
-        if MOST_HEIGHT <= height_of(d, known, n, i) {
-            return 17;
+        if constants::MOST_HEIGHT <= height_of(d, known, n, i) {
+            return constants::DESCRIPTOR_SIZE;
         }
     }
     0
@@ -140,7 +137,7 @@ pub fn fault(d: &[u8], known: &[u32], n: usize, tag: u32, code: u8, x: Draft, v:
     if i < n {
         return kind_fault(d, known, n, tag, code, x, i);
     }
-    13
+    constants::BAD_REFERENCE
 }
 
 // What a field keeps of the block that it refers to: its height, and its format; nothing of a block that is not there.

@@ -22,15 +22,15 @@ fn tag_fault(tag: u32, n: usize) -> u32
     ensures { λ r. ⌜ r ≡ tagFault tag n ⌝ }
 {
     if kinds::is_known(tag) {
-        if tag == kinds::ANNOTATION {
+        if tag == constants::TAG_ANNOTATION {
             return 0;
         }
-        if 1024 <= n {
-            return 17;
+        if constants::MOST_BLOCKS <= n {
+            return constants::DESCRIPTOR_SIZE;
         }
         return 0;
     }
-    11
+    constants::UNKNOWN_TAG
 }
 
 // The number of a refusal, 0 where there is none.
@@ -90,7 +90,7 @@ pub fn read(d: &[u8], known: &mut [u32], elements: &mut [u32], plan: &mut [u32])
                 place: at as u32,
             };
         };
-        if tag != kinds::ANNOTATION {
+        if tag != constants::TAG_ANNOTATION {
             to = add(d, known, n, at, x, elements, plan, to);
             n += 1;
         }
