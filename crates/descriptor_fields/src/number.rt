@@ -76,7 +76,7 @@ fn is_permitted(code: u8, v: u32) -> bool
     }
     match code {
         kinds::OPERATION => is_operation(v),
-        kinds::CARDINALITY => plan_nodes::words::is_cardinality(v),
+        kinds::CARDINALITY => wire::words::is_cardinality(v),
         kinds::SHAPE_FLAGS => v < 8,
         kinds::INPUT_FLAGS => v == 0,
         kinds::BOUND => v == constants::UNBOUNDED,

@@ -1,6 +1,6 @@
 // Ids: 16 bytes, compared as two numbers of eight bytes.
 use descriptor_fields::NO_FORMAT;
-use plan_nodes::words::wide;
+use wire::words::wide;
 ghost use mathlib.Core.Path.{_≡_};
 ghost use Prim.Native.Nat.{_+_, _≤_};
 ghost use lib.Dec.{eqb};

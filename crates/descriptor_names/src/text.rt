@@ -1,6 +1,6 @@
 // Texts, and the names of elements.
 use descriptor_fields::kinds;
-use plan_nodes::words::wide;
+use wire::words::wide;
 ghost use mathlib.Core.Path.{_≡_};
 ghost use Prim.Native.Nat.{_+_, _*_, _^_, _≤_, _<_};
 ghost use lib.ListN.{length};

@@ -1,8 +1,8 @@
 // The words of a block's node in the plan, stored as far as the plan has room.
 use descriptor_fields::Draft;
 use descriptor_fields::kinds;
-use plan_nodes::words::put_word;
-use plan_nodes::words::wide;
+use wire::words::put_word;
+use wire::words::wide;
 ghost use mathlib.Core.Path.{_≡_};
 ghost use mathlib.Core.List.{_∷_, [], map};
 ghost use Prim.Native.Nat.{_≤_};

@@ -4,7 +4,7 @@ use descriptor_fields::NO_FORMAT;
 use descriptor_fields::kinds;
 use descriptor_fields::number;
 use descriptor_names::id;
-use plan_nodes::words::wide;
+use wire::words::wide;
 ghost use mathlib.Core.Path.{_≡_};
 ghost use mathlib.Core.Bool.{false};
 ghost use Prim.Native.Nat.{_≤_, _<_};

@@ -3,7 +3,7 @@
 use plan_heights::height_at;
 use plan_heights::search;
 use plan_nodes::words::size_at;
-use plan_nodes::words::wide;
+use wire::words::wide;
 ghost use mathlib.Core.Path.{_≡_};
 ghost use Prim.Native.Nat.{_+_, _-_, _^_, _≤_, _<_, min};
 ghost use lib.ListN.{length, getD};

@@ -5,3 +5,4 @@ pub mod Nodes
 pub mod Refs
 pub mod Sizes
 pub mod Memos
+pub mod Roots

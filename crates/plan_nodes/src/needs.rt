@@ -3,7 +3,7 @@
 // that its work is that of the plan's words plus the value's bytes.
 use crate::node::second_at;
 use crate::words::size_at;
-use crate::words::wide;
+use wire::words::wide;
 ghost use mathlib.Core.Path.{_≡_};
 ghost use Prim.Native.Nat.{_+_, _*_, _^_, _≤_, _<_};
 ghost use lib.ListN.{length, getD};

@@ -1,6 +1,6 @@
 // The nodes of a well-formed plan. Whoever walks a plan sees it only through these functions, so that another form of plan changes
 // them alone.
-use crate::words::wide;
+use wire::words::wide;
 ghost use mathlib.Core.Path.{_≡_};
 ghost use mathlib.Core.Bool.{true, false};
 ghost use mathlib.Core.Option.{some};

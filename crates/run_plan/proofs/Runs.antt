@@ -1,17 +1,15 @@
--- The laws of a run: the plan's root, the tests in their order, and what an answer says of the outcome.
+-- The laws of a run: the tests in their order, and what an answer says of the outcome.
 use mathlib.Core.Path.{_≡_, refl, ap, sym, _∙_}
 use mathlib.Core.Bool.{Bool, true, false}
 use mathlib.Core.List.{List, _++_}
-use mathlib.Core.Logic.{_⊎_, inl, inr, ⊎-elim}
 use Prim.Native.Nat.{ℕ, _+_, _*_, _^_, _<_, _≤_}
 use native.Mathlib.Omega.{arith}
 use native.Mathlib.Nat.{zero-add}
-use lib.Dec.{ltb, eqb, leb}
+use lib.Dec.{ltb}
 use lib.ListN.{length, getD, drop}
 use lib.Seq.{sets, sets-eq}
-use borrow.Author.Tests.{lt-ltb, le-ltb, eq-eqb, ne-eqb, ltb-false, eqb-true, leb-true}
-use Rattle.wire.proofs.Picks.{both}
-use Rattle.plan_nodes.proofs.Nodes.{at-root, at-low}
+use borrow.Author.Tests.{lt-ltb, le-ltb, eq-eqb, ne-eqb, ltb-false}
+use Rattle.plan_nodes.proofs.Roots.{root-none, root-some}
 use Rattle.value_parts.specs.Walk.{stopped, reached, walkOf, led, Within}
 use Rattle.value_parts.specs.declared.Step as Step
 use Rattle.value_parts.specs.declared.Step.the-variants.{Refused, Reached}
@@ -22,51 +20,8 @@ use Rattle.protocol.specs.Numbers.{pick}
 use Rattle.protocol.specs.Lists.{Forest, empty, words}
 use Rattle.protocol.specs.Values.{ValueOutcome, valueOf}
 use Rattle.protocol.specs.Answers.{refused, accepted}
-use Rattle.protocol.specs.Plans.{look, noType, nodesOf, startsIn, planFormed}
+use Rattle.protocol.specs.Plans.{look, planFormed}
 use Rattle.protocol.specs.Running.{nothingIn, listRoomed, valueBy, checked, runOf, listAfter, admitted}
-
--- ---- a well-formed plan's root
-
-none-two : (p : List ℕ) → noType p ≡ true → (length p ≡ 2) × (getD p 1 0 ≡ 0)
-unfolding noType
-none-two p e =
-    let a = both (eqb (length p) 2) (pick (eqb (getD p 0 0) 2) (eqb (getD p 1 0) 0) false) e in
-    let b = both (eqb (getD p 0 0) 2) (eqb (getD p 1 0) 0) (a .1) in
-    (eqb-true _ 2 (a .0), eqb-true _ 0 (b .1))
-
-module _ (p : List ℕ) (f : planFormed p ≡ true) where
-  -- its words are two without a type, or as many as the first of them says
-  words-of : (length p ≡ 2) ⊎ ((2 ≤ length p) × (getD p 0 0 ≡ length p))
-  unfolding planFormed pick
-  words-of = go (noType p) refl f
-    where
-      go : (b : Bool) → noType p ≡ b
-          → pick b true (pick (leb 2 (length p)) (pick (eqb (getD p 0 0) (length p)) (startsIn (nodesOf p) (getD p 1 0)) false) false) ≡ true
-          → (length p ≡ 2) ⊎ ((2 ≤ length p) × (getD p 0 0 ≡ length p))
-      go true e g = inl (none-two p e .0)
-      go false e g =
-          let h = both (leb 2 (length p)) (pick (eqb (getD p 0 0) (length p)) (startsIn (nodesOf p) (getD p 1 0)) false) g in
-          inr (leb-true 2 (length p) (h .0), eqb-true (getD p 0 0) (length p) (both (eqb (getD p 0 0) (length p)) (startsIn (nodesOf p) (getD p 1 0)) (h .1) .0))
-
-  pub two : 2 ≤ length p
-  two = ⊎-elim (λ e. omega arith) (λ h. h .0) words-of
-
-  pub few-words : ((j : ℕ) → getD p j 0 < 2 ^ 32) → length p < 2 ^ 32
-  few-words w = ⊎-elim (λ e. omega arith) (λ h. omega (arith, h .1, w 0)) words-of
-
-  pub root-none : getD p 1 0 ≡ 0 → ((j : ℕ) → getD p j 0 < 2 ^ 32) → noType p ≡ true
-  root-none e w = go (noType p) refl
-    where
-      go : (b : Bool) → noType p ≡ b → noType p ≡ true
-      go true g = g
-      go false g = absurd (omega (arith, at-low p (getD p 1 0) (at-root p f g w)))
-
-  pub root-some : (getD p 1 0 ≡ 0 → ⊥) → noType p ≡ false
-  root-some n = go (noType p) refl
-    where
-      go : (b : Bool) → noType p ≡ b → noType p ≡ false
-      go true g = absurd (n (none-two p g .1))
-      go false g = g
 
 -- ---- a value by a well-formed plan
 

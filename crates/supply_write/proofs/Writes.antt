@@ -9,7 +9,7 @@ use lib.ListN.{length, take, drop, getD}
 use lib.Seq.{sets, sets-eq, length-sets, take-at}
 use borrow.Author.Tests.{lt-ltb, le-ltb}
 use Rattle.plan_nodes.proofs.Nodes.{at-root}
-use Rattle.run_plan.proofs.Runs.{root-none, root-some}
+use Rattle.plan_nodes.proofs.Roots.{root-none, root-some}
 use Rattle.supply_write.specs.Answers.{answerOf, Puts}
 use Rattle.supply_entries.specs.Emitting.{broken, stands, put-at, standOf}
 use Rattle.supply_write.specs.declared.Answer.the-variants.{Refused, Written}

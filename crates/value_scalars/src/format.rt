@@ -1,4 +1,4 @@
-// The formats of scalars whose values are any bytes of a fixed size.
+// The formats of scalars whose values are any bytes of a fixed size (R5.15).
 ghost use Rattle.value_scalars.specs.Sizes.{Fixed};
 
 // The size of a format whose values are any bytes of that size, and 0 for each other: a time is any integer, and date_duration's

@@ -3,7 +3,8 @@ use mathlib.Core.Path.{refl}
 use native.Mathlib.Omega.{arith}
 use Prim.Native.Nat.{ℕ}
 use Rattle.plan_nodes.proofs.Nodes.{at-root}
-use Rattle.run_plan.proofs.Runs.{two, root-some, check-nothing, check-bytes, check-refused, check-listed}
+use Rattle.run_plan.proofs.Runs.{check-nothing, check-bytes, check-refused, check-listed}
+use Rattle.plan_nodes.proofs.Roots.{two, root-some}
 use borrow.Author.Needs.{needs}
 use Rattle.run_plan.proofs.check_value.Statement.{statement}
 use Rattle.run_plan.proofs.check_value.Tie as tie

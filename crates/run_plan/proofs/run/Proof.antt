@@ -3,7 +3,8 @@ use native.Mathlib.Omega.{arith}
 use Prim.Native.Nat.{ℕ}
 use lib.ListN.{length-take}
 use Rattle.plan_nodes.proofs.Memos.{filled-memo}
-use Rattle.run_plan.proofs.Runs.{few-words, early-refused, early-none, run-early, run-rest}
+use Rattle.run_plan.proofs.Runs.{early-refused, early-none, run-early, run-rest}
+use Rattle.plan_nodes.proofs.Roots.{few-words}
 use borrow.Author.Needs.{needs}
 use Rattle.run_plan.proofs.run.Statement.{statement}
 use Rattle.run_plan.proofs.run.Tie as tie

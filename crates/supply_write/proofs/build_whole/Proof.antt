@@ -1,7 +1,7 @@
 -- `supply_write::build_whole` meets its contract: by the plan's root.
 use mathlib.Core.Path.{refl, _∙_}
 use native.Mathlib.Omega.{arith}
-use Rattle.run_plan.proofs.Runs.{two}
+use Rattle.plan_nodes.proofs.Roots.{two}
 use Rattle.supply_entries.specs.Emitting.{standOf}
 use Rattle.supply_write.proofs.Writes.{whole-none, whole-root, whole-some}
 use borrow.Author.Needs.{needs}

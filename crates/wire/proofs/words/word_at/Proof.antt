@@ -1,9 +1,9 @@
--- `plan_nodes::words::word_at` meets its contract.
+-- `wire::words::word_at` meets its contract.
 use mathlib.Core.Path.{sym}
 use lib.ListN.{List·getD-eq-default}
 use borrow.Author.Needs.{needs}
-use Rattle.plan_nodes.proofs.words.word_at.Statement.{statement}
-use Rattle.plan_nodes.proofs.words.word_at.Tie as tie
+use Rattle.wire.proofs.words.word_at.Statement.{statement}
+use Rattle.wire.proofs.words.word_at.Tie as tie
 
 returns-2 : tie.Need-returns-2
 returns-2 c =

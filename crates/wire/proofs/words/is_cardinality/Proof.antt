@@ -1,9 +1,9 @@
--- `plan_nodes::words::is_cardinality` meets its contract: each return follows the tests of the definition.
+-- `wire::words::is_cardinality` meets its contract: each return follows the tests of the definition.
 use mathlib.Core.Path.{sym, ap, _∙_}
 use borrow.Author.Tests.{ne-eqb}
 use Rattle.wire.proofs.Picks.{pick-no}
-use Rattle.plan_nodes.proofs.words.is_cardinality.Statement.{statement}
-use Rattle.plan_nodes.proofs.words.is_cardinality.Tie as tie
+use Rattle.wire.proofs.words.is_cardinality.Statement.{statement}
+use Rattle.wire.proofs.words.is_cardinality.Tie as tie
 use Rattle.protocol.specs.Numbers.{pick, oneOf}
 use Rattle.protocol.specs.Messages.{isCardinality}
 

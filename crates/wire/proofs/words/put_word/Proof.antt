@@ -1,9 +1,9 @@
--- `plan_nodes::words::put_word` meets its contract: a store past the end does nothing.
+-- `wire::words::put_word` meets its contract: a store past the end does nothing.
 use mathlib.Core.Path.{sym}
 use lib.Seq.{set-out}
 use borrow.Author.Needs.{needs}
-use Rattle.plan_nodes.proofs.words.put_word.Statement.{statement}
-use Rattle.plan_nodes.proofs.words.put_word.Tie as tie
+use Rattle.wire.proofs.words.put_word.Statement.{statement}
+use Rattle.wire.proofs.words.put_word.Tie as tie
 
 returns-2 : tie.Need-returns-2
 returns-2 c = sym (set-out _ _ _ (c .if1 .left))
