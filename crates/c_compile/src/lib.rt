@@ -13,7 +13,7 @@ fn compile_by(descriptor: &[u8], root: &[u8], scratch: &mut [u32], plan: &mut [u
     match descriptor_compile::check(descriptor, root, scratch) {
         descriptor_compile::Answer::Refused { no, place } => refused(no, place),
         descriptor_compile::Answer::Words { words } => c_words::put_answer(
-            30,
+            constants::PLAN_ROOM,
             scratch,
             words,
             plan,
@@ -25,6 +25,6 @@ fn compile_by(descriptor: &[u8], root: &[u8], scratch: &mut [u32], plan: &mut [u
 pub fn compile_plan(descriptor: &[u8], root: &[u8], plan: &mut [u8]) -> Answer
     ensures { λ r. ⌜ CompilesPlan (now (descriptor .entry)) (now (root .entry)) r (now (plan .entry)) (now (plan .exit)) ⌝ }
 {
-    let mut words = [0u32; c_words::MOST];
+    let mut words = [0u32; constants::MOST_WORDS];
     compile_by(descriptor, root, &mut words, plan)
 }

@@ -10,7 +10,7 @@ ghost use Rattle.protocol.specs.Finding.{findOf};
 ghost use Rattle.protocol.specs.Crossing.{wordsIn, crosses, noPath, findFrom, findAnswer};
 
 // The most words of a plan and a path together.
-pub const BOTH: usize = 16384;
+pub const BOTH: usize = 2 * constants::MOST_WORDS;
 
 // A path that does not cross: the value's own faults come first.
 fn find_none(plan: &[u32], value: &[u8]) -> Answer
@@ -19,7 +19,7 @@ fn find_none(plan: &[u32], value: &[u8]) -> Answer
     let mut none = [0u32; 0];
     match run_plan::check(plan, value, &mut none) {
         run_plan::Answer::Refused { no, place } => refused(no, place),
-        run_plan::Answer::Listed { words: _ } => refused(35, 0),
+        run_plan::Answer::Listed { words: _ } => refused(constants::NO_ENTRY, 0),
     }
 }
 
@@ -73,7 +73,7 @@ pub fn find_lost(plan: &[u8], value: &[u8]) -> Answer
     ensures { λ r. ⌜ r ≡ findAnswer (noPath (checked (wordsIn (now (plan .entry))) (now (value .entry)))) ⌝ }
 {
     let n = plan.len() / 4;
-    let mut words = [0u32; c_words::MOST];
+    let mut words = [0u32; constants::MOST_WORDS];
     c_words::take_words(plan, &mut words);
     find_none(&words[..n], value)
 }
@@ -83,7 +83,7 @@ pub fn find_element(plan: &[u8], value: &[u8], path: &[u8]) -> Answer
     ensures { λ r. ⌜ r ≡ findAnswer (findFrom (now (plan .entry)) (now (value .entry)) (now (path .entry))) ⌝ }
 {
     if !c_words::whole_words(plan.len()) {
-        return refused(33, 0);
+        return refused(constants::BAD_PLAN, 0);
     }
     if !c_words::whole_words(path.len()) {
         return find_lost(plan, value);

@@ -15,7 +15,7 @@ fn list_many(side: u32, src: &[u8], n: usize, list: &mut [u8])
     requires { ⌜ Listable side (now src) n (now list) ⌝ }
     ensures { λ _. ⌜ now (list .exit) ≡ sets (now (list .entry)) 0 (bytesOut (messageWords (messageOf side (now (src .entry))))) ⌝ }
 {
-    let mut words = [0u32; c_words::MOST];
+    let mut words = [0u32; constants::MOST_WORDS];
     message_read::fill(side, src, &mut words);
     c_words::put_words(&words[..n], list);
 }
@@ -30,7 +30,7 @@ pub fn read_message(side: u32, src: &[u8], list: &mut [u8]) -> Answer
         message_read::Answer::Read { used, words } => {
             let n = words as usize;
             if c_words::word_room(list.len()) < n {
-                return refused(31, 0);
+                return refused(constants::LIST_ROOM, 0);
             }
             if n <= c_words::FEW {
                 c_words::put_words(&few[..n], list);
@@ -74,7 +74,7 @@ fn write_crossed(side: u32, ty: u8, list: &[u8], src: &[u8], out: &mut [u8]) -> 
         let mut words = [0u32; c_words::FEW];
         return write_by(side, ty, list, &mut words, src, out);
     }
-    let mut words = [0u32; c_words::MOST];
+    let mut words = [0u32; constants::MOST_WORDS];
     write_by(side, ty, list, &mut words, src, out)
 }
 
@@ -83,9 +83,9 @@ fn uncrossed_list(side: u32, ty: u8) -> Answer
     ensures { λ r. ⌜ r ≡ putAnswer (uncrossedList (layoutOf side ty)) ⌝ }
 {
     if message_layout::NONE <= message_layout::start_of(side, ty) {
-        return refused(3, 0);
+        return refused(constants::UNKNOWN_TYPE, 0);
     }
-    refused(6, 0)
+    refused(constants::BAD_FIELD, 0)
 }
 
 // Writes the message of a type byte whose fields hold the bytes of src that the list's pairs name.

@@ -52,14 +52,14 @@ fn number_answer(number: find_number::Number) -> Number
         find_number::Number::Integer { format, bits } => known(format, bits),
         find_number::Number::Truth(b) => {
             if b {
-                return known(9, 1);
+                return known(constants::FORMAT_BOOL, 1);
             }
-            known(9, 0)
+            known(constants::FORMAT_BOOL, 0)
         }
-        find_number::Number::Single(x) => known(6, single_bits(x) as u64),
-        find_number::Number::Double(x) => known(7, f64::to_bits(x)),
-        find_number::Number::SingleNan(bits) => known(6, bits as u64),
-        find_number::Number::DoubleNan(bits) => known(7, bits),
+        find_number::Number::Single(x) => known(constants::FORMAT_FLOAT32, single_bits(x) as u64),
+        find_number::Number::Double(x) => known(constants::FORMAT_FLOAT64, f64::to_bits(x)),
+        find_number::Number::SingleNan(bits) => known(constants::FORMAT_FLOAT32, bits as u64),
+        find_number::Number::DoubleNan(bits) => known(constants::FORMAT_FLOAT64, bits),
     }
 }
 
@@ -86,7 +86,7 @@ pub fn find_number(plan: &[u8], value: &[u8], path: &[u8]) -> Number
     ensures { λ r. ⌜ r ≡ numberAnswer (numberFrom (now (plan .entry)) (now (value .entry)) (now (path .entry))) ⌝ }
 {
     if !c_words::whole_words(plan.len()) {
-        return number_refused(33, 0);
+        return number_refused(constants::BAD_PLAN, 0);
     }
     if !c_words::whole_words(path.len()) {
         let lost = c_find::find_lost(plan, value);

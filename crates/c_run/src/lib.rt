@@ -19,7 +19,12 @@ fn run_by(plan: &[u32], value: &[u8], scratch: &mut [u32], list: &mut [u8]) -> A
 {
     match run_plan::check(plan, value, scratch) {
         run_plan::Answer::Refused { no, place } => refused(no, place),
-        run_plan::Answer::Listed { words } => c_words::put_answer(31, scratch, words, list),
+        run_plan::Answer::Listed { words } => c_words::put_answer(
+            constants::LIST_ROOM,
+            scratch,
+            words,
+            list,
+        ),
     }
 }
 
@@ -30,7 +35,7 @@ fn run_words(plan: &[u32], value: &[u8], list: &mut [u8]) -> Answer
         let mut few = [0u32; c_words::FEW];
         return run_by(plan, value, &mut few, list);
     }
-    let mut many = [0u32; c_words::MOST];
+    let mut many = [0u32; constants::MOST_WORDS];
     run_by(plan, value, &mut many, list)
 }
 
@@ -50,7 +55,7 @@ fn run_many(plan: &[u8], value: &[u8], list: &mut [u8]) -> Answer
     ensures { λ r. ⌜ RunsValue (now (plan .entry)) (now (value .entry)) r (now (list .entry)) (now (list .exit)) ⌝ }
 {
     let n = plan.len() / 4;
-    let mut words = [0u32; c_words::MOST];
+    let mut words = [0u32; constants::MOST_WORDS];
     c_words::take_words(plan, &mut words);
     run_words(&words[..n], value, list)
 }
@@ -65,5 +70,5 @@ pub fn run_value(plan: &[u8], value: &[u8], list: &mut [u8]) -> Answer
         }
         return run_many(plan, value, list);
     }
-    refused(33, 0)
+    refused(constants::BAD_PLAN, 0)
 }

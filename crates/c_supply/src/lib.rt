@@ -46,7 +46,7 @@ fn write_crossed(plan: &[u8], list: &[u8], src: &[u8], out: &mut [u8]) -> Answer
         let mut words = [0u32; c_words::FEW];
         return write_by(plan, list, &mut words, src, out);
     }
-    let mut words = [0u32; 2 * c_words::MOST];
+    let mut words = [0u32; 2 * constants::MOST_WORDS];
     write_by(plan, list, &mut words, src, out)
 }
 
@@ -56,12 +56,12 @@ fn uncrossed_list(plan: &[u8]) -> Answer
     ensures { λ r. ⌜ r ≡ putAnswer (uncrossedSupply (wordsIn (now (plan .entry)))) ⌝ }
 {
     let n = plan.len() / 4;
-    let mut words = [0u32; c_words::MOST];
+    let mut words = [0u32; constants::MOST_WORDS];
     c_words::take_words(plan, &mut words);
     if plan_check::plan_ok(&words[..n]) {
-        return refused(34, 0);
+        return refused(constants::NO_VALUE, 0);
     }
-    refused(33, 0)
+    refused(constants::BAD_PLAN, 0)
 }
 
 // Writes the value of a plan that has the supply of a list and source bytes.
@@ -74,5 +74,5 @@ pub fn write_value(plan: &[u8], list: &[u8], src: &[u8], out: &mut [u8]) -> Answ
         }
         return uncrossed_list(plan);
     }
-    refused(33, 0)
+    refused(constants::BAD_PLAN, 0)
 }

@@ -20,10 +20,7 @@ pub fn refused(number: u32, place: u32) -> Answer
     }
 }
 
-// The most words that cross.
-pub const MOST: usize = 8192;
-
-// Calls with few words do with an array of this many, which is quicker to clear than one of MOST.
+// Calls with few words do with an array of this many, which is quicker to clear than one of MOST_WORDS.
 pub const FEW: usize = 1024;
 
 // Whether n bytes are whole words, and not too many.
@@ -31,7 +28,7 @@ pub fn whole_words(n: usize) -> bool
     ensures { λ r. ⌜ r ≡ crosses n ⌝ }
 {
     if n % 4 == 0 {
-        return n <= 32768;
+        return n <= constants::ROOM;
     }
     false
 }
@@ -40,10 +37,10 @@ pub fn whole_words(n: usize) -> bool
 pub fn word_room(n: usize) -> usize
     ensures { λ r. ⌜ r ≡ wordRoom n ⌝ }
 {
-    if n <= 32768 {
+    if n <= constants::ROOM {
         return n / 4;
     }
-    MOST
+    constants::MOST_WORDS
 }
 
 // The words of the bytes, put at the start of `words`.
