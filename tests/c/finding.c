@@ -52,7 +52,7 @@ static void bad(const char *name, const char *plan, const char *value, const cha
     finding(name, plan, value, path, refused(number, place), no_number(number, place));
 }
 
-/* A set of int64 and 01's case 2 of it, {7, -1}. */
+/* A set of int64, and case 2 of docs/RULES.md, {7, -1}. */
 #define SET_PLAN "6 4 1 5 2 2"
 #define TWO                                                                                        \
     "00000001 0000000000000000 00000002 00000001 00000008 0000000000000007"                        \

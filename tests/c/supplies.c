@@ -42,7 +42,7 @@ static void bad(const char *name, const char *plan, const char *list, const char
     writing(name, plan, list, source, 0, refused(number, 0), "");
 }
 
-/* A set of int64 and 01's case 2 of it, {7, -1}. */
+/* A set of int64, and case 2 of docs/RULES.md, {7, -1}. */
 #define SET_PLAN "6 4 1 5 2 2"
 #define TWO_LIST "4 0 0 44 2  2 0 24 8 0  2 1 36 8 0"
 #define ELEMENTS "00000002 00000001 00000008 0000000000000007 00000008 ffffffffffffffff"
