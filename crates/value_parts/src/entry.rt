@@ -1,5 +1,5 @@
 // The words of a list.
-use plan_nodes::words;
+use wire::words;
 ghost use mathlib.Core.Path.{_≡_};
 ghost use Prim.Native.Nat.{_^_, _<_, _≤_};
 ghost use lib.Seq.{sets};
