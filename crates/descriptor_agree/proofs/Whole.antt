@@ -12,7 +12,7 @@ use lib.Seq.{drop-cons, take-all}
 use borrow.Author.Tests.{leb-true, leb-false, eqb-true}
 use Rattle.wire.proofs.Picks.{clash}
 use Rattle.descriptor_fields.specs.Layouts.{knownTag, indexed, valued as valuedTag}
-use Rattle.descriptor_fields.specs.Fields.{Element, idAt}
+use Rattle.descriptor_fields.specs.Fields.{Element, idAt, indexIn}
 use Rattle.descriptor_fields.specs.declared.Draft.{Draft}
 use Rattle.descriptor_blocks.specs.Blocks.{Item, Reading, stop, next, blockFrom}
 use Rattle.descriptor_blocks.specs.Descriptor.{Block as OldBlock, Blocks, faulty, whole, summary, summaries, allWords, nodeAt}
@@ -173,7 +173,7 @@ module _ (d : List ℕ) where
   valued-none i = refl
 
   root-same : (os : List OldBlock) (bs : List Block) (i : ℕ) → Pairs d (summaries os) bs → rootIn i bs ≡ pick (valuedTag (tagAt os (indexOf d os i))) (some (indexOf d os i)) none
-  unfolding rootIn tagAt indexOf summary pick
+  unfolding rootIn tagAt indexIn summary pick
   root-same [] [] i p = sym (valued-none 0)
   root-same [] (b ∷ bs) i p = absurd p
   root-same (o ∷ os) [] i p = absurd p

@@ -6,7 +6,7 @@ use mathlib.Core.List.{List, [], _∷_, _++_, map}
 use lib.Dec.{leb, ltb, eqb}
 use lib.ListN.{length, getD}
 use Rattle.descriptor_fields.specs.Layouts.{knownTag, indexed, valued}
-use Rattle.descriptor_fields.specs.Fields.{Known, noBlock, Element, idAt}
+use Rattle.descriptor_fields.specs.Fields.{Known, noBlock, Element, idAt, indexIn}
 use Rattle.descriptor_blocks.specs.Blocks.{Item, Reading, stop, next, blockFrom}
 use Rattle.descriptor_fields.specs.declared.Draft.{Draft}
 use Rattle.protocol.specs.Numbers.{pick}
@@ -143,10 +143,9 @@ pub data Description : Type 0 where
   noType : Description
   described : List Block → ℕ → Description
 
--- the index of the block with an id, counted from i, or how many there are
-unfoldable pub indexOf : List ℕ → List Block → ℕ → ℕ
-indexOf d [] i = 0
-indexOf d (b ∷ bs) i = pick (eqb (idAt d (b .start + 1)) i) 0 (indexOf d bs i + 1)
+-- the index of the block with an id, or how many there are
+abbrev pub indexOf : List ℕ → List Block → ℕ → ℕ
+indexOf d bs i = indexIn d (summaries bs) i
 
 -- the tag of the block with an index
 unfoldable pub tagAt : List Block → ℕ → ℕ

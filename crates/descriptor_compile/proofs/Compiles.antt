@@ -27,7 +27,7 @@ use Rattle.descriptor_compile.specs.declared.Answer.the-variants.{Refuse
 use Rattle.descriptor_scan.specs.declared.Scan.{Scan}
 use Rattle.descriptor_scan.specs.declared.Scan.the-variants.{Refused as Stopped, Done}
 use Rattle.descriptor_agree.proofs.Whole.{refused-by, planned-by}
-use Rattle.descriptor_nodes.proofs.Roots.{index-same, tag-same, tag-out}
+use Rattle.descriptor_nodes.proofs.Roots.{tag-same, tag-out}
 use Rattle.protocol.specs.Numbers.{pick}
 use Rattle.protocol.specs.Answers.{Outcome, refused, accepted}
 use Rattle.protocol.specs.Compiling.{wholePlan, planRoomed, compileBy, planAfter}
@@ -95,7 +95,7 @@ module _ (d : List ℕ) (i : ℕ) (s : Scan) (known l l′ : List ℕ) (g : Scan
       bs = ended .bs
 
       index-is : indexOf d bs i ≡ k
-      index-is = index-same d bs i ∙ ap (λ (ks : List Known). indexIn d ks i) (sym (ended .kept .same)) ∙ sym w
+      index-is = ap (λ (ks : List Known). indexIn d ks i) (sym (ended .kept .same)) ∙ sym w
 
       rooted-is : rooted d i (blocksOf d) ≡ pick (hasNode (knownOf d known n) k) (described bs k) (refusedBy 18 (length d))
       unfolding rooted

@@ -1,19 +1,12 @@
 -- The index of the block with an id, and the tag of the block with an index: as the blocks say and as the words that are kept of them say.
-use mathlib.Core.Path.{_≡_, refl, ap}
+use mathlib.Core.Path.{_≡_, refl}
 use mathlib.Core.List.{List, [], _∷_}
-use Prim.Native.Nat.{ℕ, zero, suc, _+_, _≤_, _<_}
+use Prim.Native.Nat.{ℕ, zero, suc, _≤_, _<_}
 use native.Mathlib.Nat.{le-of-suc-le-suc}
 use native.Mathlib.Omega.{arith}
-use lib.Dec.{eqb}
 use lib.ListN.{length, getD}
-use Rattle.descriptor_fields.specs.Fields.{noBlock, idAt, indexIn}
-use Rattle.descriptor_blocks.specs.Descriptor.{Block, summary, summaries, indexOf, tagAt}
-use Rattle.protocol.specs.Numbers.{pick}
-
-pub index-same : (d : List ℕ) (bs : List Block) (i : ℕ) → indexOf d bs i ≡ indexIn d (summaries bs) i
-unfolding indexOf indexIn summary
-index-same d [] i = refl
-index-same d (b ∷ bs) i = ap (λ (k : ℕ). pick (eqb (idAt d (b .start + 1)) i) 0 (k + 1)) (index-same d bs i)
+use Rattle.descriptor_fields.specs.Fields.{noBlock}
+use Rattle.descriptor_blocks.specs.Descriptor.{Block, summary, summaries, tagAt}
 
 pub tag-same : (bs : List Block) (k : ℕ) → k < length bs → tagAt bs k ≡ getD (summaries bs) k noBlock .tag
 unfolding tagAt summary

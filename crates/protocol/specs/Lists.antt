@@ -28,11 +28,6 @@ unfoldable pub width : Forest → ℕ
 width empty = 0
 width (tree e below next) = width next + 1
 
--- how many entries there are in all
-unfoldable pub count : Forest → ℕ
-count empty = 0
-count (tree e below next) = count below + 1 + count next
-
 -- R6.1: an entry's words
 abbrev pub entryWords : Entry → ℕ → List ℕ
 entryWords e n = e .node ∷ e .index ∷ e .start ∷ e .size ∷ n ∷ []

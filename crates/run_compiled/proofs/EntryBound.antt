@@ -8,7 +8,8 @@ use Rattle.value_laws.proofs.Bound.{Fits, value-fits}
 use Rattle.protocol.specs.Descriptors.{bareForm, DescribedType, describe}
 use Rattle.protocol.specs.OffDescriptor.{rulesBy}
 use Rattle.run_compiled.proofs.Demand3.{demand-three, refused-same}
-use Rattle.protocol.specs.Lists.{Forest, count}
+use Rattle.protocol.specs.Lists.{Forest}
+use Rattle.value_laws.specs.Counts.{entryCount}
 use Rattle.protocol.specs.Values.{ValueOutcome, valueOf}
 use Rattle.protocol.specs.Answers.{refused, accepted, Outcome as Answered, refused as turnedDown}
 use Rattle.protocol.specs.Compiling.{wholePlan}
@@ -22,7 +23,7 @@ roomed-fits n room (refused m p) h = h
 roomed-fits n room (accepted f) h = pick-case (Fits n) _ _ _ (λ _. zero-le) (λ _. h)
 
 pub run-fits : (p s : List ℕ) (room : ℕ) → Fits (length s + 4) (runOf p s room)
-unfolding runOf checked valueBy nothingIn valueOf count admitted
+unfolding runOf checked valueBy nothingIn valueOf entryCount admitted
 run-fits p s room =
     let P = Fits (length s + 4) in
     roomed-fits (length s + 4) room (checked p s)
@@ -40,5 +41,5 @@ rules-fit d root s room = go (describe bareForm d root) refl
     go (turnedDown n p) e = rw (refused-same d root n p e s room) zero-le
     go (accepted t) e = rw (demand-three d root t e s room) at (run-fits (wholePlan t) s room)
 
-pub rules-bound : (d root s : List ℕ) (room : ℕ) (f : Forest) → rulesBy bareForm d root s room ≡ accepted f → 4 * count f ≤ length s + 4
+pub rules-bound : (d root s : List ℕ) (room : ℕ) (f : Forest) → rulesBy bareForm d root s room ≡ accepted f → 4 * entryCount f ≤ length s + 4
 rules-bound d root s room f e = rw e at (rules-fit d root s room)

@@ -19,7 +19,7 @@ use Rattle.descriptor_compile.proofs.Compiles.{refused-of, planned-room}
 use Rattle.run_compiled.specs.Follows.{Few, Follows}
 use Rattle.run_compiled.proofs.Demand3.{demand-three, compiled-is}
 use Rattle.run_compiled.proofs.EntryBound.{rules-fit}
-use Rattle.protocol.specs.Lists.{count}
+use Rattle.value_laws.specs.Counts.{entryCount}
 use Rattle.protocol.specs.Values.{ValueOutcome as ListOutcome}
 use Rattle.protocol.specs.Answers.{refused as refusedList, accepted, Outcome, refused}
 use Rattle.protocol.specs.Compiling.{compileBy, planAfter}
@@ -29,7 +29,7 @@ use Rattle.protocol.specs.Running.{listAfter, runOf}
 few-of : (n : ℕ) (o : ListOutcome) → Fits (n + 4) o → Few n (run.answerOf o)
 unfolding Few run.answerOf
 few-of n (refusedList m q) h = tt
-few-of n (accepted f) h = record { entries = count f; words = words-length f; most = omega arith }
+few-of n (accepted f) h = record { entries = entryCount f; words = words-length f; most = omega arith }
 
 -- the rules read off a descriptor list few entries
 pub rules-few : (d root s : List ℕ) (room : ℕ) → Few (length s) (run.answerOf (rulesBy bareForm d root s room))
@@ -39,7 +39,7 @@ rules-few d root s room = few-of (length s) _ (rules-fit d root s room)
 pub record Written (d root : List ℕ) (w : ℕ) (p p′ : List ℕ) : Type 0 where
   pub words : List ℕ
   pub is : compileBy bareForm d root (length p) ≡ accepted words
-  pub count : w ≡ length words
+  pub entryCount : w ≡ length words
   pub room : w ≤ length p
   pub first : take w p′ ≡ words
 
@@ -59,7 +59,7 @@ module _ (d root : List ℕ) (a : Answer) (p p′ : List ℕ) (g : Gives (compil
         record {
           words = ws;
           is = i;
-          count = c;
+          entryCount = c;
           room = omega (arith, planned-room d root (length p) ws i);
           first = ap₂ take c y ∙ take-at ws (drop (length ws) p) (length ws) refl;
         }

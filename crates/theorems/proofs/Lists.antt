@@ -21,7 +21,8 @@ use Rattle.forms.specs.declared.Answer.{Answer}
 use Rattle.theorems.specs.Terms.{Words, RunNumber, IndexesApart}
 use Rattle.theorems.proofs.Accepted.{descriptor-number}
 use Rattle.protocol.specs.Constants.{ABSENT}
-use Rattle.protocol.specs.Lists.{Forest, empty, tree, words, count, Entries}
+use Rattle.protocol.specs.Lists.{Forest, empty, tree, words, Entries}
+use Rattle.value_laws.specs.Counts.{entryCount}
 use Rattle.protocol.specs.Values.{ValueOutcome}
 use Rattle.protocol.specs.Answers.{Outcome, refused, accepted}
 use Rattle.protocol.specs.Descriptors.{bareForm, DescribedType, describe}
@@ -56,8 +57,8 @@ never-33 d root s room n q e h =
 -- ---- entries
 
 -- as many as the words of a list say
-listed-entries : (n : ℕ) (f : Forest) → 4 * count f ≤ n + 4 → Entries n (length (words f))
-listed-entries n f h = record { entries = count f; words = words-length f; most = omega arith }
+listed-entries : (n : ℕ) (f : Forest) → 4 * entryCount f ≤ n + 4 → Entries n (length (words f))
+listed-entries n f h = record { entries = entryCount f; words = words-length f; most = omega arith }
 
 pub run-entries : (p s : List ℕ) (room : ℕ) (f : Forest) → runOf p s room ≡ accepted f → Entries (length s) (length (words f))
 run-entries p s room f e = listed-entries (length s) f (rw e at (run-fits p s room))

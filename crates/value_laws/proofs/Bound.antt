@@ -16,7 +16,8 @@ use Rattle.value_laws.proofs.Outcomes.{entriesOf, entries-then-le}
 use Rattle.value_laws.proofs.HeadSizes.{Spaced, sparse-spaced, row-spaced, node-opened}
 use Rattle.protocol.specs.Heads.{endOf}
 use Rattle.protocol.specs.Nodes.{Node, leaf, enum, row, arrays, tuple, object, sparse, range, refAt}
-use Rattle.protocol.specs.Lists.{Entry, Forest, count, entryOf}
+use Rattle.protocol.specs.Lists.{Entry, Forest, entryOf}
+use Rattle.value_laws.specs.Counts.{entryCount}
 use Rattle.protocol.specs.Values.{ValueOutcome, then, under, Rule, absent, present, elementOutcome, Form, containerEnd, elements, rowForm}
 use Rattle.protocol.specs.Values.{sparseForm, noMarks, leafRule, rowRule, sparseRule, byNode, value}
 use Rattle.protocol.specs.Answers.{refused, accepted}
@@ -26,17 +27,17 @@ abbrev pub Fits : ℕ → ValueOutcome → Type 0
 Fits n o = 4 * entriesOf o ≤ n
 
 under-fits : (e : Entry) (n : ℕ) (o : ValueOutcome) → Fits n o → Fits (n + 4) (under e o)
-unfolding under count
+unfolding under entryCount
 under-fits e n (refused m p) h = zero-le
 under-fits e n (accepted f) h = omega arith
 
 absent-fits : (o : Option ℕ) (i start : ℕ) → Fits 4 (absent o i start)
-unfolding absent count
+unfolding absent entryCount
 absent-fits none i start = zero-le
 absent-fits (some k) i start = omega arith
 
 leaf-fits : (good : Bool) (k i base : ℕ) (s : List ℕ) → Fits (length s + 4) (leafRule good k i base s)
-unfolding leafRule count
+unfolding leafRule entryCount
 leaf-fits good k i base s = pick-case (Fits (length s + 4)) good _ _ (λ _. omega arith) (λ _. zero-le)
 
 module _ (rule : Rule) (small : (k i base : ℕ) (s : List ℕ) → Fits (length s + 4) (rule k i base s)) where
@@ -60,7 +61,7 @@ module _ (rule : Rule) (small : (k i base : ℕ) (s : List ℕ) → Fits (length
 
     module _ {S : Type 0} (form : Form S) (spaced : (st : S) (at : ℕ) → Spaced (length s) at (form .head st at)) where
       pub elements-fit : (n : ℕ) (st : S) (at : ℕ) → at ≤ length s → 4 * entriesOf (elements form rule ref base s n st at) + at ≤ length s
-      unfolding elements containerEnd count
+      unfolding elements containerEnd entryCount
       elements-fit zero st at le =
           let P : ValueOutcome → Type 0 = λ o. 4 * entriesOf o + at ≤ length s in
           pick-case P _ _ _ (λ _. pick-case P _ _ _ (λ _. omega arith) (λ _. omega arith)) (λ _. omega arith)
@@ -97,5 +98,5 @@ unfolding value
 value-fits look zero k i base s = zero-le
 value-fits look (suc f) k i base s = byNode-fits (value look f) (value-fits look f) k i base s (look k)
 
-pub entries-bound : (look : ℕ → Node) (f k i base : ℕ) (s : List ℕ) (g : Forest) → value look f k i base s ≡ accepted g → 4 * count g ≤ length s + 4
+pub entries-bound : (look : ℕ → Node) (f k i base : ℕ) (s : List ℕ) (g : Forest) → value look f k i base s ≡ accepted g → 4 * entryCount g ≤ length s + 4
 entries-bound look f k i base s g e = rw e at (value-fits look f k i base s)

@@ -4,7 +4,8 @@ use mathlib.Core.List.{_++_, append-assoc as list-assoc}
 use Prim.Native.Nat.{_+_, _*_}
 use native.Mathlib.Omega.{arith}
 use lib.ListN.{length, length-append}
-use Rattle.protocol.specs.Lists.{Forest, empty, tree, append, width, count, words}
+use Rattle.protocol.specs.Lists.{Forest, empty, tree, append, width, words}
+use Rattle.value_laws.specs.Counts.{entryCount}
 
 pub words-append : (f g : Forest) → words (append f g) ≡ words f ++ words g
 unfolding words append
@@ -16,14 +17,14 @@ unfolding width append
 width-append empty g = omega arith
 width-append (tree e below next) g = omega (arith, width-append next g)
 
-pub count-append : (f g : Forest) → count (append f g) ≡ count f + count g
-unfolding count append
+pub count-append : (f g : Forest) → entryCount (append f g) ≡ entryCount f + entryCount g
+unfolding entryCount append
 count-append empty g = omega arith
 count-append (tree e below next) g = omega (arith, count-append next g)
 
 -- five words an entry
-pub words-length : (f : Forest) → length (words f) ≡ 5 * count f
-unfolding words count
+pub words-length : (f : Forest) → length (words f) ≡ 5 * entryCount f
+unfolding words entryCount
 words-length empty = refl
 words-length (tree e below next) = simp length-append (omega (arith, words-length below, words-length next))
 

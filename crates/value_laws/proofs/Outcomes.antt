@@ -4,7 +4,8 @@ use mathlib.Core.List.{List, [], _++_, append-nil}
 use Prim.Native.Nat.{ℕ, _+_, _≤_, zero-le}
 use native.Mathlib.Omega.{arith}
 use Rattle.value_laws.proofs.Forests.{words-append, width-append, count-append, append-empty, append-assoc}
-use Rattle.protocol.specs.Lists.{Entry, Forest, empty, append, width, count, words, entryWords}
+use Rattle.protocol.specs.Lists.{Entry, Forest, empty, append, width, words, entryWords}
+use Rattle.value_laws.specs.Counts.{entryCount}
 use Rattle.protocol.specs.Values.{ValueOutcome, then, under}
 use Rattle.protocol.specs.Answers.{refused, accepted}
 
@@ -34,7 +35,7 @@ wordsOf (accepted f) = words f
 -- how many entries there are in all
 abbrev pub entriesOf : ValueOutcome → ℕ
 entriesOf (refused n p) = 0
-entriesOf (accepted f) = count f
+entriesOf (accepted f) = entryCount f
 
 -- how many trees stand side by side
 abbrev pub widthOf : ValueOutcome → ℕ
@@ -92,7 +93,7 @@ module _ (e : Entry) where
   words-under (accepted f) h = rw append-nil
 
   pub entries-under : (o : ValueOutcome) → Accepted (under e o) → entriesOf (under e o) ≡ entriesOf o + 1
-  unfolding under count
+  unfolding under entryCount
   entries-under (refused n p) h = absurd h
   entries-under (accepted f) h = omega arith
 
