@@ -1,6 +1,6 @@
 -- What this library promises, on one page, in the order of the rules, R1 to R9. It must be believed together with crates/protocol, whose
--- definitions it cites; of other crates it cites two contracts of inner calls, find_number/specs/Number and run_compiled/specs/Follows. Each
--- promise is a type with a name, and proofs/Theorems proves it.
+-- definitions it cites. Of other crates it cites two contracts of inner calls: find_number/specs/Number (`Gives`), and run_compiled/specs/Follows
+-- with run_plan/specs/Run. Each promise is a type with a name, and proofs/Theorems proves it.
 use mathlib.Core.Path.{_≡_}
 use mathlib.Core.Bool.{true, false}
 use mathlib.Core.List.{List, [], _++_, map}
@@ -77,20 +77,20 @@ WrittenThenRead =
 
 -- ---- R3: descriptors
 
--- A descriptor is accepted exactly when its size, root id and blocks are so; or, as "no type", with no bytes and an id of zero (R3.14, R3.17).
+-- A descriptor is accepted exactly when its size, root id and blocks are so; or, as "no type", with no bytes and an id of zero (R3.1 to R3.17).
 abbrev pub DescriptorAccepted : Type 0
 DescriptorAccepted =
     ((d root : List ℕ) (bs : List Block) (i : ℕ) → (describe bareForm d root ≡ accepted (block-type bs i)) ↔ TypedDescriptor d root bs i)
     × ((d root : List ℕ) → (describe bareForm d root ≡ accepted no-type) ↔ ((d ≡ []) × (length root ≡ 16) × (be root ≡ 0)))
 
--- Else it is refused with a number from 10 to 18, at a place in it or at its end (R1.3).
+-- Else it is refused with a number from 10 to 18, at a place in it or at its end (R1.3, R1.12).
 abbrev pub DescriptorNumbers : Type 0
 DescriptorNumbers = (d root : List ℕ) (n p : ℕ) → describe bareForm d root ≡ refused n p → (10 ≤ n) × (n ≤ 18) × (p ≤ length d)
 
 -- ---- R4: plans, and the rules read off a descriptor
 
 -- A plan is given exactly when the descriptor is accepted and its whole plan fits the room; 30 exactly when it does not fit; what is not accepted
--- has its own number and place (R1.8, R4.7, R4.9).
+-- has its own number and place (R1.8, R4.1, R4.6 to R4.9).
 abbrev pub PlanGiven : Type 0
 PlanGiven =
     (d root : List ℕ) (room : ℕ)
