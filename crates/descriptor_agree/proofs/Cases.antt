@@ -9,7 +9,7 @@ use Rattle.protocol.specs.Descriptors.{newName, newId, refersTo, reference, any
 use Rattle.protocol.specs.Descriptors.{formatGiven, formatFrom, scalarWith, tupleElement, inputElement, recordElement, annotationBlock}
 use Rattle.protocol.specs.Descriptors.{fieldsOf, indexedBlock, tagged, block, withBlock, afterBlock, readBlocks, allBlocks, rootIn}
 use Rattle.protocol.specs.Descriptors.{rootedAt, rootedBlocks, describe}
-use Rattle.protocol.specs.Numbers.{pick, be, beFrom, atLeast, any, sameBytes, oneOf}
+use Rattle.protocol.specs.Numbers.{pick, be, beFrom, atLeast, any, sameBytes}
 use Rattle.protocol.specs.Text.{wellFormed, goesOn, following, utf8Table, within}
 use Rattle.protocol.specs.Messages.{isCardinality}
 use Rattle.protocol.specs.Nodes.{rename}
@@ -431,5 +431,5 @@ unfolding bare-cases pick be beFrom wellFormed goesOn following utf8Table within
     boolField operation cardinalOf outputFlags inputFlags dimensions unbound itemCount itemRun counted newName newId refersTo reference
     anyBlock objectReference element outputElement schema formatGiven formatFrom scalarWith tupleElement inputElement recordElement
     annotationBlock fieldsOf indexedBlock tagged block withBlock afterBlock readBlocks allBlocks rootIn rootedAt rootedBlocks describe
-    blockNode refCards nodeAsWords blockWords wordsBy nodePosition wholePlan planRoomed compileBy oneOf
+    blockNode refCards nodeAsWords blockWords wordsBy nodePosition wholePlan planRoomed compileBy
 bare-right = refl

@@ -16,7 +16,7 @@ use Rattle.descriptor_fields.specs.Fields.{Element, idAt, indexIn}
 use Rattle.descriptor_fields.specs.declared.Draft.{Draft}
 use Rattle.descriptor_blocks.specs.Blocks.{Item, Reading, stop, next, blockFrom}
 use Rattle.descriptor_blocks.specs.Descriptor.{Block as OldBlock, Blocks, faulty, whole, summary, summaries, allWords, nodeAt}
-use Rattle.descriptor_blocks.specs.Descriptor.{nodeOf as oldNode, wordsOf as oldWordsOf, nodeWords as oldWords, blockOf, extended, full}
+use Rattle.descriptor_blocks.specs.Descriptor.{nodeOf as oldNode, wordsOf as oldWordsOf, blockOf, extended, full}
 use Rattle.descriptor_blocks.specs.Descriptor.{onward as oldOnward, blocksFrom as oldFrom, blocksOf as oldBlocks}
 use Rattle.descriptor_blocks.specs.Descriptor.{Description as OldDescription, refusedBy, noType, described as oldDescribed, indexOf, tagAt}
 use Rattle.descriptor_blocks.specs.Descriptor.{rooted as oldRooted, descriptionOf, planWords as oldPlan, Compiled, refusedPlan, plan}
@@ -28,11 +28,11 @@ use Rattle.descriptor_agree.proofs.Agree.{Agree}
 use Rattle.descriptor_agree.proofs.Fields.{Pairs, pairs-length, valued-fit}
 use Rattle.descriptor_agree.proofs.Contents.{Below}
 use Rattle.descriptor_agree.proofs.Block.{Twin, tags, block-agrees, note-agrees, tag-known}
-use Rattle.descriptor_agree.proofs.Words.{words-same, Twins, twins-more, end-at}
+use Rattle.descriptor_agree.proofs.Words.{Twins, twins-more, end-at}
 use Rattle.protocol.specs.Numbers.{pick, be, any}
 use Rattle.protocol.specs.Nodes.{Node, rename}
 use Rattle.protocol.specs.Answers.{Outcome, refused, accepted}
-use Rattle.protocol.specs.Compiling.{blockNode, blockWords, wordsBy, nodePosition, wholePlan, planRoomed, compileBy}
+use Rattle.protocol.specs.Compiling.{blockNode, blockWords, wordsBy, nodePosition, wholePlan, planRoomed, compileBy, nodeAsWords}
 
 -- ---- the blocks
 
@@ -55,9 +55,9 @@ module _ (d : List ℕ) where
   after-both R at bs (next x es is) (parsed o s) k j e f = rw (e .0) (f x es is o (e .1) (e .2))
 
   words-by : (t : Bool) (os : List OldBlock) (bs : List Block) (kind : BlockKind) (n : Node) → blockNode bs kind ≡ pick t (some n) none
-      → pick t (oldWords (rename (nodeAt (summaries os)) n)) [] ≡ blockWords (nodeAt (summaries os)) (blockNode bs kind)
+      → pick t (nodeAsWords (rename (nodeAt (summaries os)) n)) [] ≡ blockWords (nodeAt (summaries os)) (blockNode bs kind)
   unfolding blockWords pick
-  words-by true os bs kind n e = rw e (words-same (rename (nodeAt (summaries os)) n))
+  words-by true os bs kind n e = rw e
   words-by false os bs kind n e = rw e
 
   -- one more block

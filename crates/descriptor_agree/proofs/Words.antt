@@ -12,7 +12,7 @@ use lib.ListN.{length, take, getD, length-append, length-map, List·getD-append}
 use lib.Seq.{take-append-le, take-length, getD-at}
 use Rattle.descriptor_fields.specs.Layouts.{valued as valuedTag}
 use Rattle.descriptor_fields.specs.Fields.{Known, noBlock}
-use Rattle.descriptor_blocks.specs.Descriptor.{Block as OldBlock, summary, summaries, allWords, nodeWords as oldWords, nodeAt, pairs as oldPairs}
+use Rattle.descriptor_blocks.specs.Descriptor.{Block as OldBlock, summary, summaries, allWords, nodeAt}
 use Rattle.protocol.specs.Descriptors.{Block, BlockKind, set-of, output-shape, scalar-of, tuple-of, named-tuple, array-of, enum-of}
 use Rattle.protocol.specs.Descriptors.{input-shape, range-of, object-type, compound-type, sql-record, types, OutputElement, InputElement}
 use Rattle.protocol.specs.Descriptors.{NamedElement}
@@ -24,23 +24,6 @@ use Rattle.protocol.specs.Nodes.{Node, leaf, enum, row, arrays, tuple, object, 
 use Rattle.protocol.specs.Compiling.{blockNode, refCards, nodeAsWords, blockWords, wordsBy, nodePosition}
 
 -- ---- the words of a node
-
-pairs-same : (rs cs : List ℕ) → oldPairs rs cs ≡ refCards rs cs
-unfolding oldPairs refCards
-pairs-same [] cs = refl
-pairs-same (r ∷ rs) [] = refl
-pairs-same (r ∷ rs) (c ∷ cs) = ap (λ (l : List ℕ). r ∷ c ∷ l) (pairs-same rs cs)
-
-pub words-same : (n : Node) → oldWords n ≡ nodeAsWords n
-unfolding oldWords nodeAsWords
-words-same (leaf f) = refl
-words-same enum = refl
-words-same (row r) = refl
-words-same (arrays r) = refl
-words-same (tuple rs) = refl
-words-same (object rs cs) = ap (λ (l : List ℕ). 5 ∷ length rs ∷ l) (pairs-same rs cs)
-words-same (sparse rs cs) = ap (λ (l : List ℕ). 6 ∷ length rs ∷ l) (pairs-same rs cs)
-words-same (range r) = refl
 
 -- their number does not depend on where references lead
 module _ (ρ σ : ℕ → ℕ) where

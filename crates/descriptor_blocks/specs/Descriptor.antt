@@ -11,6 +11,7 @@ use Rattle.descriptor_blocks.specs.Blocks.{Item, Reading, stop, next, bl
 use Rattle.descriptor_fields.specs.declared.Draft.{Draft}
 use Rattle.protocol.specs.Numbers.{pick}
 use Rattle.protocol.specs.Nodes.{Node, leaf, enum, row, arrays, tuple, object, sparse, range, rename}
+use Rattle.protocol.specs.Compiling.{nodeAsWords}
 
 -- ---- the node of a block
 
@@ -35,30 +36,13 @@ nodeOf known tag format es =
     (pick (eqb tag 7) enum
     (pick (eqb tag 8) (sparse (refs es) (cards es)) (pick (eqb tag 9) (range (onlyRef es)) (tuple (refs es))))))))
 
--- references and cardinalities in turn
-unfoldable pub pairs : List ℕ → List ℕ → List ℕ
-pairs [] cs = []
-pairs (r ∷ rs) [] = []
-pairs (r ∷ rs) (c ∷ cs) = r ∷ c ∷ pairs rs cs
-
--- a node as words (R4.2)
-unfoldable pub nodeWords : Node → List ℕ
-nodeWords (leaf f) = 1 ∷ f ∷ []
-nodeWords enum = 8 ∷ []
-nodeWords (row r) = 2 ∷ r ∷ []
-nodeWords (arrays r) = 3 ∷ r ∷ []
-nodeWords (tuple rs) = 4 ∷ length rs ∷ rs
-nodeWords (object rs cs) = 5 ∷ length rs ∷ pairs rs cs
-nodeWords (sparse rs cs) = 6 ∷ length rs ∷ pairs rs cs
-nodeWords (range r) = 7 ∷ r ∷ []
-
 -- the word of the plan at which a block's node starts
 unfoldable pub nodeAt : List Known → ℕ → ℕ
 nodeAt known r = getD known r noBlock .node
 
 -- the words of a block's node, if it has values
 unfoldable pub wordsOf : List Known → ℕ → ℕ → List Element → List ℕ
-wordsOf known tag format es = pick (valued tag) (nodeWords (rename (nodeAt known) (nodeOf known tag format es))) []
+wordsOf known tag format es = pick (valued tag) (nodeAsWords (rename (nodeAt known) (nodeOf known tag format es))) []
 
 -- ---- the blocks
 

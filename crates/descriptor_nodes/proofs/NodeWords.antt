@@ -14,7 +14,7 @@ use Rattle.wire.proofs.Picks.{pick-yes, pick-no}
 use Rattle.wire.proofs.Stores.{sets-append}
 use Rattle.descriptor_fields.specs.Layouts.{valued}
 use Rattle.descriptor_fields.specs.Fields.{Known, noBlock, Element}
-use Rattle.descriptor_blocks.specs.Descriptor.{refs, cards, onlyRef, nodeOf, pairs, nodeWords, nodeAt, wordsOf}
+use Rattle.descriptor_blocks.specs.Descriptor.{refs, cards, onlyRef, nodeOf, nodeAt, wordsOf}
 use Rattle.descriptor_fields.specs.Arrays.{tab, knownAt, knownOf, elementAt, elementsOf}
 use Rattle.descriptor_fields.proofs.Tabs.{tab-length, tab-get}
 use Rattle.descriptor_fields.proofs.Known.{known-get, known-beyond}
@@ -22,10 +22,11 @@ use Rattle.descriptor_blocks.proofs.Elements.{noElement}
 use Rattle.descriptor_nodes.specs.Nodes.{Puts, singleKind, singleWords, manyWords}
 use Rattle.protocol.specs.Numbers.{pick}
 use Rattle.protocol.specs.Nodes.{row, arrays, tuple, object, sparse, rename}
+use Rattle.protocol.specs.Compiling.{refCards, nodeAsWords}
 
 -- pairs, one by one
-pub pairs-length : (rs cs : List ℕ) → length cs ≡ length rs → length (pairs rs cs) ≡ 2 * length rs
-unfolding pairs
+pub pairs-length : (rs cs : List ℕ) → length cs ≡ length rs → length (refCards rs cs) ≡ 2 * length rs
+unfolding refCards
 pairs-length [] cs e = refl
 pairs-length (r ∷ rs) [] e = absurd (omega arith)
 pairs-length (r ∷ rs) (c ∷ cs) e = omega (arith, pairs-length rs cs (omega arith))
@@ -42,8 +43,8 @@ module _ {A B : Type 0} (f : A → B) (g : ℕ → A) where
   map-tab zero = refl
   map-tab (suc n) = map-append f (tab g n) (g n ∷ []) ∙ ap (λ (l : List B). l ++ (f (g n) ∷ [])) (map-tab n)
 
-pairs-snoc : (rs cs : List ℕ) (r c : ℕ) → length cs ≡ length rs → pairs (rs ++ (r ∷ [])) (cs ++ (c ∷ [])) ≡ pairs rs cs ++ (r ∷ c ∷ [])
-unfolding pairs
+pairs-snoc : (rs cs : List ℕ) (r c : ℕ) → length cs ≡ length rs → refCards (rs ++ (r ∷ [])) (cs ++ (c ∷ [])) ≡ refCards rs cs ++ (r ∷ c ∷ [])
+unfolding refCards
 pairs-snoc [] [] r c e = refl
 pairs-snoc [] (x ∷ cs) r c e = absurd (omega arith)
 pairs-snoc (y ∷ rs) [] r c e = absurd (omega arith)
@@ -54,7 +55,7 @@ module _ (f : ℕ → ℕ) (a : List ℕ) where
   refsTo k = map f (refs (elementsOf a k))
 
   abbrev pub pairsTo : ℕ → List ℕ
-  pairsTo k = pairs (map f (refs (elementsOf a k))) (cards (elementsOf a k))
+  pairsTo k = refCards (map f (refs (elementsOf a k))) (cards (elementsOf a k))
 
   refs-tab : (k : ℕ) → refsTo k ≡ tab (λ i. f (getD a (3 * i + 1) 0)) k
   unfolding elementAt
@@ -89,7 +90,7 @@ module _ (f : ℕ → ℕ) (a : List ℕ) where
 
   pairs-next : (k : ℕ) → pairsTo (k + 1) ≡ pairsTo k ++ (f (getD a (3 * k + 1) 0) ∷ getD a (3 * k + 2) 0 ∷ [])
   pairs-next k =
-      ap₂ pairs (refs-next k) (cards-next k)
+      ap₂ refCards (refs-next k) (cards-next k)
       ∙ pairs-snoc (refsTo k) (cards (elementsOf a k)) (f (getD a (3 * k + 1) 0)) (getD a (3 * k + 2) 0) (cards-length k ∙ sym (refs-length k))
 
   module _ (l l₁ l₂ : List ℕ) (to k r : ℕ) (e : r ≡ f (getD a (3 * k + 1) 0)) where
@@ -196,18 +197,18 @@ module _ (known : List Known) (tag : ℕ) where
 
   module _ (format : ℕ) (es : List Element) where
     words-leaf : tag ≡ 3 → wordsOf known tag format es ≡ 1 ∷ format ∷ []
-    unfolding wordsOf valued nodeOf rename nodeWords pick
+    unfolding wordsOf valued nodeOf rename nodeAsWords pick
     words-leaf e = rw e
 
     words-enum : tag ≡ 7 → wordsOf known tag format es ≡ 8 ∷ []
-    unfolding wordsOf valued nodeOf rename nodeWords pick
+    unfolding wordsOf valued nodeOf rename nodeAsWords pick
     words-enum e = rw e
 
     words-single : (tag ≡ 0) ⊎ ((tag ≡ 6) ⊎ (tag ≡ 9)) → wordsOf known tag format es ≡ singleWords known tag (onlyRef es)
-    unfolding wordsOf valued nodeOf rename nodeWords singleKind singleWords pick
+    unfolding wordsOf valued nodeOf rename nodeAsWords singleKind singleWords pick
     words-single (inl e) = rw e (go (eqb (getD known (onlyRef es) noBlock .tag) 6))
       where
-        go : (t : Bool) → nodeWords (rename (nodeAt known) (pick t (arrays (onlyRef es)) (row (onlyRef es)))) ≡ pick t 3 2 ∷ nodeAt known (onlyRef es) ∷ []
+        go : (t : Bool) → nodeAsWords (rename (nodeAt known) (pick t (arrays (onlyRef es)) (row (onlyRef es)))) ≡ pick t 3 2 ∷ nodeAt known (onlyRef es) ∷ []
         go true = refl
         go false = refl
     words-single (inr (inl e)) = rw e
@@ -216,7 +217,7 @@ module _ (known : List Known) (tag : ℕ) where
     -- an object or a tuple
     words-many : valued tag ≡ true → (tag ≡ 3 → ⊥) → (tag ≡ 7 → ⊥) → ((tag ≡ 0) ⊎ ((tag ≡ 6) ⊎ (tag ≡ 9)) → ⊥)
         → wordsOf known tag format es ≡ manyWords known tag es
-    unfolding wordsOf nodeOf rename nodeWords manyWords pick
+    unfolding wordsOf nodeOf rename nodeAsWords manyWords pick
     words-many v n3 n7 single =
         rw (
           v,
@@ -235,10 +236,10 @@ module _ (known : List Known) (tag : ℕ) where
         count = length-map (refs es) (nodeAt known) ∙ length-map es (λ (e : Element). e .ref)
 
         go : (s t : Bool)
-            → nodeWords (rename (nodeAt known) (pick s (object (refs es) (cards es)) (pick t (sparse (refs es) (cards es)) (tuple (refs es)))))
-            ≡ pick s (5 ∷ length es ∷ pairs rs (cards es)) (pick t (6 ∷ length es ∷ pairs rs (cards es)) (4 ∷ length es ∷ rs))
-        go true t = ap (λ (n : ℕ). 5 ∷ n ∷ pairs rs (cards es)) count
-        go false true = ap (λ (n : ℕ). 6 ∷ n ∷ pairs rs (cards es)) count
+            → nodeAsWords (rename (nodeAt known) (pick s (object (refs es) (cards es)) (pick t (sparse (refs es) (cards es)) (tuple (refs es)))))
+            ≡ pick s (5 ∷ length es ∷ refCards rs (cards es)) (pick t (6 ∷ length es ∷ refCards rs (cards es)) (4 ∷ length es ∷ rs))
+        go true t = ap (λ (n : ℕ). 5 ∷ n ∷ refCards rs (cards es)) count
+        go false true = ap (λ (n : ℕ). 6 ∷ n ∷ refCards rs (cards es)) count
         go false false = ap (λ (n : ℕ). 4 ∷ n ∷ rs) count
 
     -- what each arm puts out

@@ -6,8 +6,9 @@ use lib.Dec.{eqb}
 use lib.ListN.{length, getD}
 use lib.Seq.{sets}
 use Rattle.descriptor_fields.specs.Fields.{Known, noBlock, Element}
-use Rattle.descriptor_blocks.specs.Descriptor.{refs, cards, pairs, nodeAt}
+use Rattle.descriptor_blocks.specs.Descriptor.{refs, cards, nodeAt}
 use Rattle.protocol.specs.Numbers.{pick}
+use Rattle.protocol.specs.Compiling.{refCards}
 
 -- words put out from a place on, as far as the list has room, and the place after them
 pub record Puts (ws : List ℕ) (to r : ℕ) (l l′ : List ℕ) : Type 0 where
@@ -25,5 +26,5 @@ singleWords known tag r = singleKind known tag r ∷ nodeAt known r ∷ []
 -- an object or a tuple
 unfoldable pub manyWords : List Known → ℕ → List Element → List ℕ
 manyWords known tag es =
-    pick (eqb tag 1) (5 ∷ length es ∷ pairs (map (nodeAt known) (refs es)) (cards es))
-    (pick (eqb tag 8) (6 ∷ length es ∷ pairs (map (nodeAt known) (refs es)) (cards es)) (4 ∷ length es ∷ map (nodeAt known) (refs es)))
+    pick (eqb tag 1) (5 ∷ length es ∷ refCards (map (nodeAt known) (refs es)) (cards es))
+    (pick (eqb tag 8) (6 ∷ length es ∷ refCards (map (nodeAt known) (refs es)) (cards es)) (4 ∷ length es ∷ map (nodeAt known) (refs es)))

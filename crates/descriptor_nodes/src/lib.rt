@@ -9,9 +9,10 @@ ghost use Prim.Native.Nat.{_≤_};
 ghost use lib.ListN.{getD};
 ghost use lib.Seq.{sets};
 ghost use Rattle.descriptor_fields.specs.Fields.{noBlock};
-ghost use Rattle.descriptor_blocks.specs.Descriptor.{refs, cards, onlyRef, pairs, nodeAt, wordsOf};
+ghost use Rattle.descriptor_blocks.specs.Descriptor.{refs, cards, onlyRef, nodeAt, wordsOf};
 ghost use Rattle.descriptor_fields.specs.Arrays.{Told, Roomy, knownOf, elementsOf};
 ghost use Rattle.descriptor_nodes.specs.Nodes.{Puts, singleKind, singleWords, manyWords};
+ghost use Rattle.protocol.specs.Compiling.{refCards};
 
 // The word at which an earlier block's node starts; 0 of a block that is not there.
 pub fn node_at(d: &[u8], known: &[u32], n: usize, r: u32) -> u32
@@ -90,7 +91,7 @@ fn put_pairs(
     requires { ⌜ (Told (now d) (now known) n) × (Roomy (now elements) count) × (to ≤ 4194304) ⌝ }
     ensures { λ _. ⌜ now (plan .exit)
         ≡ sets (now (plan .entry)) to
-        (pairs (map (nodeAt (knownOf (now (d .entry)) (now (known .entry)) n)) (refs (elementsOf (now (elements .entry)) count))) (cards (elementsOf (now (elements .entry)) count))) ⌝ }
+        (refCards (map (nodeAt (knownOf (now (d .entry)) (now (known .entry)) n)) (refs (elementsOf (now (elements .entry)) count))) (cards (elementsOf (now (elements .entry)) count))) ⌝ }
 {
     let mut k: usize = 0;
     while k < count {

@@ -15,7 +15,7 @@ use Rattle.wire.proofs.Picks.{pick-yes, pick-no, pick-split, pick-case}
 use Rattle.descriptor_fields.specs.Layouts.{knownTag, indexed, valued}
 use Rattle.descriptor_fields.specs.Fields.{Known, noBlock, Element}
 use Rattle.descriptor_blocks.specs.Blocks.{Item, Reading, stop, next, blockFrom}
-use Rattle.descriptor_blocks.specs.Descriptor.{refs, cards, onlyRef, nodeOf, pairs, nodeWords, nodeAt, Block, summary, summaries, allWords}
+use Rattle.descriptor_blocks.specs.Descriptor.{refs, cards, onlyRef, nodeOf, nodeAt, Block, summary, summaries, allWords}
 use Rattle.descriptor_blocks.specs.Descriptor.{wordsOf, blockOf, faulty, extended, full, onward, blocksFrom, blocksOf}
 use Rattle.descriptor_fields.specs.Arrays.{tab, Told, knownOf, knownAt, elementAt, elementsOf}
 use Rattle.descriptor_blocks.specs.Walks.{stopped, moved, led, walkOf, Inside}
@@ -34,6 +34,7 @@ use Rattle.descriptor_scan.specs.Scan.{faultOf, tagFault, Kept, Adds, Sc
 use Rattle.descriptor_scan.specs.declared.Scan.the-variants.{Refused, Done}
 use Rattle.protocol.specs.Numbers.{pick}
 use Rattle.protocol.specs.Nodes.{Node, leaf, enum, row, arrays, tuple, object, sparse, range, rename}
+use Rattle.protocol.specs.Compiling.{refCards, nodeAsWords}
 
 -- ---- what a part says of the reading
 
@@ -76,44 +77,44 @@ summaries-snoc (c ∷ bs) b = rw (summaries-snoc bs b)
 
 module _ (ρ : ℕ → ℕ) (es : List Element) where
   abbrev Few : Node → Type 0
-  Few v = length (nodeWords (rename ρ v)) ≤ 2 + 2 * length es
+  Few v = length (nodeAsWords (rename ρ v)) ≤ 2 + 2 * length es
 
   few-row : (r : ℕ) → Few (row r)
-  unfolding rename nodeWords
+  unfolding rename nodeAsWords
   few-row r = omega arith
 
   few-arrays : (r : ℕ) → Few (arrays r)
-  unfolding rename nodeWords
+  unfolding rename nodeAsWords
   few-arrays r = omega arith
 
   few-range : (r : ℕ) → Few (range r)
-  unfolding rename nodeWords
+  unfolding rename nodeAsWords
   few-range r = omega arith
 
   few-leaf : (f : ℕ) → Few (leaf f)
-  unfolding rename nodeWords
+  unfolding rename nodeAsWords
   few-leaf f = omega arith
 
   few-enum : Few enum
-  unfolding rename nodeWords
+  unfolding rename nodeAsWords
   few-enum = omega arith
 
   refs-many : length (map ρ (refs es)) ≡ length es
   refs-many = length-map (refs es) ρ ∙ length-map es (λ (e : Element). e .ref)
 
-  pairs-many : length (pairs (map ρ (refs es)) (cards es)) ≡ 2 * length (map ρ (refs es))
+  pairs-many : length (refCards (map ρ (refs es)) (cards es)) ≡ 2 * length (map ρ (refs es))
   pairs-many = pairs-length (map ρ (refs es)) (cards es) (length-map es (λ (e : Element). e .card) ∙ sym refs-many)
 
   few-tuple : Few (tuple (refs es))
-  unfolding rename nodeWords
+  unfolding rename nodeAsWords
   few-tuple = omega (arith, refs-many)
 
   few-object : Few (object (refs es) (cards es))
-  unfolding rename nodeWords
+  unfolding rename nodeAsWords
   few-object = omega (arith, refs-many, pairs-many)
 
   few-sparse : Few (sparse (refs es) (cards es))
-  unfolding rename nodeWords
+  unfolding rename nodeAsWords
   few-sparse = omega (arith, refs-many, pairs-many)
 
 words-most : (known : List Known) (tag f : ℕ) (es : List Element) → length (wordsOf known tag f es) ≤ 2 + 2 * length es

@@ -14,7 +14,7 @@ use borrow.Author.Tests.{eq-eqb, leb-true, lt-ltb, ltb-true, ne-eqb}
 use Rattle.wire.proofs.Tables.{each-below, where-below}
 use Rattle.message_layout.specs.Tables.{values, allowedOf, fieldOf, valuesOf, widthOf, widths, firsts, WidthOf, PartOf}
 use Rattle.message_layout.specs.declared.Part.{Part}
-use Rattle.protocol.specs.Numbers.{be, pick, oneOf}
+use Rattle.protocol.specs.Numbers.{be, pick, oneOf, any}
 use Rattle.protocol.specs.Messages.{number, text, bytes, permits}
 
 module _ (i to : ℕ) (h : i < to) (k : to ≤ 16) where
@@ -27,11 +27,11 @@ module _ (i to : ℕ) (h : i < to) (k : to ≤ 16) where
   permits-some v = rw first
 
   pub member-here : (v : ℕ) → getD values i 0 ≡ v → oneOf v (allowedOf i to) ≡ true
-  unfolding oneOf pick
+  unfolding any pick
   member-here v e = rw (first, eq-eqb v (getD values i 0) (sym e))
 
   pub member-next : (v : ℕ) → (getD values i 0 ≡ v → ⊥) → oneOf v (allowedOf i to) ≡ oneOf v (allowedOf (i + 1) to)
-  unfolding oneOf pick
+  unfolding any pick
   member-next v n = rw (add-one, first, ne-eqb v (getD values i 0) (λ e. n (sym e)))
 
 pub none : (to : ℕ) → allowedOf to to ≡ []
@@ -40,7 +40,7 @@ none to = slice-empty to values
 
 -- no value is left, and none was v
 pub permits-end : (from to i v : ℕ) → from ≤ to → to ≤ 16 → i ≡ to → oneOf v (allowedOf from to) ≡ oneOf v (allowedOf i to) → eqb from to ≡ permits (allowedOf from to) v
-unfolding permits oneOf
+unfolding permits any
 permits-end from to i v h k e m =
     ⊎-elim
     (λ f. subst (λ (x : ℕ). eqb from to ≡ permits (allowedOf x to) v) (sym f) (rw (none to) (eq-eqb from to f)))

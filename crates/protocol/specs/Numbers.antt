@@ -31,9 +31,8 @@ any f [] = false
 any f (x ∷ xs) = pick (f x) true (any f xs)
 
 -- v is one of the list
-unfoldable pub oneOf : ℕ → List ℕ → Bool
-oneOf v [] = false
-oneOf v (x ∷ xs) = pick (eqb v x) true (oneOf v xs)
+abbrev pub oneOf : ℕ → List ℕ → Bool
+oneOf v xs = any (eqb v) xs
 
 -- two runs of bytes are the same
 unfoldable pub sameBytes : List ℕ → List ℕ → Bool

@@ -10,7 +10,7 @@ use lib.ListN.{length, getD, take, drop, length-take, length-map}
 use lib.Seq.{getD-take, split-at}
 use Rattle.descriptor_fields.specs.Layouts.{valued}
 use Rattle.descriptor_fields.specs.Fields.{Known, Element}
-use Rattle.descriptor_blocks.specs.Descriptor.{refs, nodeWords, nodeAt, Block, summary, summaries, allWords, blockOf, planWords}
+use Rattle.descriptor_blocks.specs.Descriptor.{refs, nodeAt, Block, summary, summaries, allWords, blockOf, planWords}
 use Rattle.descriptor_blocks.proofs.Elements.{noElement, target, element-valued, raisedBy, Refers}
 use Rattle.descriptor_blocks.proofs.Accepted.{missing, Made, Accepted, Valued}
 use Rattle.run_compiled.specs.OffBlocks.{blockAt}
@@ -20,6 +20,7 @@ use Rattle.run_compiled.proofs.Places.{summary-at, all-append, place, w
 use Rattle.run_compiled.proofs.Renames.{rename-proper, rename-same, ref-in}
 use Rattle.protocol.specs.Nodes.{Node, refAt, rename}
 use Rattle.protocol.specs.Plans.{mayRefer}
+use Rattle.protocol.specs.Compiling.{nodeAsWords}
 
 pub shape-at : (bs : List Block) (i : ℕ) → blockAt bs i ≡ getD bs i missing .shape
 unfolding blockAt
@@ -114,8 +115,8 @@ module _ (bs : List Block) (a : Accepted bs) where
     unfolding planWords place allWords
     stands-block root =
         let u = rename (nodeAt (summaries bs)) (getD bs i missing .shape) in
-        let w : getD bs i missing .words ≡ nodeWords u = words-are bs a i (v .inside) (v .values) ∙ ap nodeWords renames-same in
-        let split : allWords bs ≡ allWords (take i bs) ++ (nodeWords u ++ allWords (drop (suc i) bs)) =
+        let w : getD bs i missing .words ≡ nodeAsWords u = words-are bs a i (v .inside) (v .values) ∙ ap nodeAsWords renames-same in
+        let split : allWords bs ≡ allWords (take i bs) ++ (nodeAsWords u ++ allWords (drop (suc i) bs)) =
         ap allWords (split-at bs i missing (v .inside)) ∙ all-append (take i bs) (getD bs i missing ∷ drop (suc i) bs)
         ∙ ap (λ (ws : List ℕ). allWords (take i bs) ++ (ws ++ allWords (drop (suc i) bs))) w
         in

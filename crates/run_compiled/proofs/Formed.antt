@@ -12,7 +12,7 @@ use borrow.Author.Tests.{le-leb, lt-ltb, eq-eqb, ne-eqb}
 use Rattle.wire.proofs.Picks.{pick-yes, pick-no}
 use Rattle.descriptor_fields.specs.Layouts.{valued}
 use Rattle.descriptor_fields.specs.Fields.{Known, Element}
-use Rattle.descriptor_blocks.specs.Descriptor.{nodeWords, nodeAt, Block, summary, summaries, allWords, planWords}
+use Rattle.descriptor_blocks.specs.Descriptor.{nodeAt, Block, summary, summaries, allWords, planWords}
 use Rattle.descriptor_blocks.proofs.Elements.{noElement}
 use Rattle.descriptor_blocks.proofs.Sound.{raised-least}
 use Rattle.descriptor_blocks.proofs.Accepted.{missing, Accepted, Valued}
@@ -26,6 +26,7 @@ use Rattle.run_compiled.proofs.Blocks.{shape-at, facts, earlier, refs-c
 use Rattle.protocol.specs.Nodes.{Node, rename}
 use Rattle.protocol.specs.Plans.{PlanNode, placedAt, look, referAll, nodeSize, nodeHeight, NodesRead, nodes, readNode}
 use Rattle.protocol.specs.Plans.{thenNodes, readNodes, nodesOf, isSome, startsIn, noType, planFormed}
+use Rattle.protocol.specs.Compiling.{nodeAsWords}
 
 -- a node that is whole, with its kind and its height
 read-gives : (p : List ℕ) (at : ℕ) (seen : List PlanNode) (k h : ℕ) → at + nodeSize (getD p at 0) (getD p (at + 1) 0) ≤ length p → getD p at 0 ≡ k
@@ -97,8 +98,8 @@ module _ (bs : List Block) (a : Accepted bs) (root : ℕ) where
     height-some : block i .height ≡ 0 → ⊥
     height-some e = omega (arith, facts bs a i v .high, raised-least (summaries (take i bs)) 1 list)
 
-    words-shape : block i .words ≡ nodeWords shape
-    words-shape = words-are bs a i (v .inside) (v .values) ∙ ap nodeWords (renames-same bs a i v)
+    words-shape : block i .words ≡ nodeAsWords shape
+    words-shape = words-are bs a i (v .inside) (v .values) ∙ ap nodeAsWords (renames-same bs a i v)
 
     -- it is the next node read, and it ends where the next place is
     size-block : place bs i + nodeSize (getD p (place bs i) 0) (getD p (place bs i + 1) 0) ≡ place bs (suc i)

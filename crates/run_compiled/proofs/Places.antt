@@ -14,13 +14,14 @@ use Rattle.wire.proofs.Picks.{pick-yes, pick-no, pick-case}
 use Rattle.plan_nodes.proofs.Reading.{find-append}
 use Rattle.descriptor_fields.specs.Layouts.{valued}
 use Rattle.descriptor_fields.specs.Fields.{Known, noBlock}
-use Rattle.descriptor_blocks.specs.Descriptor.{nodeWords, nodeAt, wordsOf, Block, summary, summaries, allWords, blockOf}
+use Rattle.descriptor_blocks.specs.Descriptor.{nodeAt, wordsOf, Block, summary, summaries, allWords, blockOf}
 use Rattle.descriptor_blocks.proofs.Accepted.{missing, Made, Accepted}
 use Rattle.run_compiled.proofs.Words.{kindOf}
 use Rattle.protocol.specs.Numbers.{pick}
 use Rattle.protocol.specs.Nodes.{Node, leaf, enum, row, arrays, tuple, object, sparse, range, rename}
 use Rattle.protocol.specs.Plans.{PlanNode, placedAt, isSome}
 use mathlib.Core.Option.{none, some}
+use Rattle.protocol.specs.Compiling.{nodeAsWords}
 
 -- ---- blocks and their summaries
 
@@ -37,8 +38,8 @@ unfolding allWords
 all-append [] ys = refl
 all-append (x ∷ xs) ys = rw (all-append xs ys) (sym (append-assoc (x .words) (allWords xs) (allWords ys)))
 
-pub words-some : (v : Node) → 1 ≤ length (nodeWords v)
-unfolding nodeWords
+pub words-some : (v : Node) → 1 ≤ length (nodeAsWords v)
+unfolding nodeAsWords
 words-some (leaf f) = omega arith
 words-some enum = omega arith
 words-some (row r) = omega arith
@@ -107,11 +108,11 @@ module _ (bs : List Block) (a : Accepted bs) where
     words-none e =
         ap (λ (b : Block). b .words) (made .is) ∙ pick-no _ _ _ (ap (λ (b : Block). valued (b .tag)) (sym (made .is)) ∙ e)
 
-    pub words-are : valued (block i .tag) ≡ true → block i .words ≡ nodeWords (rename (nodeAt (summaries (take i bs))) (block i .shape))
+    pub words-are : valued (block i .tag) ≡ true → block i .words ≡ nodeAsWords (rename (nodeAt (summaries (take i bs))) (block i .shape))
     unfolding blockOf wordsOf
     words-are e =
         ap (λ (b : Block). b .words) (made .is) ∙ pick-yes _ _ _ (ap (λ (b : Block). valued (b .tag)) (sym (made .is)) ∙ e)
-        ∙ ap (λ (b : Block). nodeWords (rename (nodeAt (summaries (take i bs))) (b .shape))) (sym (made .is))
+        ∙ ap (λ (b : Block). nodeAsWords (rename (nodeAt (summaries (take i bs))) (b .shape))) (sym (made .is))
 
     pub all-next : allWords (take (suc i) bs) ≡ allWords (take i bs) ++ block i .words
     unfolding allWords

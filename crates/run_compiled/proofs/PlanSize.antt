@@ -11,7 +11,7 @@ use lib.Seq.{take-length}
 use borrow.Author.Tests.{eqb-true}
 use Rattle.wire.proofs.Picks.{pick-case, clash}
 use Rattle.descriptor_fields.specs.Layouts.{valued}
-use Rattle.descriptor_blocks.specs.Descriptor.{pairs, nodeWords, nodeAt, Block, summaries, allWords, planWords}
+use Rattle.descriptor_blocks.specs.Descriptor.{nodeAt, Block, summaries, allWords, planWords}
 use Rattle.descriptor_blocks.proofs.Accepted.{missing, Accepted, Valued}
 use Rattle.run_compiled.proofs.Words.{Proper}
 use Rattle.descriptor_nodes.proofs.NodeWords.{pairs-length}
@@ -20,7 +20,8 @@ use Rattle.run_compiled.proofs.Renames.{rename-proper}
 use Rattle.run_compiled.proofs.Blocks.{facts, renames-same}
 use Rattle.protocol.specs.Nodes.{Node, leaf, enum, row, arrays, tuple, object, sparse, range, rename}
 use Rattle.protocol.specs.Messages.{isCardinality}
-use Rattle.protocol.specs.Numbers.{oneOf}
+use Rattle.protocol.specs.Numbers.{any}
+use Rattle.protocol.specs.Compiling.{refCards, nodeAsWords}
 
 -- ---- words
 
@@ -50,7 +51,7 @@ small-map ρ h [] = small-none
 small-map ρ h (x ∷ l) = small-more (h x) (small-map ρ h l)
 
 small-card : (c : ℕ) → isCardinality c ≡ true → c < 2 ^ 32
-unfolding isCardinality oneOf
+unfolding isCardinality any
 small-card c =
     let P : Bool → Type 0 = λ b. b ≡ true → c < 2 ^ 32 in
     let is : (n : ℕ) → n < 2 ^ 32 → eqb c n ≡ true → c < 2 ^ 32 = λ n l e. rw (eqb-true c n e) l in
@@ -60,8 +61,8 @@ small-card c =
     (λ _. pick-case P (eqb c 0x6d) _ _ (λ e _. is 0x6d (omega arith) e)
     (λ _. pick-case P (eqb c 0x4d) _ _ (λ e _. is 0x4d (omega arith) e) (λ _ e. clash e)))))
 
-small-pairs : (rs cs : List ℕ) → Small rs → ((j : ℕ) → j < length cs → isCardinality (getD cs j 0) ≡ true) → Small (pairs rs cs)
-unfolding pairs
+small-pairs : (rs cs : List ℕ) → Small rs → ((j : ℕ) → j < length cs → isCardinality (getD cs j 0) ≡ true) → Small (refCards rs cs)
+unfolding refCards
 small-pairs [] cs a b = small-none
 small-pairs (r ∷ rs) [] a b = small-none
 small-pairs (r ∷ rs) (c ∷ cs) a b =
@@ -69,8 +70,8 @@ small-pairs (r ∷ rs) (c ∷ cs) a b =
 
 -- ---- nodes
 
-node-most : (v : Node) → Proper v → length (nodeWords v) ≤ 1026
-unfolding nodeWords Proper
+node-most : (v : Node) → Proper v → length (nodeAsWords v) ≤ 1026
+unfolding nodeAsWords Proper
 node-most (leaf f) h = omega arith
 node-most enum h = omega arith
 node-most (row r) h = omega arith
@@ -80,8 +81,8 @@ node-most (object rs cs) h = omega (arith, pairs-length rs cs (h .same), h .few)
 node-most (sparse rs cs) h = omega (arith, pairs-length rs cs (h .same), h .few)
 node-most (range r) h = omega arith
 
-node-small : (ρ : ℕ → ℕ) → ((k : ℕ) → ρ k < 2 ^ 32) → (v : Node) → Proper (rename ρ v) → Small (nodeWords (rename ρ v))
-unfolding nodeWords Proper rename
+node-small : (ρ : ℕ → ℕ) → ((k : ℕ) → ρ k < 2 ^ 32) → (v : Node) → Proper (rename ρ v) → Small (nodeAsWords (rename ρ v))
+unfolding nodeAsWords Proper rename
 node-small ρ s (leaf f) h = small-more (omega arith) (small-more (omega arith) small-none)
 node-small ρ s enum h = small-more (omega arith) small-none
 node-small ρ s (row r) h = small-more (omega arith) (small-more (s r) small-none)
@@ -95,14 +96,14 @@ node-small ρ s (range r) h = small-more (omega arith) (small-more (s r) small-n
 
 module _ (bs : List Block) (a : Accepted bs) where
   -- the words of a block with values, in the plan
-  block-words : (i : ℕ) (v : Valued bs i) → getD bs i missing .words ≡ nodeWords (rename (nodeAt (summaries bs)) (getD bs i missing .shape))
-  block-words i v = words-are bs a i (v .inside) (v .values) ∙ ap nodeWords (renames-same bs a i v)
+  block-words : (i : ℕ) (v : Valued bs i) → getD bs i missing .words ≡ nodeAsWords (rename (nodeAt (summaries bs)) (getD bs i missing .shape))
+  block-words i v = words-are bs a i (v .inside) (v .values) ∙ ap nodeAsWords (renames-same bs a i v)
 
   block-proper : (i : ℕ) (v : Valued bs i) → Proper (rename (nodeAt (summaries bs)) (getD bs i missing .shape))
   block-proper i v = rename-proper (nodeAt (summaries bs)) (getD bs i missing .shape) (facts bs a i v .proper)
 
   -- what holds of no words and of a block's node holds of a block's words
-  block-case : (P : List ℕ → Type 0) (i : ℕ) → i < length bs → P [] → ((v : Valued bs i) → P (nodeWords (rename (nodeAt (summaries bs)) (getD bs i missing .shape)))) → P (getD bs i missing .words)
+  block-case : (P : List ℕ → Type 0) (i : ℕ) → i < length bs → P [] → ((v : Valued bs i) → P (nodeAsWords (rename (nodeAt (summaries bs)) (getD bs i missing .shape)))) → P (getD bs i missing .words)
   block-case P i l n f = go (valued (getD bs i missing .tag)) refl
     where
       go : (t : Bool) → valued (getD bs i missing .tag) ≡ t → P (getD bs i missing .words)

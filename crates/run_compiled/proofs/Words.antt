@@ -12,12 +12,12 @@ use lib.Seq.{getD-append-add, drop-append-add, take-append-seam, ext-getD}
 use borrow.Author.Tests.{lt-ltb, le-ltb}
 use Rattle.wire.proofs.Picks.{pick-yes, pick-no}
 use Rattle.plan_nodes.proofs.Looks.{up-length, up-at, look-leaf, look-row, look-arrays, look-tuple, look-object, look-sparse, look-range, look-enum}
-use Rattle.descriptor_blocks.specs.Descriptor.{pairs, nodeWords}
 use Rattle.descriptor_nodes.proofs.NodeWords.{pairs-length}
 use Rattle.protocol.specs.Numbers.{pick, upTo}
 use Rattle.protocol.specs.Nodes.{Node, leaf, enum, row, arrays, tuple, object, sparse, range}
 use Rattle.protocol.specs.Messages.{isCardinality}
 use Rattle.protocol.specs.Plans.{PlanNode, pairRef, pairCard, refsAt, cardsAt, look, referAll, allCardinalities, nodeSize, nodeHeight, manyHeight}
+use Rattle.protocol.specs.Compiling.{refCards, nodeAsWords}
 
 -- ---- nodes
 
@@ -62,8 +62,8 @@ Proper (range r) = Unit {0}
 
 -- ---- lists
 
-pairs-at : (rs cs rest : List ℕ) (k : ℕ) → length cs ≡ length rs → k < length rs → (getD (pairs rs cs ++ rest) (2 * k) 0 ≡ getD rs k 0) × (getD (pairs rs cs ++ rest) (suc (2 * k)) 0 ≡ getD cs k 0)
-unfolding pairs
+pairs-at : (rs cs rest : List ℕ) (k : ℕ) → length cs ≡ length rs → k < length rs → (getD (refCards rs cs ++ rest) (2 * k) 0 ≡ getD rs k 0) × (getD (refCards rs cs ++ rest) (suc (2 * k)) 0 ≡ getD cs k 0)
+unfolding refCards
 pairs-at [] cs rest k e l = absurd (omega arith)
 pairs-at (r ∷ rs) [] rest k e l = absurd (omega arith)
 pairs-at (r ∷ rs) (c ∷ cs) rest zero e l = (refl, refl)
@@ -91,17 +91,17 @@ up-same f l e =
 -- ---- a node's words
 
 abbrev pub around : List ℕ → Node → List ℕ → List ℕ
-around pre v rest = pre ++ (nodeWords v ++ rest)
+around pre v rest = pre ++ (nodeAsWords v ++ rest)
 
 module _ (pre rest : List ℕ) where
-  word-at : (v : Node) (k : ℕ) → getD (around pre v rest) (length pre + k) 0 ≡ getD (nodeWords v ++ rest) k 0
-  word-at v k = getD-append-add pre (nodeWords v ++ rest) k 0
+  word-at : (v : Node) (k : ℕ) → getD (around pre v rest) (length pre + k) 0 ≡ getD (nodeAsWords v ++ rest) k 0
+  word-at v k = getD-append-add pre (nodeAsWords v ++ rest) k 0
 
-  first-word : (v : Node) → getD (around pre v rest) (length pre) 0 ≡ getD (nodeWords v ++ rest) 0 0
+  first-word : (v : Node) → getD (around pre v rest) (length pre) 0 ≡ getD (nodeAsWords v ++ rest) 0 0
   first-word v = ap (λ (k : ℕ). getD (around pre v rest) k 0) (sym (add-zero (length pre))) ∙ word-at v 0
 
   pub kind-word : (v : Node) → getD (around pre v rest) (length pre) 0 ≡ kindOf v
-  unfolding nodeWords kindOf
+  unfolding nodeAsWords kindOf
   kind-word (leaf f) = first-word (leaf f)
   kind-word enum = first-word enum
   kind-word (row r) = first-word (row r)
@@ -118,7 +118,7 @@ module _ (pre rest : List ℕ) where
   place-next : (k : ℕ) → length pre + 3 + k ≡ length pre + suc (suc (suc k))
   place-next k = omega arith
 
-  module _ (v : Node) (n : ℕ) (rs cs : List ℕ) (w : nodeWords v ≡ n ∷ length rs ∷ pairs rs cs) (h : length cs ≡ length rs) where
+  module _ (v : Node) (n : ℕ) (rs cs : List ℕ) (w : nodeAsWords v ≡ n ∷ length rs ∷ refCards rs cs) (h : length cs ≡ length rs) where
     pair-ref : (k : ℕ) → k < length rs → pairRef (around pre v rest) (length pre) k ≡ getD rs k 0
     unfolding pairRef
     pair-ref k l =
@@ -147,14 +147,14 @@ module _ (pre rest : List ℕ) where
   -- ---- looking it up
 
   pub look-node : (v : Node) → Proper v → look (around pre v rest) (length pre) ≡ v
-  unfolding Proper nodeWords kindOf
+  unfolding Proper nodeAsWords kindOf
   look-node (leaf f) h = look-leaf _ _ (kind-word (leaf f)) ∙ ap leaf (word-at (leaf f) 1)
   look-node enum h = look-enum _ _ (kind-word enum)
   look-node (row r) h = look-row _ _ (kind-word (row r)) ∙ ap row (word-at (row r) 1)
   look-node (arrays r) h = look-arrays _ _ (kind-word (arrays r)) ∙ ap arrays (word-at (arrays r) 1)
   look-node (tuple rs) h =
       look-tuple _ _ (kind-word (tuple rs))
-      ∙ ap tuple (rw (word-at (tuple rs) 1, drop-append-add pre (nodeWords (tuple rs) ++ rest) 2) (take-append-seam rs rest))
+      ∙ ap tuple (rw (word-at (tuple rs) 1, drop-append-add pre (nodeAsWords (tuple rs) ++ rest) 2) (take-append-seam rs rest))
   look-node (object rs cs) h =
       look-object _ _ (kind-word (object rs cs)) ∙ ap₂ object (pair-refs (object rs cs) 5 rs cs refl (h .same)) (pair-cards (object rs cs) 5 rs cs refl (h .same))
   look-node (sparse rs cs) h =
@@ -163,8 +163,8 @@ module _ (pre rest : List ℕ) where
 
   -- ---- its size
 
-  pub size-node : (v : Node) → Proper v → nodeSize (getD (around pre v rest) (length pre) 0) (getD (around pre v rest) (length pre + 1) 0) ≡ length (nodeWords v)
-  unfolding Proper nodeWords kindOf nodeSize pick
+  pub size-node : (v : Node) → Proper v → nodeSize (getD (around pre v rest) (length pre) 0) (getD (around pre v rest) (length pre + 1) 0) ≡ length (nodeAsWords v)
+  unfolding Proper nodeAsWords kindOf nodeSize pick
   size-node (leaf f) h = rw (kind-word (leaf f))
   size-node enum h = rw (kind-word enum)
   size-node (row r) h = rw (kind-word (row r))
@@ -183,7 +183,7 @@ module _ (pre rest : List ℕ) where
         ≡ referAll seen (kindOf v) (λ k. getD (refsOf v) k 0) (length (refsOf v))
 
     -- references and cardinalities
-    module _ (v : Node) (n : ℕ) (rs cs : List ℕ) (w : nodeWords v ≡ n ∷ length rs ∷ pairs rs cs) (h : Paired rs cs) where
+    module _ (v : Node) (n : ℕ) (rs cs : List ℕ) (w : nodeAsWords v ≡ n ∷ length rs ∷ refCards rs cs) (h : Paired rs cs) where
       pairs-climb : pick (ltb 512 (length rs)) 0
           (pick (allCardinalities (pairCard (around pre v rest) (length pre)) (length rs)) (referAll seen n (pairRef (around pre v rest) (length pre)) (length rs)) 0)
           ≡ referAll seen n (λ k. getD rs k 0) (length rs)
@@ -195,7 +195,7 @@ module _ (pre rest : List ℕ) where
           ∙ refers-same seen n (pairRef (around pre v rest) (length pre)) (λ k. getD rs k 0) (length rs) (pair-ref v n rs cs w (h .same))
 
     pub height-node : (v : Node) → Proper v → Climbs v
-    unfolding Proper nodeWords kindOf refsOf nodeHeight referAll pick manyHeight
+    unfolding Proper nodeAsWords kindOf refsOf nodeHeight referAll pick manyHeight
     height-node (leaf f) h = rw (kind-word (leaf f), word-at (leaf f) 1, lt-ltb f 20 h)
     height-node enum h = rw (kind-word enum)
     height-node (row r) h = rw (kind-word (row r), word-at (row r) 1)
@@ -214,8 +214,8 @@ module _ (pre rest : List ℕ) where
 pub record Stands (p : List ℕ) (at : ℕ) (v : Node) : Type 0 where
   pub kind : getD p at 0 ≡ kindOf v
   pub looks : look p at ≡ v
-  pub size : nodeSize (getD p at 0) (getD p (at + 1) 0) ≡ length (nodeWords v)
-  pub inside : at + length (nodeWords v) ≤ length p
+  pub size : nodeSize (getD p at 0) (getD p (at + 1) 0) ≡ length (nodeAsWords v)
+  pub inside : at + length (nodeAsWords v) ≤ length p
   pub height : (seen : List PlanNode) → nodeHeight p at seen (getD p at 0) (getD p (at + 1) 0) ≡ referAll seen (kindOf v) (λ k. getD (refsOf v) k 0) (length (refsOf v))
 
 pub stands : (pre : List ℕ) (v : Node) (rest p : List ℕ) (at : ℕ) → Proper v → p ≡ around pre v rest → at ≡ length pre → Stands p at v
@@ -225,6 +225,6 @@ stands pre v rest p at h e l =
       kind = kind-word pre rest v;
       looks = look-node pre rest v h;
       size = size-node pre rest v h;
-      inside = omega (arith, length-append pre (nodeWords v ++ rest), length-append (nodeWords v) rest);
+      inside = omega (arith, length-append pre (nodeAsWords v ++ rest), length-append (nodeAsWords v) rest);
       height = λ seen. height-node pre rest seen v h;
     })

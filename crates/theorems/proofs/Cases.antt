@@ -1,14 +1,13 @@
 -- The eleven cases of specs/Cases, computed.
 use mathlib.Core.Path.{_≡_, refl}
 use mathlib.Core.List.{map}
-use Rattle.protocol.specs.Descriptors.{types, heightAt, heightOver, hasValues, ofObjects, setElement, arrayElement, rangeElement}
+use Rattle.protocol.specs.Descriptors.{types, heightAt, heightOver, hasValues, ofObjects, setElement, arrayElement, rangeElement, describe}
 use Rattle.protocol.specs.Descriptors.{formatById, parseThen, someBytes, passing, numberField, textField, boolField, operation, cardinalOf}
 use Rattle.protocol.specs.Descriptors.{outputFlags, inputFlags, dimensions, unbound, itemCount, itemRun, counted, newName, newId, refersTo}
 use Rattle.protocol.specs.Descriptors.{reference, anyBlock, objectReference, element, outputElement, schema, formatGiven, formatFrom}
 use Rattle.protocol.specs.Descriptors.{scalarWith, tupleElement, inputElement, recordElement, annotationBlock, fieldsOf, indexedBlock}
 use Rattle.protocol.specs.Descriptors.{tagged, block, withBlock, afterBlock, readBlocks, allBlocks, rootIn, rootedAt, rootedBlocks}
-use Rattle.protocol.specs.Descriptors.{describe}
-use Rattle.protocol.specs.Numbers.{pick, be, beFrom, atLeast, upTo, any, sameBytes, oneOf}
+use Rattle.protocol.specs.Numbers.{pick, be, beFrom, atLeast, upTo, any, sameBytes}
 use Rattle.protocol.specs.Scalars.{ofSize, scalar, formatRule, formats, ruleOf}
 use Rattle.protocol.specs.Heads.{word, negative, setOpening, countOpening, sparseOpening, elementIn, optional, plainHead, sparseIndex}
 use Rattle.protocol.specs.Heads.{requires, sparseRest, sparseHead, lacking, endOf, indexOf, dimension}
@@ -38,5 +37,5 @@ unfolding pick be beFrom scalar formatRule formats ruleOf ofSize word negative s
     newId refersTo reference anyBlock objectReference element outputElement schema formatGiven formatFrom scalarWith tupleElement
     inputElement recordElement annotationBlock fieldsOf indexedBlock tagged block withBlock afterBlock readBlocks allBlocks rootIn rootedAt
     rootedBlocks describe blockNode refCards nodeAsWords blockWords wordsBy nodePosition wholePlan planRoomed compileBy dimension manyHeight
-    oneOf admitted
+    admitted
 case-table = refl

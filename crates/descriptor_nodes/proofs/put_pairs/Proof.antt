@@ -4,11 +4,12 @@ use Prim.Native.Nat.{_-_, _≤_}
 use native.Mathlib.Omega.{arith}
 use lib.ListN.{length}
 use lib.Seq.{sets}
-use Rattle.descriptor_blocks.specs.Descriptor.{nodeAt, pairs}
+use Rattle.descriptor_blocks.specs.Descriptor.{nodeAt}
 use Rattle.descriptor_fields.specs.Arrays.{tab, knownOf}
 use Rattle.descriptor_nodes.proofs.NodeWords.{pairsTo, pairs-more, pairs-done}
 use Rattle.descriptor_nodes.proofs.put_pairs.Statement.{statement}
 use Rattle.descriptor_nodes.proofs.put_pairs.Tie as tie
+use Rattle.protocol.specs.Compiling.{refCards}
 
 abbrev Inv-loop : tie.InvT-loop
 Inv-loop d known n elements count plan₀ to k₀ plan k =
@@ -18,7 +19,7 @@ abbrev μ-loop : tie.MeasureT-loop
 μ-loop d known n elements count plan₀ to k₀ plan k = count - k
 
 loop-holds : tie.Need-loop-holds Inv-loop μ-loop
-unfolding tab pairs
+unfolding tab refCards
 loop-holds c = (omega arith, refl, refl)
 
 mul-node-at : tie.Need-mul-node-at Inv-loop μ-loop

@@ -4,31 +4,31 @@ use borrow.Author.Tests.{ne-eqb}
 use Rattle.wire.proofs.Picks.{pick-no}
 use Rattle.wire.proofs.words.is_cardinality.Statement.{statement}
 use Rattle.wire.proofs.words.is_cardinality.Tie as tie
-use Rattle.protocol.specs.Numbers.{pick, oneOf}
+use Rattle.protocol.specs.Numbers.{pick, any}
 use Rattle.protocol.specs.Messages.{isCardinality}
 
 returns : tie.Need-returns
-unfolding isCardinality pick oneOf
+unfolding isCardinality pick any
 returns c = sym (ap isCardinality (c .match .keys1))
 
 returns-2 : tie.Need-returns-2
-unfolding isCardinality pick oneOf
+unfolding isCardinality pick any
 returns-2 c = sym (ap isCardinality (c .match .keys2))
 
 returns-3 : tie.Need-returns-3
-unfolding isCardinality pick oneOf
+unfolding isCardinality pick any
 returns-3 c = sym (ap isCardinality (c .match .keys3))
 
 returns-4 : tie.Need-returns-4
-unfolding isCardinality pick oneOf
+unfolding isCardinality pick any
 returns-4 c = sym (ap isCardinality (c .match .keys4))
 
 returns-5 : tie.Need-returns-5
-unfolding isCardinality pick oneOf
+unfolding isCardinality pick any
 returns-5 c = sym (ap isCardinality (c .match .keys5))
 
 returns-6 : tie.Need-returns-6
-unfolding isCardinality oneOf
+unfolding isCardinality any
 returns-6 c =
     sym (pick-no _ _ _ (ne-eqb _ _ (c .match .rest .0 .0 .0 .0 .1)) ∙ pick-no _ _ _
     (ne-eqb _ _ (c .match .rest .0 .0 .0 .1)) ∙ pick-no _ _ _ (ne-eqb _ _ (c .match .rest .0 .0 .1)) ∙ pick-no _ _ _
