@@ -62,7 +62,8 @@ Proper (range r) = Unit {0}
 
 -- ---- lists
 
-pairs-at : (rs cs rest : List ℕ) (k : ℕ) → length cs ≡ length rs → k < length rs → (getD (refCards rs cs ++ rest) (2 * k) 0 ≡ getD rs k 0) × (getD (refCards rs cs ++ rest) (suc (2 * k)) 0 ≡ getD cs k 0)
+pairs-at : (rs cs rest : List ℕ) (k : ℕ) → length cs ≡ length rs → k < length rs
+    → (getD (refCards rs cs ++ rest) (2 * k) 0 ≡ getD rs k 0) × (getD (refCards rs cs ++ rest) (suc (2 * k)) 0 ≡ getD cs k 0)
 unfolding refCards
 pairs-at [] cs rest k e l = absurd (omega arith)
 pairs-at (r ∷ rs) [] rest k e l = absurd (omega arith)

@@ -87,7 +87,8 @@ module _ (p s : List ℕ) where
     unfolding earlyFault faultIn admitted pick
     fault-none h = rw (f, le-ltb 65535 (length s) h)
 
-  early-cases : (n : ℕ) (a b : Bool) → n ≡ faultIn (pick a (pick b (refused 28 0) (accepted empty)) (refused 33 0)) → (n ≡ 0 → ⊥) → pick a (pick b (refused 28 0) (valueBy p s)) (refused 33 0) ≡ refused n 0
+  early-cases : (n : ℕ) (a b : Bool) → n ≡ faultIn (pick a (pick b (refused 28 0) (accepted empty)) (refused 33 0)) → (n ≡ 0 → ⊥)
+      → pick a (pick b (refused 28 0) (valueBy p s)) (refused 33 0) ≡ refused n 0
   unfolding pick faultIn
   early-cases n true true e z = rw e
   early-cases n true false e z = absurd (z e)
