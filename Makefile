@@ -8,7 +8,7 @@
 .DELETE_ON_ERROR:
 
 CFLAGS = -std=c11 -O2 -Wall -Wextra -Werror
-LIBRARY = target/staticlib/libpanel.a
+LIBRARY = target/staticlib/libc_panel.a
 HEADERS = $(wildcard host/*.h demo/*.h) include/rembulfose.h
 PANEL = $(wildcard host/*.c)
 BUILDER = demo/build.c host/plan.c host/names.c host/refusal.c

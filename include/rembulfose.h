@@ -1,26 +1,29 @@
 /* Rembulfose: the messages and values of a batch tracker's database (EdgeDB's binary protocol).
  *
- * Every call ends, stays inside its buffers, and answers for any bytes and any lengths. A refusal returns its
- * number and place, with all else zero, and changes no lent byte. On success number and place are 0, and room
- * past what was written keeps its contents. No call keeps a pointer, allocates memory or has a state: calls may be
- * made from several threads at once.
+ * What is accepted, answered and refused stands in docs/RULES.md, rule by rule; a number such as R5.3 is a rule there.
+ *
+ * Every call ends, stays inside its buffers, and answers for any bytes and any lengths (R1.13). A refusal returns a number
+ * and a place, and 0 in every other field; all that was lent is as it was before (R1.1). On success number and place are 0,
+ * and of a room only the bytes that the result needs are written (R1.2). No call keeps a pointer, allocates memory or has a
+ * state: calls may be made from several threads at once.
  *
  * Arguments. A run of bytes is a pointer and a length. What is const is only read. A room is what a call may write to:
  * if the result needs less, the rest is not touched; if it needs more, that is a refusal (30, 31, 32) and nothing is
- * written. Lengths are always in bytes. A null pointer is good where its length is 0.
+ * written. Lengths are always in bytes. A null pointer is good where its length is 0 (R9.2).
  *
- * Plans, lists and paths cross as bytes: four to a word, big-endian, at most 8,192 words. Room for a plan or list counts
- * in whole words, 8,192 at most. Sizes of input messages, sources and output rooms are not limited.
+ * The words of a plan, list or path are passed as bytes, four each, the highest first: REMBULFOSE_MOST_WORDS words at most
+ * (R9.3, R9.4). A room for such words counts as its length / 4, and never as more than that (R9.6). Input messages, sources
+ * and output rooms may be of any size (R9.7).
  *
- * Largest sizes: descriptor (17) and value (28) 65,535 bytes; in a descriptor (17) 1,024 indexed blocks, 512 elements,
- * ancestors, components or members in a block, and height 32.
+ * Largest sizes (R1.4): 65,535 bytes of a descriptor (17) and of a value (28); and in a descriptor (17) height 32, 1,024
+ * blocks that have an index, and 512 as each count of a block.
  *
  * Stack: use does not grow with the number of elements, only with nesting, which is at most 32. It is measured and not
  * proved: give a thread that makes these calls REMBULFOSE_STACK bytes or more, of which the largest test cases used four
  * fifths in writing a value, and less in the other calls (docs/MEASURED.md has it call by call).
  *
- * Outside the promises of every call: a null pointer with a length above 0, a pointer to fewer bytes than its length
- * says, lent runs that overlap each other, and a stack that is too small.
+ * Outside the promises of every call (R9.10): a null pointer with a length above 0, a pointer to fewer bytes than its length
+ * says, runs of which one overlaps another, and a stack that is too small.
  */
 #ifndef REMBULFOSE_H
 #define REMBULFOSE_H
@@ -58,47 +61,47 @@ typedef struct {
     uint64_t bits;
 } rembulfose_number;
 
-/* Refusal numbers. The order in which they are given is said at each call. */
+/* Refusal numbers (R1.3). Behind the semicolon stands the place. The order in which they are given is said at each call. */
 enum {
-    REMBULFOSE_NOT_WHOLE = 1,      /* message not whole yet; place 0 */
-    REMBULFOSE_BAD_LENGTH = 2,     /* length field under 4 or over 65,535; place 0 */
-    REMBULFOSE_UNKNOWN_TYPE = 3,   /* type byte unknown for that side (0 client, 1 server; others know none); place 0 */
-    REMBULFOSE_FIELD_PAST_END = 4, /* field runs past the message's end; place: the field's start */
-    REMBULFOSE_BYTES_LEFT = 5,     /* message bytes left over; place: the first of them */
-    REMBULFOSE_BAD_FIELD = 6,      /* field content not permitted; place: the field's start (writer: 0) */
-    REMBULFOSE_DESCRIPTOR_END = 10, /* descriptor ends inside a field; place: the block's tag */
-    REMBULFOSE_UNKNOWN_TAG = 11,   /* unknown tag; place: the tag */
-    REMBULFOSE_BAD_CONTENT = 12,   /* field content not permitted; place: the block's tag */
-    REMBULFOSE_BAD_REFERENCE = 13, /* reference not to an earlier block; place: the block's tag */
-    REMBULFOSE_WRONG_KIND = 14,    /* reference to a block of the wrong kind; place: the block's tag */
-    REMBULFOSE_BAD_ID = 15,        /* block id zero, or equal to an earlier one; place: the block's tag */
-    REMBULFOSE_NAME_TWICE = 16,    /* name twice in an input shape or named tuple; place: the block's tag */
-    REMBULFOSE_DESCRIPTOR_SIZE = 17, /* a descriptor size above is passed; place: the block's tag (total bytes: 0) */
-    REMBULFOSE_NO_ROOT = 18,       /* root missing or without values; place: the descriptor's length */
-    REMBULFOSE_CONTAINER_END = 20, /* container ends inside a head, or an element passes its end; place: container */
-    REMBULFOSE_VALUE_LEFT = 21,    /* bytes left over in a container; place: container */
-    REMBULFOSE_BAD_HEAD = 22,      /* head field not permitted; place: container */
-    REMBULFOSE_BAD_SIZE = 23,      /* length below -1, or -1 in a set, array, tuple or range; place: container */
-    REMBULFOSE_BAD_SCALAR = 24,    /* scalar or enumeration content not permitted; place: that value */
-    REMBULFOSE_INDEX_OUTSIDE = 25, /* sparse index outside the shape; place: container */
-    REMBULFOSE_INDEX_TWICE = 26,   /* sparse index given twice; place: container */
-    REMBULFOSE_REQUIRED = 27,      /* required index not given, or required element of length -1; place: container */
-    REMBULFOSE_VALUE_SIZE = 28,    /* value over 65,535 bytes; place 0 */
-    REMBULFOSE_PLAN_ROOM = 30,     /* plan room too small; place 0 */
-    REMBULFOSE_LIST_ROOM = 31,     /* list room too small; place 0 */
-    REMBULFOSE_OUTPUT_ROOM = 32,   /* output room too small; place 0 */
-    REMBULFOSE_BAD_PLAN = 33,      /* plan not well formed; place 0 */
-    REMBULFOSE_NO_VALUE = 34,      /* no accepted value has this supply; place 0 */
-    REMBULFOSE_NO_ENTRY = 35,      /* path names no entry: also below a leaf or an absent element; place 0 */
-    REMBULFOSE_ABSENT_ELEMENT = 36, /* path ends at an absent element; place 0 */
-    REMBULFOSE_NO_NUMBER = 37      /* element has no single number; place 0 */
+    REMBULFOSE_NOT_WHOLE = 1,      /* the message needs more bytes than are there yet; 0 */
+    REMBULFOSE_BAD_LENGTH = 2,     /* a message's length field is not from 4 to 65,535; 0 */
+    REMBULFOSE_UNKNOWN_TYPE = 3,   /* the side (REMBULFOSE_CLIENT or _SERVER) has no such type byte; 0 */
+    REMBULFOSE_FIELD_PAST_END = 4, /* a message is over before one of its fields is; start of the field */
+    REMBULFOSE_BYTES_LEFT = 5,     /* a message has bytes behind its last field; the first of those */
+    REMBULFOSE_BAD_FIELD = 6,      /* a message's field holds what it must not; start of the field (writer: 0) */
+    REMBULFOSE_DESCRIPTOR_END = 10, /* a descriptor is over before a field is; tag of the block */
+    REMBULFOSE_UNKNOWN_TAG = 11,   /* no block has this tag; the tag */
+    REMBULFOSE_BAD_CONTENT = 12,   /* a block's field holds what it must not; tag of the block */
+    REMBULFOSE_BAD_REFERENCE = 13, /* a reference gives no block before its own; tag of the block */
+    REMBULFOSE_WRONG_KIND = 14,    /* a reference gives a block that may not stand there; tag of the block */
+    REMBULFOSE_BAD_ID = 15,        /* a block's id is all zero or was used before; tag of the block */
+    REMBULFOSE_NAME_TWICE = 16,    /* two elements of an input shape, or of a named tuple, have one name; tag of the block */
+    REMBULFOSE_DESCRIPTOR_SIZE = 17, /* a descriptor exceeds a largest size; tag of the block (its bytes: 0) */
+    REMBULFOSE_NO_ROOT = 18,       /* the root id is unusable, no block's, or of one without values; the descriptor's length */
+    REMBULFOSE_CONTAINER_END = 20, /* a container is over before a head or an element's data is; its start */
+    REMBULFOSE_VALUE_LEFT = 21,    /* a container has bytes behind its last element; its start */
+    REMBULFOSE_BAD_HEAD = 22,      /* a head holds what it must not; start of the container */
+    REMBULFOSE_BAD_SIZE = 23,      /* a negative length where it does not mean absent; start of the container */
+    REMBULFOSE_BAD_SCALAR = 24,    /* a leaf's bytes break the rule of its format, or are no text; their start */
+    REMBULFOSE_INDEX_OUTSIDE = 25, /* an input object's entry has an index that its shape has not; start of the object */
+    REMBULFOSE_INDEX_TWICE = 26,   /* two entries of an input object have one index; start of the object */
+    REMBULFOSE_REQUIRED = 27,      /* a required element is absent or missing; start of the object */
+    REMBULFOSE_VALUE_SIZE = 28,    /* a value of more than 65,535 bytes; 0 */
+    REMBULFOSE_PLAN_ROOM = 30,     /* the plan has more words than its room; 0 */
+    REMBULFOSE_LIST_ROOM = 31,     /* the list has more words than its room; 0 */
+    REMBULFOSE_OUTPUT_ROOM = 32,   /* the output has more bytes than its room; 0 */
+    REMBULFOSE_BAD_PLAN = 33,      /* what was lent as a plan is none; 0 */
+    REMBULFOSE_NO_VALUE = 34,      /* the supply belongs to no value that the plan accepts; 0 */
+    REMBULFOSE_NO_ENTRY = 35,      /* the path leads to no entry; 0 */
+    REMBULFOSE_ABSENT_ELEMENT = 36, /* the path leads to an absent element; 0 */
+    REMBULFOSE_NO_NUMBER = 37      /* the element is not a number; 0 */
 };
 
-/* Who sent a message. */
+/* Who sent a message (R2.4). */
 enum rembulfose_side { REMBULFOSE_CLIENT = 0, REMBULFOSE_SERVER = 1 };
 
-/* A plan's words: how many there are, the root's number, then the nodes. A node's number is that of its first word in the
- * plan; this word is its kind. What follows it is said at each kind, where a ref is the number of another node. */
+/* A plan's words (R4.1, R4.2): how many there are, the root's number, then the nodes. A node's number is that of its first
+ * word in the plan; this word is its kind. What follows it is said at each kind, where a ref is the number of another node. */
 enum rembulfose_kind {
     REMBULFOSE_KIND_LEAF = 1,          /* format: a scalar */
     REMBULFOSE_KIND_SET_OR_ARRAY = 2,  /* ref of its elements */
@@ -110,7 +113,7 @@ enum rembulfose_kind {
     REMBULFOSE_KIND_ENUMERATION = 8    /* nothing: a text */
 };
 
-/* The formats of scalars, the second word of a leaf's node. REMBULFOSE_FORMATS: how many there are. */
+/* The formats of scalars (R5.15), the second word of a leaf's node. REMBULFOSE_FORMATS: how many there are. */
 #define REMBULFOSE_FORMATS 20
 enum rembulfose_format {
     REMBULFOSE_FORMAT_UUID = 0,
@@ -135,7 +138,8 @@ enum rembulfose_format {
     REMBULFOSE_FORMAT_MEMORY = 19
 };
 
-/* Cardinalities: of an object's element in a plan, and of a query's result in T. ONE and AT_LEAST_ONE are required. */
+/* Cardinalities (R2.10, R5.11): of an object's element in a plan, and of a query's result in T. ONE and AT_LEAST_ONE are
+ * required. */
 enum rembulfose_cardinality {
     REMBULFOSE_CARDINALITY_NONE = 0x6e,
     REMBULFOSE_CARDINALITY_AT_MOST_ONE = 0x6f,
@@ -144,14 +148,14 @@ enum rembulfose_cardinality {
     REMBULFOSE_CARDINALITY_AT_LEAST_ONE = 0x4d
 };
 
-/* The words of an entry in a value's list: how many an entry has, and which is which. */
+/* The words of an entry in a value's list (R6.1): how many an entry has, and which is which. */
 #define REMBULFOSE_ENTRY_WORDS 5
 enum rembulfose_entry {
     REMBULFOSE_ENTRY_NODE = 0,   /* in the plan */
-    REMBULFOSE_ENTRY_INDEX = 1,  /* in its parent; sparse: the index sent; range: 0 lower, 1 upper; top: 0 */
-    REMBULFOSE_ENTRY_START = 2,  /* of its bytes in the value; absent: just past its head */
+    REMBULFOSE_ENTRY_INDEX = 1,  /* position in its container; input object: as sent; bounds: 0 and 1; top: 0 (R6.3) */
+    REMBULFOSE_ENTRY_START = 2,  /* of its bytes in the value; absent: where its head ends */
     REMBULFOSE_ENTRY_LENGTH = 3, /* of its bytes, or REMBULFOSE_ABSENT */
-    REMBULFOSE_ENTRY_BELOW = 4   /* number of entries directly below */
+    REMBULFOSE_ENTRY_BELOW = 4   /* how many entries have this one as their container */
 };
 
 /* The length of an absent element. */
@@ -167,75 +171,75 @@ static inline uint32_t rembulfose_word(const uint8_t *words, size_t index) {
     return word << 8 | at[3];
 }
 
-/* Reads the message at the start of src. Bytes after the message are not looked at.
- * side: who sent it, 0 client, 1 server. src: the bytes received so far. list: room for two words for each body field,
- * start (the type byte is at 0) and length, in layout order; text and bytes by their content, and a run's count is a
- * field.
+/* Reads the message at the start of src (section 2). What follows it there has no effect.
+ * side: who sent it. src: the bytes received so far. list: room for two words for each field of the body, in the order of
+ * R2.8 or R2.9: the place of its content, counted from the type byte, and the content's length. The length in front of a text
+ * or bytes is not part of these; the number in front of repeated items is a field too (R2.13).
  * first = bytes used, second = words written.
- * Order: under 5 bytes 1; then 2; then 1; then 3; then the fields left to right, each first whole (4), then its
- * rule (6); then 5; then 31. */
+ * Order (R1.6): 1 for fewer than 5 bytes; 2; 1 for a message that is cut off; 3; one field after the other, 4 and then 6; 5;
+ * 31. */
 rembulfose_answer rembulfose_read_message(uint32_t side, const uint8_t *src, size_t src_len,
                                           uint8_t *list, size_t list_len);
 
-/* Writes the message of a side and a type byte whose fields hold the bytes of src that the list's pairs name.
- * side: 0 client, 1 server. type: the type byte. list: two words a body field, start in src and length, as
- * rembulfose_read_message gives them. src: the fields' contents, in any order; pairs may overlap. out: room for the message.
- * first = bytes written. Order: 3, 6, 2, 32; the place is always 0. 6 is also given where the pairs do not fill
- * the layout exactly, lie outside the source, or where the list is no whole number of words or has over 8,192. */
+/* Writes the message of a side and a type byte whose fields hold the bytes of src that the list's pairs name (R2.14).
+ * side: who sends it. type: the type byte. list: a pair for each field, start in src and length, as rembulfose_read_message
+ * gives them. src: the fields' contents, in any order; pairs may overlap. out: room for the message.
+ * first = bytes written. Order (R1.7): 3, 6, 2, 32; the place is always 0. 6 is given too for pairs that do not match the
+ * fields in number or size, for a pair that src does not hold (R2.15), and for a list that does not cross (R9.4). */
 rembulfose_answer rembulfose_write_message(uint32_t side, uint8_t type,
                                            const uint8_t *list, size_t list_len,
                                            const uint8_t *src, size_t src_len,
                                            uint8_t *out, size_t out_len);
 
-/* Compiles a descriptor's plan.
+/* Compiles a descriptor's plan (section 3, R4.7, R4.8).
  * descriptor: its bytes, as T and s carry them. root: the 16 bytes of the id of the block that values are of; any other
  * length is 18. plan: room for the plan's words.
  * first = words written, so the plan is the first 4 * first bytes of the room.
- * Order: 17 for the total size (place 0); 18 for the root id's length and zero rules (place: the descriptor's length); the
- * blocks left to right, each field first whole (10), then its rule (11 to 17; place: the block's tag); 18; 30 (place 0).
- * Id zero with no bytes is "no type": the plan 2,0. */
+ * Order (R1.8): 17 for too many bytes in all; 18 for a root id of another length, or of zeros while the descriptor has bytes;
+ * block after block, and in it field after field, 10 if it is cut off and then what it may hold, 11 to 17; 18; 30.
+ * No bytes and a root id of zeros are "no type": the plan 2,0 (R4.6). */
 rembulfose_answer rembulfose_compile(const uint8_t *descriptor, size_t descriptor_len, const uint8_t *root, size_t root_len,
                                      uint8_t *plan, size_t plan_len);
 
-/* Checks a value by a plan and lists it.
- * plan: as rembulfose_compile gives it, no byte more or fewer. value: its bytes, as D and C carry them. list: room for five
- * words an entry: node, index in its parent, start, length (ffffffff hex if absent), number of entries directly below; a
- * container first, then each element with all below it.
- * Places of 20 to 27 are byte offsets in the value.
- * first = words written. Order: 33 (also for a plan that is no whole number of words or has over 8,192), 28, the
- * value's faults from left to right and each element before the next, 31. */
+/* Checks a value by a plan and lists it (sections 5 and 6).
+ * plan: as rembulfose_compile gives it, no byte more or fewer. value: its bytes, as D and C carry them. list: room for
+ * entries, whose words are those of enum rembulfose_entry. Behind a container's entry stand those of its elements in turn,
+ * each with all that it holds (R6.2).
+ * A place of 20 to 27 is counted from the value's first byte (R1.12).
+ * first = words written. Order (R1.9): 33 (also for a plan that does not cross, R9.4), 28, the first fault of the value by
+ * R5.2, 31. */
 rembulfose_answer rembulfose_run(const uint8_t *plan, size_t plan_len, const uint8_t *value, size_t value_len,
                                  uint8_t *list, size_t list_len);
 
-/* Writes the value that has a supply.
- * plan: as in rembulfose_run. list and src are the supply: a list as rembulfose_run gives it, and bytes. Node, index, count
- * of entries directly below, absence, a leaf's bytes at its start and length in src, and a range's flags byte at its start
- * are those of the value. All other starts, and lengths that are not ffffffff hex, may be anything. Leaves and flags may
- * overlap and lie in any order in src. out: room for the value.
- * The reserved fields of containers are written as zero.
- * first = bytes written. Order: 33 (as in rembulfose_run), 34, 32; the place is always 0. 34 is also given where the list is
- * no whole number of words, has over 8,192, or words that are not a multiple of five, where a leaf or flags lie outside of
- * src (an empty leaf too), and where the value would have over 65,535 bytes. "No type" has the empty list and no bytes. */
+/* Writes the value that has a supply (section 8).
+ * plan: as in rembulfose_run. list and src are the supply: a list as rembulfose_run gives it, and bytes. The value has the
+ * list's nodes, indexes, numbers of entries below and absent elements, for each leaf the bytes of src at its start and
+ * length, and for each range the flags byte of src at its start. All other starts, and lengths that are not REMBULFOSE_ABSENT,
+ * may be anything (R8.2). Leaves and flags may overlap and lie in any order in src. out: room for the value.
+ * The reserved fields of containers are written as zero (R8.5).
+ * first = bytes written. Order (R1.10): 33 (as in rembulfose_run), 34, 32; the place is always 0. 34 is given too for a list
+ * that does not cross (R9.4) or does not consist of whole entries, for a leaf or flags that src does not hold, empty leaves
+ * included (R8.7), and for a value that would be too large (R8.10). "No type" has the empty list and no bytes (R8.11). */
 rembulfose_answer rembulfose_write_value(const uint8_t *plan, size_t plan_len, const uint8_t *list, size_t list_len,
                                          const uint8_t *src, size_t src_len, uint8_t *out, size_t out_len);
 
-/* Finds the element that a path leads to from the top. The answer is a part of the value's own bytes, not a copy.
+/* Finds the element that a path leads to from the top (section 7). What is found are bytes of value itself; none is copied.
  * plan, value: as in rembulfose_run. path: words, the index of an element, then of one inside it, and so on: an index is the
- * second word of the element's entry in the list that rembulfose_run gives (sparse: the index sent; range: 0 lower, 1 upper).
- * The empty path is the whole value. No list room is needed: a value whose list has over 8,192 words can be searched.
- * first = start in the value, second = length. Order: 33 (as in rembulfose_run), 28, the value's faults, 35 (also for a path
- * that is no whole number of words or has over 8,192) or 36. Under "no type" every path is 35. */
+ * second word of the element's entry in the list that rembulfose_run gives (R6.3). A path of no words leads to the value as
+ * a whole. There is no list, so values that are too long to be listed can be searched (R7.7).
+ * first = start in the value, second = length. Order (R1.11): 33 (as in rembulfose_run), 28, the value's faults, 35 (also
+ * for a path that does not cross, R9.4) or 36. Under "no type" every path is 35 (R7.6). */
 rembulfose_answer rembulfose_find(const uint8_t *plan, size_t plan_len, const uint8_t *value, size_t value_len,
                                   const uint8_t *path, size_t path_len);
 
-/* Finds an element as rembulfose_find does, with the same arguments, and gives it as one number. Order: as there, then 37 for
- * all that is no int16, int32, int64, float32, float64, bool or memory. */
+/* Finds an element as rembulfose_find does, with the same arguments, and gives it as one number (R7.8 to R7.11). Order: as
+ * there, then 37 for all that is no int16, int32, int64, float32, float64, bool or memory. */
 rembulfose_number rembulfose_find_number(const uint8_t *plan, size_t plan_len, const uint8_t *value, size_t value_len,
                                          const uint8_t *path, size_t path_len);
 
 /* A refusal number's meaning in English, without a full stop: "the message is not whole yet". 0 is "not refused", and what is
  * no refusal number says so. The text is constant and never null. This one is plain C (host/refusal.c), and nothing about it
- * is proved. The installed archive has it; a host that links libpanel.a itself compiles that file too. */
+ * is proved. The installed archive has it; a host that links libc_panel.a itself compiles that file too. */
 const char *rembulfose_refusal_text(uint32_t number);
 
 #ifdef __cplusplus

@@ -20,7 +20,7 @@ use std::hint::black_box;
 /// Words of plan room in every call.
 const ROOM: usize = 8_192;
 
-/// "descriptor .. 65,535 bytes".
+/// The most bytes of a descriptor (R1.4).
 const MOST_BYTES: usize = 65_535;
 
 pub fn print() {

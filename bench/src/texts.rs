@@ -1,14 +1,14 @@
 //! The text check beside `std::str::from_utf8`.
 
-#[cfg(not(textbench))]
+#[cfg(not(wire_bench))]
 pub fn print() {
-    println!("Text check: left out, since TEXTBENCH_DIR was not set when this was built.");
+    println!("Text check: left out, since WIRE_BENCH_DIR was not set when this was built.");
 }
 
-#[cfg(textbench)]
+#[cfg(wire_bench)]
 pub use measured::print;
 
-#[cfg(textbench)]
+#[cfg(wire_bench)]
 mod measured {
     use crate::race::race;
     use std::hint::black_box;

@@ -22,7 +22,7 @@ pub struct Answer {
 }
 
 impl Answer {
-    /// On success number and place are 0 (reading 1.1).
+    /// On success number and place are 0 (R1.2).
     fn accepted(first: usize, second: usize) -> Answer {
         Answer {
             number: 0,
@@ -32,7 +32,7 @@ impl Answer {
         }
     }
 
-    /// "A refusal returns number and place, all else zero".
+    /// A refusal has a number and a place, and nothing else (R1.1).
     fn refused(refusal: Refusal) -> Answer {
         Answer {
             number: refusal.number,
@@ -70,8 +70,7 @@ fn put_out(given: Result<Vec<u8>, u32>, out: &mut [u8]) -> Answer {
     }
 }
 
-/// A list that cannot cross is 6 at 6's own turn, so an unknown type byte comes before it
-/// (reading 1.2).
+/// A list that cannot cross is 6 at 6's own turn, so an unknown type byte comes before it (R9.5).
 fn written(side: u32, type_byte: u8, list: &[u8], src: &[u8], room: usize) -> Result<Vec<u8>, u32> {
     if message::layout(side, type_byte).is_none() {
         return Err(refusal::UNKNOWN_TYPE);
@@ -96,7 +95,7 @@ fn answer(given: Result<Vec<u32>, Refusal>, room: &mut [u8]) -> Answer {
     }
 }
 
-/// A plan that cannot cross is 33, which comes first anyway (reading 1.2).
+/// A plan that cannot cross is 33, which comes first anyway (R9.4).
 fn listed(plan: &[u8], value: &[u8], room_words: usize) -> Result<Vec<u32>, Refusal> {
     match words::from_bytes(plan) {
         Some(plan) => value::run(&plan, value, room_words),
@@ -110,7 +109,7 @@ pub fn write_value(plan: &[u8], list: &[u8], src: &[u8], out: &mut [u8]) -> Answ
 }
 
 /// A list that cannot cross is 34 at 34's own turn, so a plan that is not well formed comes before
-/// it (reading 1.2).
+/// it (R9.5).
 fn supplied(plan: &[u8], list: &[u8], src: &[u8], room: usize) -> Result<Vec<u8>, u32> {
     let plan = words::from_bytes(plan).and_then(|words| Plan::read(&words));
     let plan = plan.ok_or(refusal::BAD_PLAN)?;
@@ -127,7 +126,7 @@ pub fn find(plan: &[u8], value: &[u8], path: &[u8]) -> Answer {
 }
 
 /// The plan's words and the entry found. A path that cannot cross is 35 at 35's own turn: after all
-/// faults of the value (reading 1.2).
+/// faults of the value (R9.5).
 fn found(plan: &[u8], value: &[u8], path: &[u8]) -> Result<(Vec<u32>, Entry), Refusal> {
     let plan = words::from_bytes(plan).ok_or(Refusal::at_start(refusal::BAD_PLAN))?;
     let list = find::whole_list(&plan, value)?;
@@ -145,7 +144,7 @@ pub struct NumberAnswer {
     pub bits: u64,
 }
 
-/// `rembulfose_find_number`: "Finding: 33, 28, value faults, 35 or 36, 37."
+/// `rembulfose_find_number`: what finding refuses, and then 37 (R1.11).
 pub fn find_number(plan: &[u8], value: &[u8], path: &[u8]) -> NumberAnswer {
     let found = found(plan, value, path);
     match found.and_then(|(plan, entry)| number::number(&plan, value, entry)) {
@@ -173,7 +172,7 @@ pub fn compile(descriptor: &[u8], root: &[u8], plan: &mut [u8]) -> Answer {
 }
 
 /// What `rembulfose_compile` and then `rembulfose_run` must come to where the plan had room: the
-/// rules read off the descriptor, their list room counted as the call counts it (reading 7.8).
+/// rules read off the descriptor, their list room counted as the call counts it (R4.10).
 pub fn run_off_descriptor(descriptor: &[u8], root: &[u8], value: &[u8], list: &mut [u8]) -> Answer {
     let room = words::room(list);
     answer(off_descriptor::run(descriptor, root, value, room), list)

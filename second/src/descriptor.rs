@@ -1,4 +1,4 @@
-//! Descriptors: 01, "Descriptors", and source document 001 for the orders of fields.
+//! Descriptors: docs/RULES.md, section 3; R3.3 has the order of fields.
 //!
 //! * `fields` reads a block's bytes, each field first whole; `references` has the rules of what a
 //!   block may refer to; `bodies` reads the fields of each tag, and `reader` one block after the
@@ -17,9 +17,9 @@ use crate::refusal::{self, Refusal};
 use block::{Blocks, Id};
 use reader::Reader;
 
-/// "Largest sizes: descriptor and value 65,535 bytes".
+/// The most bytes of a descriptor (R1.4).
 const MOST_BYTES: usize = 65_535;
-/// "No type": source document 001's "one special type with type id of zero".
+/// The id of "no type" (R3.17).
 const ZERO: Id = [0; 16];
 
 /// An accepted descriptor with its root.
@@ -33,23 +33,22 @@ pub enum Descriptor<'a> {
     },
 }
 
-/// Reads a descriptor. "Total size and then the root id's length and zero rules precede a
-/// descriptor's blocks"; the root itself is looked for after them.
+/// Reads a descriptor (R1.8): the total of bytes and what can be said of the root id alone come
+/// before the blocks, and the root itself is looked for after them.
 pub fn read<'a>(descriptor: &'a [u8], root: &[u8]) -> Result<Descriptor<'a>, Refusal> {
     if descriptor.len() > MOST_BYTES {
         return Err(Refusal::at_start(refusal::DESCRIPTOR_SIZE));
     }
     let no_root = Refusal::at(refusal::NO_ROOT, descriptor.len());
     let id: Id = root.try_into().map_err(|_| no_root)?;
-    // "Id zero with no bytes is accepted as "no type"; with bytes, or no bytes and another id ..:
-    // 18."
+    // R3.17: an id of zeros goes with no bytes, and any other with some.
     match (id == ZERO, descriptor.is_empty()) {
         (true, true) => return Ok(Descriptor::NoType),
         (true, false) | (false, true) => return Err(no_root),
         (false, false) => {}
     }
     let (blocks, indexes) = Reader::read(descriptor)?;
-    // "root missing or without values".
+    // R3.17: some block has the id, and that one has values.
     let root = *indexes.get(&id).ok_or(no_root)?;
     if !blocks.list[root].body.has_values() {
         return Err(no_root);
@@ -57,10 +56,10 @@ pub fn read<'a>(descriptor: &'a [u8], root: &[u8]) -> Result<Descriptor<'a>, Ref
     Ok(Descriptor::Typed { blocks, root })
 }
 
-/// The words of a descriptor's plan. 30 is the last of all (reading 3.9).
+/// The words of a descriptor's plan. 30 is the last of all (R4.9).
 pub fn compile(descriptor: &[u8], root: &[u8], room_words: usize) -> Result<Vec<u32>, Refusal> {
     let words = match read(descriptor, root)? {
-        // "the whole plan 2,0".
+        // R4.6: two words, and no node.
         Descriptor::NoType => vec![2, 0],
         Descriptor::Typed { blocks, root } => plan::words(&blocks.list, root),
     };

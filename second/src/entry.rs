@@ -1,12 +1,11 @@
-//! The entries of a list: 01, "Plan, list, finding", the second paragraph.
+//! The entries of a list: R6.1.
 
-/// "A list has five words an entry".
+/// The words of an entry (R6.1).
 pub const ENTRY_WORDS: usize = 5;
 /// An absent element's length.
 pub const ABSENT: u32 = 0xffff_ffff;
 
-/// "node, index in its parent .., start, length (ffffffff hex if absent), number of entries directly
-/// below".
+/// An entry's words, of which the length is ffffffff hex where the element is absent (R6.1).
 #[derive(Clone, Copy, Debug, PartialEq, Eq)]
 pub struct Entry {
     pub node: u32,
@@ -36,7 +35,7 @@ impl Entry {
     }
 
     /// The bytes at its start and length, or `None` where they are not all there, or start past the
-    /// end (reading 6.4).
+    /// end (R8.7).
     pub fn bytes<'a>(&self, source: &'a [u8]) -> Option<&'a [u8]> {
         source
             .get(self.start as usize..)?

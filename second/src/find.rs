@@ -1,17 +1,17 @@
-//! Finding: 01, "Plan, list, finding", the last paragraph.
+//! Finding: R7.1 to R7.7.
 //!
-//! The value is listed whole, and the path followed down the list: what it "names" is an entry.
+//! The value is listed whole, and the path followed down the list: what it leads to is an entry.
 
 use crate::entry::Entry;
 use crate::refusal::{self, Refusal};
 use crate::value;
 
-/// The entry of a value that a path leads to. "Finding: 33, 28, value faults, 35 or 36".
+/// The entry of a value that a path leads to: 35 or 36 come after all else (R1.11).
 pub fn find(plan: &[u32], value: &[u8], path: &[u32]) -> Result<Entry, Refusal> {
     named(&whole_list(plan, value)?, path)
 }
 
-/// All that comes before the path is looked at: no list room is needed (reading 7.6).
+/// All that comes before the path is looked at: no list room is needed (R7.7).
 pub fn whole_list(plan: &[u32], value: &[u8]) -> Result<Vec<u32>, Refusal> {
     value::run(plan, value, usize::MAX)
 }
@@ -28,7 +28,7 @@ pub fn named(list: &[u32], path: &[u32]) -> Result<Entry, Refusal> {
     Ok(entry)
 }
 
-/// "A path of index words leads down from the top". Under "no type" there is no top.
+/// Down from the top, by one index after the other (R7.2). Under "no type" there is no top (R7.6).
 fn follow(entries: &[Entry], path: &[u32]) -> Option<Entry> {
     let mut at = 0;
     for &index in path {

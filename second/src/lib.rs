@@ -1,6 +1,6 @@
-//! The independent second program. It is written from document 01 and the source documents alone,
-//! in the plainest Rust that says what they say, and never from the library's own code: where the
-//! two agree on many inputs, a mistake would have to have been made twice.
+//! The independent second program. It is written from the requirements alone, in the plainest Rust
+//! that says what they say, and never from the library's own code: where the two agree on many
+//! inputs, a mistake would have to have been made twice.
 //!
 //! * [`message`] reads and writes the ten messages on words and bytes.
 //! * [`plan`] reads a plan, [`scalar`] has the twenty formats, and [`value`] checks and lists a
@@ -12,7 +12,7 @@
 //! * [`refusal`] has the refusal numbers of all.
 //! * [`crossing`] is the same as a C host sees it: lists as bytes, and one [`crossing::Answer`].
 //!
-//! "01" in a comment is document 01, "reading" the project's paper on how it is read.
+//! A number such as R5.3 in a comment is a rule of docs/RULES.md, which says what is required.
 
 pub mod crossing;
 pub mod descriptor;

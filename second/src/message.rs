@@ -1,4 +1,4 @@
-//! The ten messages: 01, "Messages".
+//! The ten messages: docs/RULES.md, section 2.
 
 mod layout;
 mod reader;
@@ -8,6 +8,6 @@ pub use layout::{layout, Field, CLIENT, SERVER};
 pub use reader::{read_message, Read};
 pub use writer::write_message;
 
-/// "length (it counts itself, not the type)": its least and greatest value, by refusal 2.
+/// The length field counts itself and not the type byte: its least and greatest value (R2.3).
 const LEAST_LENGTH: usize = 4;
 const MOST_LENGTH: usize = 65_535;

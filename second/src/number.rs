@@ -1,4 +1,4 @@
-//! Numbers: 01, "Plan, list, finding", the last paragraph.
+//! Numbers: R7.8 to R7.11.
 
 use crate::entry::Entry;
 use crate::refusal::{self, Refusal};
@@ -12,12 +12,11 @@ pub struct Number {
     pub bits: u64,
 }
 
-/// The number of an entry of a value, both accepted by the plan: it has one by its format (reading
-/// 7.4).
+/// The number of an entry of a value, both accepted by the plan: it has one by its format (R7.8).
 pub fn number(plan: &[u32], value: &[u8], entry: Entry) -> Result<Number, Refusal> {
     let content = entry.bytes(value);
     let number = match (&plan[entry.node as usize..], content) {
-        // "Leaf 1,f."
+        // A scalar's node: 1, and its format (R4.2).
         (&[1, format, ..], Some(content)) => {
             let bits = Format::numbered(format).and_then(|format| bits(format, content));
             bits.map(|bits| Number { format, bits })
@@ -27,8 +26,7 @@ pub fn number(plan: &[u32], value: &[u8], entry: Entry) -> Result<Number, Refusa
     number.ok_or(Refusal::at_start(refusal::NO_NUMBER))
 }
 
-/// "An int16, int32, int64, memory, bool or float element can be had as one number of its kind, a
-/// float with every bit kept."
+/// Integers with their sign in all 64 bits, bools, and floats by their own bits (R7.9, R7.10).
 fn bits(format: Format, content: &[u8]) -> Option<u64> {
     match format {
         Format::Int16 | Format::Int32 | Format::Int64 | Format::Memory => Some(signed(content)),

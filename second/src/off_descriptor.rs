@@ -1,7 +1,6 @@
-//! The rules of values read off the descriptor, with no plan inside: 01, "Plan, list, finding",
-//! the third paragraph. Scalars and the heads of containers have the rules that they have by plan;
-//! kind, count, format and cardinalities are looked up in the blocks, by `members` where there are
-//! many.
+//! The rules of values read off the descriptor, with no plan inside: R4.10 to R4.13. Scalars and
+//! the heads of containers have the rules that they have by plan; kind, count, format and
+//! cardinalities are looked up in the blocks, by `members` where there are many.
 
 mod members;
 
@@ -16,8 +15,8 @@ use crate::value::MOST_BYTES;
 use members::{members, node_words, Absence, Member};
 use std::collections::HashSet;
 
-/// The list of a value of the root block. A descriptor that is not accepted has its own number
-/// (reading 7.7); then "the rules give 28, else the first value fault, else 31, else the list".
+/// The list of a value of the root block. A descriptor that is not accepted has its own number;
+/// then come 28, the value's first fault, and 31 (R4.13).
 pub fn run(
     descriptor: &[u8],
     root: &[u8],
@@ -38,7 +37,7 @@ pub fn run(
     Ok(words)
 }
 
-/// "it accepts only zero bytes, listing nothing (else 21, place 0)".
+/// No bytes, and an empty list; any other value is 21 at 0 (R4.6).
 fn no_type(value: &[u8]) -> Result<Vec<u32>, Refusal> {
     if value.is_empty() {
         Ok(Vec::new())
@@ -56,7 +55,7 @@ struct Rules<'a> {
 }
 
 impl<'a> Rules<'a> {
-    /// "The top is a value of the root block".
+    /// The whole value belongs to the root block (R4.11).
     fn of(blocks: &'a [Block], root: usize, value: &'a [u8]) -> Result<Vec<u32>, Refusal> {
         let mut rules = Rules {
             blocks,
@@ -108,8 +107,8 @@ impl<'a> Rules<'a> {
         }
     }
 
-    /// A set or array: each element has a head, which gives its length. "an element is one of the
-    /// block its element reference names."
+    /// A set or array: each element has a head, which gives its length, and belongs to the block
+    /// that the element reference names (R4.11).
     fn row<'v>(
         &mut self,
         element: u16,
@@ -148,8 +147,8 @@ impl<'a> Rules<'a> {
         Ok(count)
     }
 
-    /// An input object: "head whole, 25, 26, 23 or 27, fit, then the element as a value. After the
-    /// last: 21, then 27 for a required index not given."
+    /// An input object: the checks of each entry in the order of R5.10, and at the end those of
+    /// R5.14.
     fn sparse(&mut self, members: &[Member], mut object: Container) -> Result<u32, Refusal> {
         let count = object.number()?;
         object.demand(count >= 0)?;

@@ -1,20 +1,20 @@
-//! Plans: 01, "Plan, list, finding", the first paragraph.
+//! Plans: R4.1 to R4.6.
 
 use crate::scalar::Format;
 
-/// "1,024 indexed blocks": a plan has a node for each block with values at most.
+/// The most nodes, as many as a descriptor may have blocks (R1.4).
 const MOST_NODES: usize = 1_024;
-/// "512 elements .. in a block".
+/// The most elements of a node (R1.4).
 const MOST_ELEMENTS: u32 = 512;
-/// "height 32 (a leaf is 1, a container one more than its highest element, an empty container 1)".
+/// The greatest height of a node (R1.4, R4.5).
 const MOST_HEIGHT: u32 = 32;
-/// "total, root position, then a node for each block": nodes start here.
+/// Where the first node starts: after the number of words and that of the root's node (R4.1).
 const FIRST_NODE: usize = 2;
 
 /// A well-formed plan.
 #[derive(Clone, Debug, PartialEq, Eq)]
 pub enum Plan {
-    /// "the whole plan 2,0, well formed though it has no node".
+    /// The words 2 and 0, a plan without a node (R4.6).
     NoType,
     Typed(Tree),
 }
@@ -56,12 +56,12 @@ pub struct Element {
 }
 
 impl Element {
-    /// "Cardinality: 6e none, 6f at most one, 41 one, 6d many, 4d at least one."
+    /// None, at most one, one, many, at least one (R2.10).
     fn is_permitted(&self) -> bool {
         [0x6e, 0x6f, 0x41, 0x6d, 0x4d].contains(&self.cardinality)
     }
 
-    /// "Cardinalities 41 and 4d are required; others may be -1."
+    /// One, or at least one (R5.11).
     pub fn is_required(&self) -> bool {
         [0x41, 0x4d].contains(&self.cardinality)
     }
@@ -69,25 +69,25 @@ impl Element {
 
 impl Plan {
     /// The plan of these words, or `None` where it is not well formed (refusal 33). All nodes are
-    /// judged, also those that the root does not reach (reading 4.1).
+    /// judged, also those that the root does not reach (R4.4).
     pub fn read(words: &[u32]) -> Option<Plan> {
         if words == [2, 0] {
             return Some(Plan::NoType);
         }
         let (&[total, root], _) = words.split_first_chunk()?;
-        // "total is the run's length".
+        // R4.4: word 0 is the number of words.
         if usize::try_from(total).ok()? != words.len() {
             return None;
         }
         let tree = Tree::read(words, root)?;
-        // "root starts a node".
+        // R4.4: word 1 is the number of a node.
         tree.get(root)?;
         Some(Plan::Typed(tree))
     }
 }
 
 impl Tree {
-    /// "nodes fill it", from word 2 to the end without gap (reading 4.2).
+    /// The nodes, which follow each other from word 2 to the end (R4.4).
     fn read(words: &[u32], root: u32) -> Option<Tree> {
         let nodes = vec![None; words.len()];
         let mut tree = Tree { root, nodes };
@@ -108,7 +108,7 @@ impl Tree {
     fn height(&self, node: &Node) -> Option<u32> {
         let mut highest = 0;
         for reference in node.references() {
-            // "A ref is the start of an earlier node".
+            // R4.3: a ref is the number of an earlier node.
             let element = self.get(reference)?;
             if !node.admits(&element.node) {
                 return None;
@@ -147,7 +147,7 @@ impl Node {
         }
     }
 
-    /// "for 2 neither a 2 nor a 3, for 3 a 2, for 7 a 1, else any".
+    /// To which kinds a ref may lead (R4.3).
     fn admits(&self, element: &Node) -> bool {
         match self {
             Node::Set(_) => !matches!(element, Node::Set(_) | Node::SetOfArrays(_)),
@@ -192,7 +192,7 @@ impl Words<'_> {
         (0..count).map(|_| item(self)).collect()
     }
 
-    /// "pairs ref, cardinality".
+    /// Its ref and its cardinality.
     fn element(&mut self) -> Option<Element> {
         let (node, cardinality) = (self.word()?, self.word()?);
         let element = Element { node, cardinality };

@@ -1,68 +1,68 @@
-//! Refusals: 01, "Refusal numbers".
+//! Refusals: R1.3.
 
-/// Message not whole yet.
+/// A message whose end is not there yet.
 pub const NOT_WHOLE: u32 = 1;
-/// Length field under 4 or over 65,535.
+/// A length field that no message has.
 pub const BAD_LENGTH: u32 = 2;
-/// Type byte unknown for that side.
+/// A type byte that the side does not have.
 pub const UNKNOWN_TYPE: u32 = 3;
-/// A field runs past the message's end.
+/// A message is over before a field is.
 pub const FIELD_PAST_END: u32 = 4;
-/// Message bytes left over.
+/// A message goes on after its last field.
 pub const BYTES_LEFT: u32 = 5;
-/// Field content not permitted.
+/// A field of a message holds what it must not.
 pub const BAD_FIELD: u32 = 6;
-/// Descriptor ends inside a field.
+/// A descriptor is over before a field is.
 pub const CUT_DESCRIPTOR: u32 = 10;
-/// Unknown tag.
+/// A tag that no block has.
 pub const UNKNOWN_TAG: u32 = 11;
-/// Field content not permitted, in a descriptor.
+/// A field of a block holds what it must not.
 pub const BAD_CONTENT: u32 = 12;
-/// Reference not to an earlier block.
+/// A reference to no earlier block.
 pub const BAD_REFERENCE: u32 = 13;
-/// Reference to a block of the wrong kind.
+/// A reference to a block that may not be used there.
 pub const WRONG_KIND: u32 = 14;
-/// Block id zero, or equal to an earlier one.
+/// A block's id that is all zero, or was used before.
 pub const BAD_ID: u32 = 15;
-/// Name twice in an input shape or named tuple.
+/// Two elements of one input shape or named tuple have one name.
 pub const NAME_TWICE: u32 = 16;
-/// A descriptor size is passed.
+/// A descriptor is larger than one may be.
 pub const DESCRIPTOR_SIZE: u32 = 17;
-/// Root missing or without values.
+/// No block has the root id, or none with values.
 pub const NO_ROOT: u32 = 18;
-/// Container ends inside a head, or an element passes its end.
+/// A container is over before a head, or an element's data, is.
 pub const CUT_CONTAINER: u32 = 20;
-/// Bytes left over in a container.
+/// A container goes on after its last element.
 pub const BYTES_OVER: u32 = 21;
-/// Head field not permitted.
+/// A head holds what it must not.
 pub const BAD_HEAD: u32 = 22;
-/// Length below -1, or -1 in a set, array, tuple or range.
+/// A negative length that does not mean absent.
 pub const BAD_ELEMENT_LENGTH: u32 = 23;
-/// Scalar or enumeration content not permitted.
+/// The bytes of a scalar or an enumeration break its rule.
 pub const BAD_SCALAR: u32 = 24;
-/// Sparse index outside the shape.
+/// A sparse entry's index is none of its shape's.
 pub const INDEX_OUTSIDE: u32 = 25;
-/// Sparse index given twice.
+/// Two sparse entries have one index.
 pub const INDEX_TWICE: u32 = 26;
-/// Required index not given, or required element of length -1.
+/// A required element is absent, or is not given.
 pub const REQUIRED: u32 = 27;
-/// Value over 65,535 bytes.
+/// A value is larger than one may be.
 pub const VALUE_SIZE: u32 = 28;
-/// Plan room too small.
+/// The plan does not fit its room.
 pub const PLAN_ROOM: u32 = 30;
-/// List room too small.
+/// The list does not fit its room.
 pub const LIST_ROOM: u32 = 31;
-/// Output room too small.
+/// What is written does not fit its room.
 pub const OUTPUT_ROOM: u32 = 32;
-/// Plan not well formed.
+/// Words that are no plan.
 pub const BAD_PLAN: u32 = 33;
-/// No accepted value has this supply.
+/// A supply of no accepted value.
 pub const NO_VALUE: u32 = 34;
-/// Path names no entry.
+/// A path to no entry.
 pub const NO_ENTRY: u32 = 35;
-/// Path ends at an absent element.
+/// A path to an absent element.
 pub const ABSENT_ELEMENT: u32 = 36;
-/// Element has no single number.
+/// An element that is not a number.
 pub const NO_NUMBER: u32 = 37;
 
 /// Why something was not accepted, and where.

@@ -1,8 +1,6 @@
-//! What scalars and enumerations may hold: 01, "Values", the last paragraph, and source document
-//! 000 for the sizes.
+//! What scalars and enumerations may hold: R5.15 to R5.17.
 
-/// The twenty formats, in the order of their numbers 0 to 19: 01, "Descriptors", the last
-/// paragraph.
+/// The twenty formats, in the order of their numbers 0 to 19 (R5.15).
 #[derive(Clone, Copy, Debug, PartialEq, Eq)]
 pub enum Format {
     Uuid,
@@ -27,7 +25,7 @@ pub enum Format {
     Memory,
 }
 
-/// "digits to 9,999".
+/// The greatest digit of a decimal or bigint (R5.16).
 const MOST_DIGIT: u16 = 9_999;
 
 impl Format {
@@ -54,7 +52,7 @@ impl Format {
         Format::Memory,
     ];
 
-    /// "Formats are numbered 0 to 19 in this order."
+    /// The format of a number, if it is one of the twenty.
     pub fn numbered(number: u32) -> Option<Format> {
         Format::ALL.get(number as usize).copied()
     }
@@ -71,30 +69,30 @@ impl Format {
             Format::Duration => duration(content),
             Format::Int16 => content.len() == 2,
             Format::Int32 | Format::Float32 | Format::LocalDate => content.len() == 4,
-            // "Times take any integer."
+            // Times and dates have no limits (R5.15).
             Format::Int64
             | Format::Float64
             | Format::Datetime
             | Format::LocalDatetime
             | Format::LocalTime
             | Format::Memory => content.len() == 8,
-            // date_duration's reserved field is "not looked at".
+            // The reserved bytes of a date_duration may be anything (R5.18).
             Format::Uuid | Format::RelativeDuration | Format::DateDuration => content.len() == 16,
         }
     }
 }
 
-/// "Enumeration values are any UTF-8 text."
+/// Any text, a member or not (R5.17).
 pub fn enumeration(content: &[u8]) -> bool {
     is_text(content)
 }
 
-/// "well-formed UTF-8 (Unicode Standard, Table 3-7)".
+/// Well-formed text (R2.6).
 fn is_text(content: &[u8]) -> bool {
     std::str::from_utf8(content).is_ok()
 }
 
-/// "json byte 1, then UTF-8", and no grammar (reading 5.12).
+/// The byte 1 and then text, whatever its grammar (R5.15).
 fn json(content: &[u8]) -> bool {
     match content.split_first() {
         Some((1, text)) => is_text(text),
@@ -102,7 +100,7 @@ fn json(content: &[u8]) -> bool {
     }
 }
 
-/// "duration's last 8 bytes zero".
+/// Microseconds, and eight bytes that are zero (R5.15).
 fn duration(content: &[u8]) -> bool {
     content.len() == 16 && content[8..] == [0; 8]
 }
@@ -115,7 +113,7 @@ struct Digits {
     fourth: u16,
 }
 
-/// "decimal exactly 8 + 2n bytes, sign 0 or 4000 hex, digits to 9,999".
+/// The fields that decimal and bigint share, and the digits (R5.16).
 fn digits(content: &[u8]) -> Option<Digits> {
     let word = |pair: &[u8]| u16::from_be_bytes([pair[0], pair[1]]);
     let (head, rest) = content.split_at_checked(8)?;
@@ -129,13 +127,12 @@ fn digits(content: &[u8]) -> Option<Digits> {
     })
 }
 
-/// Any weight and any display scale pass (reading 5.13).
+/// Any weight and any display scale pass (R5.16).
 fn decimal(content: &[u8]) -> bool {
     digits(content).is_some()
 }
 
-/// "bigint also reserved zero and, if n > 0, n at most weight + 1", in plain integers (reading
-/// 5.13).
+/// Its last field is zero, and no digit is a fraction (R5.16).
 fn bigint(content: &[u8]) -> bool {
     digits(content).is_some_and(|digits| {
         let room = i32::from(digits.weight) + 1;

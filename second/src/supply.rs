@@ -1,4 +1,4 @@
-//! Writing values: 01, "Plan, list, finding", the paragraph on supplies.
+//! Writing values: docs/RULES.md, section 8.
 //!
 //! The value is put together entry by entry, as its list would be read. Each word that counts is
 //! held against the only one that an accepted value could have there; where it differs, or where
@@ -14,8 +14,7 @@ use crate::plan::Plan;
 use crate::refusal;
 use builder::Builder;
 
-/// The value of a supply. "Value writer: 33, 34, 32", of which the first was given where the plan
-/// was read.
+/// The value of a supply. Of 33, 34 and 32 (R1.10) the first was given where the plan was read.
 pub fn write_value(plan: &Plan, list: &[u32], src: &[u8], room: usize) -> Result<Vec<u8>, u32> {
     let value = value(plan, list, src).ok_or(refusal::NO_VALUE)?;
     if value.len() > room {
@@ -24,10 +23,10 @@ pub fn write_value(plan: &Plan, list: &[u32], src: &[u8], room: usize) -> Result
     Ok(value)
 }
 
-/// "the accepted value that has the supply and whose containers' reserved fields are zero".
+/// The accepted value that has the supply, with its containers' reserved fields zero (R8.4, R8.5).
 fn value(plan: &Plan, list: &[u32], src: &[u8]) -> Option<Vec<u8>> {
     match plan {
-        // The empty value lists nothing (reading 6.5).
+        // The value of no type has no entries (R8.11).
         Plan::NoType => list.is_empty().then(Vec::new),
         Plan::Typed(tree) => Builder::whole(tree, list, src),
     }

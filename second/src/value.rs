@@ -1,4 +1,4 @@
-//! Values by plan: 01, "Values" and "Plan, list, finding".
+//! Values by plan: docs/RULES.md, sections 5 and 6.
 //!
 //! * `walk` goes through a value by its node and lists what it passes.
 //! * `set`, `object` and `range` have the containers' rules, and `heads` those of what stands at
@@ -16,10 +16,10 @@ use crate::plan::Plan;
 use crate::refusal::{self, Refusal};
 use walk::Walk;
 
-/// "Largest sizes: descriptor and value 65,535 bytes".
+/// The most bytes of a value (R1.4).
 pub(crate) const MOST_BYTES: usize = 65_535;
 
-/// The list of a value by the words of a plan. "Run: 33, 28, value faults, 31."
+/// The list of a value by the words of a plan, or the first refusal in the order of R1.9.
 pub fn run(plan: &[u32], value: &[u8], room_words: usize) -> Result<Vec<u32>, Refusal> {
     let Some(plan) = Plan::read(plan) else {
         return Err(Refusal::at_start(refusal::BAD_PLAN));
@@ -37,7 +37,7 @@ pub fn run(plan: &[u32], value: &[u8], room_words: usize) -> Result<Vec<u32>, Re
 /// The list of a value, or its first fault.
 fn list(plan: &Plan, value: &[u8]) -> Result<Vec<u32>, Refusal> {
     match plan {
-        // "it accepts only zero bytes, listing nothing (else 21, place 0)".
+        // R4.6: no bytes, and an empty list; any other value is 21 at 0.
         Plan::NoType if value.is_empty() => Ok(Vec::new()),
         Plan::NoType => Err(Refusal::at_start(refusal::BYTES_OVER)),
         Plan::Typed(tree) => Walk::of(tree, value),

@@ -1,6 +1,6 @@
-//! Lists of 32-bit words as they cross to and from C: 01, "What the panel needs".
+//! Lists of 32-bit words as they cross to and from C: R9.3, R9.4, R9.6.
 
-/// "at most 8,192 words each".
+/// The most words of a run that crosses (R1.4).
 const MOST_WORDS: usize = 8_192;
 
 /// The words of lent bytes, four to a word; `None` for bytes left over or more than 8,192 words.
@@ -12,7 +12,7 @@ pub fn from_bytes(bytes: &[u8]) -> Option<Vec<u32>> {
     Some(bytes.chunks_exact(4).map(word).collect())
 }
 
-/// "room counts in whole words, 8,192 at most": a larger or odd room is no fault (reading 1.3).
+/// A room counts in whole words, up to the most; a larger or odd one is no fault (R9.6).
 pub fn room(bytes: &[u8]) -> usize {
     (bytes.len() / 4).min(MOST_WORDS)
 }

@@ -17,8 +17,8 @@ enum { STACK = REMBULFOSE_STACK };
 
 enum { FILL = 0xa5, MARGIN = 16, MOST = 1024 };
 
-/* The header's constants have short names here and in the tests; header.c holds them to document 01's
- * numbers. */
+/* The header's constants have short names here and in the tests; header.c holds them to the numbers of
+ * docs/RULES.md. */
 enum { MOST_WORDS = REMBULFOSE_MOST_WORDS };
 
 static unsigned passed, failed;

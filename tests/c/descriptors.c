@@ -1,6 +1,6 @@
 /* The call that compiles a descriptor as a C host makes it, on cases worked out by hand.
  *
- *     cc -std=c11 -Wall -Wextra -pthread tests/c/descriptors.c target/staticlib/libpanel.a \
+ *     cc -std=c11 -Wall -Wextra -pthread tests/c/descriptors.c target/staticlib/libc_panel.a \
  *         -o target/c-descriptors
  *
  * Descriptors and values are written in hex, spaces for the eye only; plans and lists as decimal
@@ -43,7 +43,7 @@ static void bad(const char *name, const char *descriptor, const char *root, uint
 #define INT64_ID "00000000000000000000000000000105"
 #define STR_ID "00000000000000000000000000000101"
 
-/* 01's descriptor A: an int64 of 34 bytes, and a set of it. */
+/* Descriptor A of docs/RULES.md: an int64 of 34 bytes, and a set of it. */
 #define INT64 "03" INT64_ID "0000000a 7374643a3a696e743634 01 0000"
 #define DESCRIPTOR_A INT64 "00" ONES "0000"
 #define PLAN_A "6 4 1 5 2 2"
@@ -51,7 +51,7 @@ static void bad(const char *name, const char *descriptor, const char *root, uint
 #define SCHEMA "00000000 00 0000"
 #define STR "03" STR_ID SCHEMA
 
-/* The cases of document 01 that have a descriptor. */
+/* The cases of docs/RULES.md that have a descriptor. */
 static void edges(void) {
     good("case 1", DESCRIPTOR_A, ONES, PLAN_A);
     good("case 1, root int64", DESCRIPTOR_A, INT64_ID, "6 2 1 5 2 2");
@@ -150,7 +150,7 @@ static void null_pointers(void) {
           same_answer(rembulfose_compile(bytes, length, bytes + 35, 16, NULL, 0), refused(30, 0)));
 }
 
-/* The plan of descriptor A runs case 2 of document 01. */
+/* The plan of descriptor A runs case 2 of docs/RULES.md. */
 static void compile_and_run(void) {
     uint8_t descriptor[MOST], value[MOST], plan[24], list[60], expected[60];
     size_t length = bytes_of(DESCRIPTOR_A, descriptor);

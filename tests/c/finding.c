@@ -1,7 +1,7 @@
 /* The calls that find an element and its number as a C host makes them, on cases worked out by
  * hand.
  *
- *     cc -std=c11 -Wall -Wextra -pthread tests/c/finding.c target/staticlib/libpanel.a \
+ *     cc -std=c11 -Wall -Wextra -pthread tests/c/finding.c target/staticlib/libc_panel.a \
  *         -o target/c-finding
  *
  * Values are written in hex, spaces for the eye only; plans and paths as decimal words. What is
@@ -52,7 +52,7 @@ static void bad(const char *name, const char *plan, const char *value, const cha
     finding(name, plan, value, path, refused(number, place), no_number(number, place));
 }
 
-/* A set of int64 and 01's case 2 of it, {7, -1}. */
+/* A set of int64, and case 2 of docs/RULES.md, {7, -1}. */
 #define SET_PLAN "6 4 1 5 2 2"
 #define TWO                                                                                        \
     "00000001 0000000000000000 00000002 00000001 00000008 0000000000000007"                        \

@@ -1,7 +1,7 @@
-/* The header's constants and its word reader: each is compared with document 01's number, written out here, and
- * with what the library gives. A constant that is wrong, or two that are exchanged, cannot pass.
+/* The header's constants and its word reader: each is compared with the number of docs/RULES.md, written out
+ * here, and with what the library gives. A constant that is wrong, or two that are exchanged, cannot pass.
  *
- *     cc -std=c11 -Wall -Wextra -pthread tests/c/header.c target/staticlib/libpanel.a \
+ *     cc -std=c11 -Wall -Wextra -pthread tests/c/header.c target/staticlib/libc_panel.a \
  *         -o target/c-header
  *
  * Descriptors and values are written in hex, spaces for the eye only; plans and lists as decimal words.
@@ -35,7 +35,7 @@ static int compiles(const char *descriptor, const char *root, const char *plan) 
     return good;
 }
 
-/* The last two bytes of a scalar's id, document 01's number of its format, and the header's. */
+/* The last two bytes of a scalar's id, the number of its format (R3.15), and the header's. */
 struct format {
     const char *id;
     uint32_t number, constant;
@@ -76,7 +76,7 @@ static void each_format(void) {
     count("number of formats", REMBULFOSE_FORMATS == 20);
 }
 
-/* The header's kind, document 01's number, and a descriptor whose root is of it, with the plan. */
+/* The header's kind, its number (R4.2), and a descriptor whose root is of it, with the plan. */
 struct kind {
     uint32_t constant, number;
     const char *descriptor, *root, *plan;

@@ -1,6 +1,6 @@
 /* The message calls as a C host makes them, on cases worked out by hand.
  *
- *     cc -std=c11 -Wall -Wextra -pthread tests/c/messages.c target/staticlib/libpanel.a \
+ *     cc -std=c11 -Wall -Wextra -pthread tests/c/messages.c target/staticlib/libc_panel.a \
  *         -o target/c-messages
  *
  * Bytes are written in hex, spaces for the eye only. Every room is filled before the call and looked

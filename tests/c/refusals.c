@@ -1,4 +1,4 @@
-/* The refusal numbers in words: each number of document 01 has a text of its own, and no other has. */
+/* The refusal numbers in words: each number of R1.3 has a text of its own, and no other has. */
 #define _DEFAULT_SOURCE
 #include "cases.h"
 
@@ -19,7 +19,7 @@ static int alone(uint32_t number) {
     return 1;
 }
 
-/* The numbers of document 01's table, by their names in the header. */
+/* The numbers of R1.3, by their names in the header. */
 static const uint32_t table[][2] = {
     {REMBULFOSE_NOT_WHOLE, 1},        {REMBULFOSE_BAD_LENGTH, 2},
     {REMBULFOSE_UNKNOWN_TYPE, 3},     {REMBULFOSE_FIELD_PAST_END, 4},

@@ -1,6 +1,6 @@
 /* The call that writes a value from a supply as a C host makes it, on cases worked out by hand.
  *
- *     cc -std=c11 -Wall -Wextra -pthread tests/c/supplies.c target/staticlib/libpanel.a \
+ *     cc -std=c11 -Wall -Wextra -pthread tests/c/supplies.c target/staticlib/libc_panel.a \
  *         -o target/c-supplies
  *
  * Sources and values are written in hex, spaces for the eye only; plans and lists as decimal words.
@@ -42,7 +42,7 @@ static void bad(const char *name, const char *plan, const char *list, const char
     writing(name, plan, list, source, 0, refused(number, 0), "");
 }
 
-/* A set of int64 and 01's case 2 of it, {7, -1}. */
+/* A set of int64, and case 2 of docs/RULES.md, {7, -1}. */
 #define SET_PLAN "6 4 1 5 2 2"
 #define TWO_LIST "4 0 0 44 2  2 0 24 8 0  2 1 36 8 0"
 #define ELEMENTS "00000002 00000001 00000008 0000000000000007 00000008 ffffffffffffffff"

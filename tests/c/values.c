@@ -1,6 +1,6 @@
 /* The call for values by plan as a C host makes it, on cases worked out by hand.
  *
- *     cc -std=c11 -Wall -Wextra -pthread tests/c/values.c target/staticlib/libpanel.a \
+ *     cc -std=c11 -Wall -Wextra -pthread tests/c/values.c target/staticlib/libc_panel.a \
  *         -o target/c-values
  *
  * Values are written in hex, spaces for the eye only; plans and lists as decimal words. Every room
@@ -38,7 +38,7 @@ static void bad(const char *name, const char *plan, const char *value, uint32_t 
     "00000008 ffffffffffffffff"
 #define ABSENT "4294967295"
 
-/* The cases of document 01 that have a value. */
+/* The cases of docs/RULES.md that have a value. */
 static void edges(void) {
     good("case 2", SET_PLAN, TWO, "4 0 0 44 2  2 0 24 8 0  2 1 36 8 0");
     good("case 3", SET_PLAN, "00000000 0000000000000000", "4 0 0 12 0");

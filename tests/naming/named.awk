@@ -3,13 +3,13 @@
 #                                      the same with proofs/ for theorems and src/ for functions. A file that is given in brackets
 #                                      holds up to the closing one. A name in brackets, after a file outside of them, is any word of it.
 #   `crate::module::function`          a function, type or module of the code
-#   `crate/edit`                       a must-fail edit; in the tables of PROMISES: crate `edit`. The crate `build` has the name of the folder
-#                                      of programs: `build/..` is an edit after the word must-fail, and else a program.
+#   `crate/edit`                       a must-fail edit; in the tables of PROMISES: crate `edit`
 #   `rembulfose_..`, `make target`     a C call; a target of the Makefile
+#   `panel command`                    a command of the panel program, which has a file of that name in host/
 #   tests/.., host/.., ..              a file or folder, in backticks or not
 # In TRACE and PROMISES no other name may stand in backticks (kind 'unplaced'); elsewhere any other is a crate. The variable foreign lists words
 # that are no names of ours.
-# Code that is set apart gives paths and make's targets only; but for README's list of promises, which has names and their file.
+# Code that is set apart gives paths and make's targets only; but for ARCHITECTURE's list of promises, which has names and their file.
 BEGIN {
   TOP = "^(bench|build|crates|demo|docs|examples|host|include|second|tests|tools|[.]ci)/"
   PLACE = "^[a-z_]+/(specs|proofs|src)([/:,;.]|$)"
@@ -38,7 +38,6 @@ function begin_document() {
 
 function forget() {
   depth = 0
-  must_fail = 0
   at[0] = ""
 }
 
@@ -49,7 +48,7 @@ function say(kind, name) {
 
 # ---- tables
 
-# The first column of TRACE is what the papers say, and names nothing.
+# The first column of TRACE is the rule, and names nothing.
 function row(   cells, n, i) {
   if (!in_table) {
     in_table = 1
@@ -117,10 +116,8 @@ function plain(text,   words, n, i, w) {
     w = words[i]
     if (w == "(") at[++depth] = ""
     else if (w == ")") depth -= depth > 0
-    else if (w == "must-fail") must_fail = 1
     else if (w ~ TOP) path(w)
     else if (w ~ PLACE) place(w)
-    if (w ~ /;$/) must_fail = 0
   }
 }
 
@@ -131,7 +128,8 @@ function ticked(token) {
   } else if (token ~ /^rembulfose_/) say("call", token)
   else if (token ~ /^REMBULFOSE_/) say("word", "include/rembulfose.h " token)
   else if (token ~ /^make /) target(token)
-  else if (token ~ EDIT && (must_fail || token !~ TOP)) say("edit", token)
+  else if (token ~ /^panel [a-z]+/) command(token)
+  else if (token ~ EDIT && token !~ TOP) say("edit", token)
   else if (token ~ TOP || token ~ /^[a-z-]+(\/|\.[a-z]+)$/) path(token)
   else if (token ~ PLACE) place(token)
   else name(token)
@@ -176,6 +174,11 @@ function path(w) {
 function target(text,   words) {
   split(text, words, " ")
   say("target", words[2])
+}
+
+function command(text,   words) {
+  split(text, words, " ")
+  say("file", "host/" words[2] ".c")
 }
 
 # ---- code that is set apart

@@ -1,5 +1,5 @@
-/* Makes a capture on standard output whose rows have every scalar format: source document
- * 000's examples first, then values at the edges. The last element of a row is a set of arrays. */
+/* Makes a capture on standard output whose rows have every scalar format: the examples of the protocol's
+ * description first, then values at the edges. The last element of a row is a set of arrays. */
 #include "../../demo/build.h"
 #include "../../host/capture.h"
 #include "../hex.h"

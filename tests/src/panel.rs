@@ -1,5 +1,6 @@
-//! What the panel program prints, worked out a second time: from document 01, the source documents
-//! and host/README.md, on the second program and with none of the panel program's code.
+//! What the panel program prints, worked out a second time: from the requirements, the description
+//! of the protocol and host/README.md, on the second program and with none of the panel program's
+//! code.
 //!
 //! * [`human`] has scalars in human form, with [`calendar`], `float` and [`texts`], which knows by
 //!   `unseen` what is escaped.

@@ -1,15 +1,16 @@
--- A contract of the number leaves one answer. Assumes nothing.
+-- A contract of the number leaves one answer.
 use mathlib.Core.Path.{_≡_, refl, ap, sym, _∙_}
 use mathlib.Core.Bool.{Bool, true, false, cond}
 use Prim.Native.Nat.{ℕ}
 use lib.Dec.{eqb}
 use lib.Ieee.{Format, Float, binary32, binary64, ofBits, toBits, nanBits, isNan}
 use lib.Ieee.Bits.{is-true, is-false, ofBits-toBits, nanBits-is}
-use Rattle.wire.specs.Choice.{pick}
 use Rattle.wire.proofs.Picks.{pick-yes, pick-no}
-use Rattle.find_number.specs.Number.{Numbered, unnumbered, numbered, integral, shown, Plain, Proper, Gives}
+use Rattle.find_number.specs.Number.{shown, Plain, Proper, Gives}
 use Rattle.find_number.specs.declared.Number.{Number}
 use Rattle.find_number.specs.declared.Number.the-variants.{Refused, Integer, Truth, Single, Double, SingleNan, DoubleNan}
+use Rattle.protocol.specs.Numbers.{pick}
+use Rattle.protocol.specs.Finding.{Numbered, unnumbered, numbered, integral}
 
 -- the case that shows a number: by the format, and of a float by whether its bits are a NaN's
 single : ℕ → Number

@@ -1,6 +1,6 @@
--- The laws of an element's bits. Assumes nothing.
-use mathlib.Core.Path.{_≡_, refl, ap, sym, _∙_, subst}
-use mathlib.Core.Bool.{Bool, true, false, not, cond}
+-- The laws of an element's bits.
+use mathlib.Core.Path.{_≡_, refl, ap, sym, _∙_}
+use mathlib.Core.Bool.{true, false, not, cond}
 use mathlib.Core.List.{List, [], _∷_}
 use mathlib.Core.Logic.{_⊎_, inl, inr, ⊎-elim}
 use Prim.Native.Nat.{ℕ, zero, suc, _+_, _-_, _*_, _^_, _%_, _<_, _≤_}
@@ -8,19 +8,19 @@ use native.Mathlib.Omega.{arith}
 use lib.Dec.{T, eqb, ltb}
 use lib.ListN.{length, take, drop, getD}
 use lib.Seq.{take-all}
-use lib.Ieee.{Format, Float, binary32, binary64, ones, hid, top, ofBits, toBits, nanBits, isNan}
+use lib.Ieee.{Format, binary32, binary64, ones, hid, top, ofBits, toBits, nanBits}
 use lib.Ieee.Bits.{ofBits-fits, toBits-ofBits, nanBits-is, nanBits-above}
-use borrow.Author.Tests.{le-ltb, lt-ltb, eqb-true, ltb-true, ne-eqb, eq-eqb}
-use Rattle.wire.specs.Choice.{pick}
-use Rattle.wire.specs.Be.{be, beFrom}
-use Rattle.rules.specs.Node.{Node}
-use Rattle.plan.specs.Plan.{look}
-use Rattle.plan.proofs.Looks.{look-leaf}
+use borrow.Author.Tests.{le-ltb, lt-ltb, eqb-true, ltb-true, ne-eqb}
+use Rattle.plan_nodes.proofs.Looks.{look-leaf}
 use Rattle.wire.proofs.Picks.{clash, pick-yes, pick-no, pick-case, pick-split, both}
-use Rattle.scalars.specs.Scalars.{sized, boolean, rules, scalar}
-use Rattle.find_number.specs.Number.{Numbered, unnumbered, numbered, integral, plainBits, Width, extended, ofFormat, ofNode, ofFound, numberOf, shown, Plain, Proper, Gives}
+use Rattle.find_number.specs.Number.{Width, shown, Plain, Proper, Gives}
 use Rattle.find_number.specs.declared.Number.{Number}
-use Rattle.find_number.specs.declared.Number.the-variants.{Refused, Integer, Truth, Single, Double, SingleNan, DoubleNan}
+use Rattle.find_number.specs.declared.Number.the-variants.{Refused, Integer, Truth, Single, Double}
+use Rattle.protocol.specs.Numbers.{pick, be, beFrom}
+use Rattle.protocol.specs.Nodes.{Node}
+use Rattle.protocol.specs.Plans.{look}
+use Rattle.protocol.specs.Scalars.{ofSize, boolean, scalar, formatRule, formats, ruleOf}
+use Rattle.protocol.specs.Finding.{Numbered, unnumbered, numbered, integral, plainBits, extended, ofFormat, ofNode}
 
 -- ---- floats, of either format
 
@@ -72,13 +72,13 @@ last-width w d a b = ⊎-elim (λ (x : w ≡ 2). absurd (a x)) (λ y. ⊎-elim (
 
 -- ---- a scalar's bytes, by its format
 
-size-is : (n : ℕ) (b : List ℕ) → sized n b ≡ true → length b ≡ n
-unfolding sized
+size-is : (n : ℕ) (b : List ℕ) → ofSize n b ≡ true → length b ≡ n
+unfolding ofSize
 size-is n b e = eqb-true (length b) n e
 
 module _ (f : ℕ) (b : List ℕ) (good : scalar f b ≡ true) where
   pub integer-width : integral f ≡ true → Width (length b)
-  unfolding integral Width scalar rules
+  unfolding integral Width scalar formatRule formats ruleOf
   integer-width i =
       ⊎-elim
       (λ (x : (eqb f 3 ≡ true) × (true ≡ true)). inl (size-is 2 b (rw (eqb-true f 3 (x .0)) at good)))
@@ -94,16 +94,16 @@ module _ (f : ℕ) (b : List ℕ) (good : scalar f b ≡ true) where
       (pick-split (eqb f 3) true (pick (eqb f 4) true (pick (eqb f 5) true (eqb f 19))) true i)
 
   pub single-size : f ≡ 6 → length b ≡ 4
-  unfolding scalar rules
+  unfolding scalar formatRule formats ruleOf
   single-size e = size-is 4 b (rw e at good)
 
   pub double-size : f ≡ 7 → length b ≡ 8
-  unfolding scalar rules
+  unfolding scalar formatRule formats ruleOf
   double-size e = size-is 8 b (rw e at good)
 
-  truth : f ≡ 9 → (sized 1 b ≡ true) × (ltb (be b) 2 ≡ true)
-  unfolding scalar rules boolean
-  truth e = both (sized 1 b) (ltb (be b) 2) (rw e at good)
+  truth : f ≡ 9 → (ofSize 1 b ≡ true) × (ltb (be b) 2 ≡ true)
+  unfolding scalar formatRule formats ruleOf boolean
+  truth e = both (ofSize 1 b) (ltb (be b) 2) (rw e at good)
 
   pub truth-size : f ≡ 9 → length b ≡ 1
   truth-size e = size-is 1 b (truth e .0)

@@ -1,32 +1,35 @@
--- The number of what was found: a scalar that is accepted is permitted, and its number is the call's. Assumes nothing.
+-- The number of what was found: a scalar that is accepted is permitted, and its number is the call's.
 use mathlib.Core.Path.{_≡_, refl, sym, _∙_}
 use mathlib.Core.Bool.{Bool, true, false}
 use mathlib.Core.List.{List}
 use Prim.Native.Nat.{ℕ, _+_}
 use native.Mathlib.Omega.{arith}
 use lib.ListN.{getD}
-use Rattle.wire.specs.Choice.{pick}
-use Rattle.scalars.specs.Scalars.{scalar}
-use Rattle.rules.specs.Forest.{Forest}
-use Rattle.rules.specs.Values.{listed, leafRule, valueOf}
-use Rattle.plan.specs.Plan.{look, At}
-use Rattle.plan.proofs.Looks.{look-leaf}
-use Rattle.plan.proofs.Nodes.{at-low}
-use Rattle.value.specs.Walk.{leafKind, leafGood}
-use Rattle.value.proofs.Members.{value-leaf}
-use Rattle.find.specs.Find.{Found, unfound, found as foundPart, partIn, numberIn, placeIn, nodeIn, Finds}
-use Rattle.find.proofs.Paths.{Accepts}
-use Rattle.find_number.specs.Number.{ofNode, ofFound, shown, Proper, Gives}
+use Rattle.plan_nodes.proofs.Looks.{look-leaf}
+use Rattle.plan_nodes.proofs.Nodes.{at-low}
+use Rattle.value_parts.specs.Walk.{leafKind, leafGood}
+use Rattle.value_parts.proofs.Members.{value-leaf}
+use Rattle.find_path.specs.Find.{partIn, numberIn, placeIn, nodeIn, Finds}
+use Rattle.find_path.proofs.Paths.{Accepts}
+use Rattle.find_number.specs.Number.{shown, Proper, Gives}
 use Rattle.find_number.specs.declared.Number.{Number}
 use Rattle.find_number.specs.declared.Number.the-variants as number
+use Rattle.protocol.specs.Numbers.{pick}
+use Rattle.protocol.specs.Scalars.{scalar}
+use Rattle.protocol.specs.Lists.{Forest}
+use Rattle.protocol.specs.Answers.{accepted}
+use Rattle.protocol.specs.Values.{leafRule, valueOf}
+use Rattle.protocol.specs.Plans.{look}
+use Rattle.plan_nodes.specs.Readers.{At}
+use Rattle.protocol.specs.Finding.{Found, unfound, found as foundPart, ofNode, ofFound}
 
 -- a scalar that is accepted is permitted
-leaf-permitted : (good : Bool) (k i base : ℕ) (s : List ℕ) (f : Forest) → leafRule good k i base s ≡ listed f → good ≡ true
+leaf-permitted : (good : Bool) (k i base : ℕ) (s : List ℕ) (f : Forest) → leafRule good k i base s ≡ accepted f → good ≡ true
 unfolding leafRule pick
 leaf-permitted true k i base s f e = refl
 leaf-permitted false k i base s f e = let z : _≡_ {A = ℕ} 0 1 = cc in absurd (omega arith)
 
-scalar-permitted : (p : List ℕ) (k : ℕ) → At p k → getD p k 0 ≡ 1 → (i base : ℕ) (b : List ℕ) (f : Forest) → valueOf (look p) k i base b ≡ listed f → scalar (getD p (k + 1) 0) b ≡ true
+scalar-permitted : (p : List ℕ) (k : ℕ) → At p k → getD p k 0 ≡ 1 → (i base : ℕ) (b : List ℕ) (f : Forest) → valueOf (look p) k i base b ≡ accepted f → scalar (getD p (k + 1) 0) b ≡ true
 unfolding leafKind leafGood pick
 scalar-permitted p k a e i base b f h =
     let g = leaf-permitted (leafGood (look p k) b) k i base b f (sym (value-leaf p k a (rw e refl) i base b) ∙ h) in

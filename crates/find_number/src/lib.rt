@@ -1,12 +1,13 @@
 // The number of the element that a path leads to.
 ghost use mathlib.Core.Path.{_≡_};
-ghost use mathlib.Core.Bool.{Bool, true, false, cond};
-ghost use Prim.Native.Nat.{ℕ, _+_, _*_, _^_, _≤_, _<_};
-ghost use lib.ListN.{length, getD};
-ghost use Rattle.scalars.specs.Scalars.{scalar};
-ghost use Rattle.wire.specs.Be.{be};
-ghost use Rattle.plan.specs.Plan.{look, At};
-ghost use Rattle.find_number.specs.Number.{integral, Width, extended, numbered, ofFormat, ofNode, numberOf, Gives};
+ghost use mathlib.Core.Bool.{true};
+ghost use Prim.Native.Nat.{_+_, _^_, _<_};
+ghost use lib.ListN.{getD};
+ghost use Rattle.find_number.specs.Number.{Width, Gives};
+ghost use Rattle.protocol.specs.Scalars.{scalar};
+ghost use Rattle.protocol.specs.Plans.{look};
+ghost use Rattle.plan_nodes.specs.Readers.{At};
+ghost use Rattle.protocol.specs.Finding.{integral, extended, numbered, ofFormat, ofNode, numberOf};
 
 // The number of an element: refused, with number and place; an integer's format and its bits, with its sign in all 64; a truth value; a float;
 // or the bits of a float that is a NaN.
@@ -44,16 +45,16 @@ fn extend(n: u64, width: usize) -> u64
 fn is_integer(format: u32) -> bool
     ensures { λ r. ⌜ r ≡ integral format ⌝ }
 {
-    if format == 3 {
+    if format == constants::FORMAT_INT16 {
         return true;
     }
-    if format == 4 {
+    if format == constants::FORMAT_INT32 {
         return true;
     }
-    if format == 5 {
+    if format == constants::FORMAT_INT64 {
         return true;
     }
-    format == 19
+    format == constants::FORMAT_MEMORY
 }
 
 // A float of 32 bits. A NaN's bits are kept as they are: a float would not keep them.
@@ -85,16 +86,19 @@ fn of_format(format: u32, part: &[u8]) -> Number
         let bits = extend(wire::be::uint_at(part, 0, part.len()), part.len());
         return Number::Integer { format, bits };
     }
-    if format == 6 {
+    if format == constants::FORMAT_FLOAT32 {
         return single(wire::be::u32_at(part, 0));
     }
-    if format == 7 {
+    if format == constants::FORMAT_FLOAT64 {
         return double(wire::be::uint_at(part, 0, 8));
     }
-    if format == 9 {
+    if format == constants::FORMAT_BOOL {
         return Number::Truth(part[0] == 1);
     }
-    Number::Refused { no: 37, place: 0 }
+    Number::Refused {
+        no: constants::NO_NUMBER,
+        place: 0,
+    }
 }
 
 // The number of a value of a node, which is accepted: only a scalar can have one.
@@ -102,10 +106,13 @@ fn of_node(plan: &[u32], node: usize, part: &[u8]) -> Number
     requires { ⌜ (At (now plan) node) × (getD (now plan) node 0 ≡ 1 → scalar (getD (now plan) (node + 1) 0) (now part) ≡ true) ⌝ }
     ensures { λ r. ⌜ Gives (ofNode (look (now (plan .entry)) node) (now (part .entry))) r ⌝ }
 {
-    if plan::node::kind_at(plan, node) == 1 {
-        return of_format(plan::node::second_at(plan, node) as u32, part);
+    if plan_nodes::node::kind_at(plan, node) == constants::KIND_LEAF {
+        return of_format(plan_nodes::node::second_at(plan, node) as u32, part);
     }
-    Number::Refused { no: 37, place: 0 }
+    Number::Refused {
+        no: constants::NO_NUMBER,
+        place: 0,
+    }
 }
 
 // The number of the element that a path leads to.
@@ -116,7 +123,7 @@ pub fn find_number(plan: &[u32], value: &[u8], path: &[u32]) -> Number
     let mut place: u32 = 0;
     let mut node: u32 = 0;
     let mut start: u32 = 0;
-    let part = find::find(
+    let part = find_path::find(
         plan,
         value,
         path,

@@ -1,4 +1,4 @@
--- A message that was read and is written again has the same bytes. Assumes nothing.
+-- A message that was read and is written again has the same bytes.
 use mathlib.Core.Path.{_≡_, ap, sym, _∙_}
 use mathlib.Core.List.{List, [], _∷_, _++_, append-nil}
 use Prim.Native.Nat.{ℕ, zero, suc, _+_, _-_, _<_, _≤_}
@@ -8,14 +8,13 @@ use lib.Dec.{lit<}
 use lib.ListN.{length, getD, take, drop, length-take, length-drop}
 use lib.Seq.{length-take-le, drop-cons}
 use borrow.Author.Tests.{le-ltb}
-use Rattle.wire.specs.Choice.{pick}
-use Rattle.wire.specs.Be.{be, bytesBe}
 use Rattle.wire.proofs.Numbers.{bytes-be}
-use Rattle.message_read.specs.Reading.{read, messageOf, message}
 use Rattle.message_read.proofs.Whole.{Whole, whole, roomy}
-use Rattle.message_write.specs.Writing.{wrote, fieldsFrom, putOut, whole as put, bodyFrom, written}
 use Rattle.message_laws.proofs.Covers.{part-take, Covers, covers-itself, covers}
 use Rattle.message_laws.proofs.RoundTrip.{Bytes, Trip, span, span-join, round-trip}
+use Rattle.protocol.specs.Numbers.{pick, be, bytesBe}
+use Rattle.protocol.specs.Messages.{read, messageOf, messageCall, wrote, fieldsWritten, messageWhole as put, bodyWritten, messageWritten}
+use Rattle.protocol.specs.Answers.{putOut}
 
 -- the first n of bytes are bytes
 bytes-take : (n : ℕ) (s : List ℕ) → Bytes s → Bytes (take n s)
@@ -40,34 +39,34 @@ put-whole t room n b e h k =
 
 -- the length field n, the bytes used u and the words of an accepted message
 module _ (side : ℕ) (s : List ℕ) (n u : ℕ) (ws : List ℕ) (w : Whole side s n u ws) where
-  trip : (src : List ℕ) → Covers src (take (n + 1) s) → Trip (take (n + 1) s) 5 (read u ws) (fieldsFrom (w .layout) src)
+  trip : (src : List ℕ) → Covers src (take (n + 1) s) → Trip (take (n + 1) s) 5 (read u ws) (fieldsWritten (w .layout) src)
   trip src c = rw (w .body .outcome) at (round-trip (take (n + 1) s) src c (w .layout) 5 (simp length-take (omega arith)))
 
   used-from : u ≡ n + 1
   used-from = omega (arith, trip (take (n + 1) s) (covers-itself (take (n + 1) s)) .1, length-take (n + 1) s)
 
-  again-from : Bytes s → (src : List ℕ) → take u src ≡ take u s → (room : ℕ) → u ≤ room → written side (getD s 0 0) ws src room ≡ putOut (take u s)
-  unfolding written bodyFrom
+  again-from : Bytes s → (src : List ℕ) → take u src ≡ take u s → (room : ℕ) → u ≤ room → messageWritten side (getD s 0 0) ws src room ≡ putOut (take u s)
+  unfolding messageWritten bodyWritten
   again-from b src e room r =
       let m : length (take (n + 1) s) ≡ n + 1 = length-take-le (n + 1) s (w .fits) in
       let c = covers src (take (n + 1) s) (ap (λ (k : ℕ). take k src) m ∙ rw used-from at e) in
-      let same : fieldsFrom (w .layout) src ws ≡ wrote (span s 5 (n + 1)) [] =
+      let same : fieldsWritten (w .layout) src ws ≡ wrote (span s 5 (n + 1)) [] =
       rw (append-nil, used-from, part-take s (n + 1) 5 (n + 1 - 5) (omega arith)) at (trip src c .2 (bytes-take (n + 1) s b) []) in
       let long : length (span s 5 (n + 1)) + 4 ≡ n = simp (length-take, length-drop) (omega arith) in
       rw (used-from, w .kind, same, put-whole (getD s 0 0) room n (span s 5 (n + 1)) long (w .high) (omega (arith, used-from)))
       (ap putOut (parts s n b (w .low) (w .fits) (w .size)))
 
 -- what the call read is a whole message
-pub made : (side : ℕ) (s : List ℕ) (room u : ℕ) (ws : List ℕ) → message side s room ≡ read u ws → Whole side s (be (take 4 (drop 1 s))) u ws
-unfolding message
+pub made : (side : ℕ) (s : List ℕ) (room u : ℕ) (ws : List ℕ) → messageCall side s room ≡ read u ws → Whole side s (be (take 4 (drop 1 s))) u ws
+unfolding messageCall
 made side s room u ws e = whole side s u ws (roomy (messageOf side s) room u ws e .0)
 
 -- The reader uses the type byte and as many bytes as the length field says.
-pub used : (side : ℕ) (s : List ℕ) (room u : ℕ) (ws : List ℕ) → message side s room ≡ read u ws → u ≡ be (take 4 (drop 1 s)) + 1
+pub used : (side : ℕ) (s : List ℕ) (room u : ℕ) (ws : List ℕ) → messageCall side s room ≡ read u ws → u ≡ be (take 4 (drop 1 s)) + 1
 used side s room u ws e = used-from side s _ u ws (made side s room u ws e)
 
 -- What the reader accepts, written again from its list into a room that is large enough, is the same message. The source is any
 -- that begins with the message: all of s, or the message alone.
-pub again : (side : ℕ) (s : List ℕ) (room u : ℕ) (ws : List ℕ) → ((i : ℕ) → getD s i 0 < 256) → message side s room ≡ read u ws
-    → (src : List ℕ) → take u src ≡ take u s → (room′ : ℕ) → u ≤ room′ → written side (getD s 0 0) ws src room′ ≡ putOut (take u s)
+pub again : (side : ℕ) (s : List ℕ) (room u : ℕ) (ws : List ℕ) → ((i : ℕ) → getD s i 0 < 256) → messageCall side s room ≡ read u ws
+    → (src : List ℕ) → take u src ≡ take u s → (room′ : ℕ) → u ≤ room′ → messageWritten side (getD s 0 0) ws src room′ ≡ putOut (take u s)
 again side s room u ws b e = again-from side s _ u ws (made side s room u ws e) b

@@ -1,4 +1,4 @@
--- Bytes that begin with a message have its parts. Assumes nothing.
+-- Bytes that begin with a message have its parts.
 use mathlib.Core.Path.{_≡_, refl, ap, sym, _∙_}
 use mathlib.Core.List.{List, [], _∷_}
 use Prim.Native.Nat.{ℕ, zero, suc, _+_, _≤_}

@@ -1,5 +1,4 @@
--- What holds of reading and writing messages together: Again and Accepted hold the theorems, and Host holds them as the C host meets
--- them. Assumes nothing.
+-- What holds of reading and writing messages together: Again and Accepted hold the theorems, and Host holds them as the C host meets them.
 pub mod Covers
 pub mod RoundTrip
 pub mod Again

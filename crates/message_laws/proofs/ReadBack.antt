@@ -1,4 +1,4 @@
--- What is written in any layout is read back, with the same contents, wherever it stands in a message. Assumes nothing.
+-- What is written in any layout is read back, with the same contents, wherever it stands in a message.
 use mathlib.Core.Path.{_≡_, refl, ap, _∙_}
 use mathlib.Core.Bool.{true}
 use mathlib.Core.List.{List, [], _∷_, _++_, append-assoc}
@@ -9,16 +9,14 @@ use lib.Dec.{leb, eqb}
 use lib.ListN.{length, take, drop, length-append, length-drop}
 use lib.Seq.{drop-drop, take-append-seam, drop-append-seam}
 use borrow.Author.Tests.{eqb-true, le-leb}
-use Rattle.wire.specs.Choice.{pick}
-use Rattle.wire.specs.Be.{be, bytesBe}
 use Rattle.wire.proofs.Numbers.{be-bytes, length-bytes}
 use Rattle.wire.proofs.Picks.{both, pick-case}
-use Rattle.layout.specs.Layout.{Field, number, text, bytes, Layout, done, one, run, u16, permits}
-use Rattle.message_read.specs.Reading.{lengthened, textual, fieldAt, Outcome, read, prefixed, andThen, outcome, times, fields}
-use Rattle.message_read.specs.declared.Found.the-variants.{At}
-use Rattle.message_write.specs.Writing.{Written, faulty, wrote, fitting, framed, nextField, after, joined, timesFrom, fieldsFrom}
-use Rattle.message_laws.specs.Contents.{contents}
+use Rattle.forms.specs.declared.FieldRead.the-variants.{At}
 use Rattle.message_laws.proofs.RoundTrip.{count-next}
+use Rattle.protocol.specs.Numbers.{pick, be, bytesBe}
+use Rattle.protocol.specs.Messages.{Field, number, text, bytes, Layout, done, one, run, u16, permits, lengthened, textual, fieldAt}
+use Rattle.protocol.specs.Messages.{MessageRead, read, readBefore, thenRead, fieldOutcome, timesRead, fieldsRead, Written, unwritten, wrote}
+use Rattle.protocol.specs.Messages.{fitting, fieldBytes, nextField, putBefore, joined, timesWritten, fieldsWritten, contents}
 
 -- ---- bytes at a position
 
@@ -50,21 +48,21 @@ pub record Same (m us src ws : List ℕ) : Type 0 where
   pub length-is : length us ≡ length ws
 
 -- an outcome up to q whose words are those of ws up to vs
-pub record Reads (m src : List ℕ) (o : Outcome) (q : ℕ) (ws vs : List ℕ) : Type 0 where
+pub record Reads (m src : List ℕ) (o : MessageRead) (q : ℕ) (ws vs : List ℕ) : Type 0 where
   pub words : List ℕ
   pub is : o ≡ read q words
   pub carry : (us : List ℕ) → Same m us src vs → Same m (words ++ us) src ws
 
 -- what was written from ws, standing at p, is what the outcome reads
-abbrev pub Back : List ℕ → List ℕ → ℕ → Outcome → List ℕ → Written → Type 0
-Back m src p o ws faulty = Unit {0}
+abbrev pub Back : List ℕ → List ℕ → ℕ → MessageRead → List ℕ → Written → Type 0
+Back m src p o ws unwritten = Unit {0}
 Back m src p o ws (wrote b vs) = Stands m p b → Reads m src o (p + length b) ws vs
 
-module _ (m src : List ℕ) (p : ℕ) (o : Outcome) (f : ℕ → Outcome) (ws : List ℕ) where
+module _ (m src : List ℕ) (p : ℕ) (o : MessageRead) (f : ℕ → MessageRead) (ws : List ℕ) where
   back-after : (b vs : List ℕ) (x : Written) → Back m src p o ws (wrote b vs)
-      → (Stands m p b → Reads m src o (p + length b) ws vs → Back m src (p + length b) (f (p + length b)) vs x) → Back m src p (andThen o f) ws (after b x)
-  unfolding andThen prefixed after
-  back-after b vs faulty t u = tt
+      → (Stands m p b → Reads m src o (p + length b) ws vs → Back m src (p + length b) (f (p + length b)) vs x) → Back m src p (thenRead o f) ws (putBefore b x)
+  unfolding thenRead readBefore putBefore
+  back-after b vs unwritten t u = tt
   back-after b vs (wrote c us) t u = λ s.
       let x = t (front b c s) in
       let y = u (front b c s) x (back b c s) in
@@ -75,20 +73,20 @@ module _ (m src : List ℕ) (p : ℕ) (o : Outcome) (f : ℕ → Outcome) (ws : 
       }
 
   back-then : (w : Written) (g : List ℕ → List ℕ → Written) → Back m src p o ws w
-      → ((b vs : List ℕ) → Stands m p b → Reads m src o (p + length b) ws vs → Back m src (p + length b) (f (p + length b)) vs (g b vs)) → Back m src p (andThen o f) ws (joined w g)
+      → ((b vs : List ℕ) → Stands m p b → Reads m src o (p + length b) ws vs → Back m src (p + length b) (f (p + length b)) vs (g b vs)) → Back m src p (thenRead o f) ws (joined w g)
   unfolding joined
-  back-then faulty g t u = tt
+  back-then unwritten g t u = tt
   back-then (wrote b vs) g t u = back-after b vs (g b vs) t (u b vs)
 
 -- nothing written, nothing read
 back-none : (m src : List ℕ) (p : ℕ) (ws : List ℕ) → Back m src p (read p []) ws (wrote [] ws)
 back-none m src p ws = λ s. record { words = []; is = rw add-zero; carry = λ us k. k }
 
-back-times : (m src : List ℕ) (f : ℕ → Outcome) (g : List ℕ → Written) → ((p : ℕ) (ws : List ℕ) → Back m src p (f p) ws (g ws))
-    → (n p : ℕ) (ws : List ℕ) → Back m src p (times n f p) ws (timesFrom n g ws)
-unfolding times timesFrom
+back-times : (m src : List ℕ) (f : ℕ → MessageRead) (g : List ℕ → Written) → ((p : ℕ) (ws : List ℕ) → Back m src p (f p) ws (g ws))
+    → (n p : ℕ) (ws : List ℕ) → Back m src p (timesRead n f p) ws (timesWritten n g ws)
+unfolding timesRead timesWritten
 back-times m src f g t zero p ws = back-none m src p ws
-back-times m src f g t (suc n) p ws = back-then m src p (f p) (times n f) ws (g ws) (λ b. timesFrom n g) (t p ws) (λ b vs s x. back-times m src f g t n (p + length b) vs)
+back-times m src f g t (suc n) p ws = back-then m src p (f p) (timesRead n f) ws (g ws) (λ b. timesWritten n g) (t p ws) (λ b vs s x. back-times m src f g t n (p + length b) vs)
 
 -- ---- a field
 
@@ -127,8 +125,8 @@ module _ (m : List ℕ) (small : length m < 256 ^ 4) (p : ℕ) (c : List ℕ) wh
         same = taken tail;
       }
 
-  holds-field : (f : Field) → fitting f c ≡ true → Stands m p (framed f c) → Holds f m p (p + length (framed f c)) c
-  unfolding fieldAt fitting framed textual pick
+  holds-field : (f : Field) → fitting f c ≡ true → Stands m p (fieldBytes f c) → Holds f m p (p + length (fieldBytes f c)) c
+  unfolding fieldAt fitting fieldBytes textual pick
   holds-field (number w vs) e s = holds-number w vs e s
   holds-field text e s =
       let h = holds-bytes s in
@@ -136,15 +134,15 @@ module _ (m : List ℕ) (small : length m < 256 ^ 4) (p : ℕ) (c : List ℕ) wh
   holds-field bytes e s = holds-bytes s
 
 module _ (m : List ℕ) (small : length m < 256 ^ 4) (src : List ℕ) where
-  back-field : (f : Field) (p : ℕ) (ws : List ℕ) → Back m src p (outcome p (fieldAt f m p)) ws (nextField f src ws)
-  unfolding nextField outcome contents
+  back-field : (f : Field) (p : ℕ) (ws : List ℕ) → Back m src p (fieldOutcome p (fieldAt f m p)) ws (nextField f src ws)
+  unfolding nextField fieldOutcome contents
   back-field f p [] = tt
   back-field f p (s ∷ []) = tt
   back-field f p (s ∷ n ∷ ws) =
       let c = take n (drop s src) in
-      let P = Back m src p (outcome p (fieldAt f m p)) (s ∷ n ∷ ws) in
-      pick-case P (leb (s + n) (length src)) _ faulty
-      (λ _. pick-case P (fitting f c) (wrote (framed f c) ws) faulty
+      let P = Back m src p (fieldOutcome p (fieldAt f m p)) (s ∷ n ∷ ws) in
+      pick-case P (leb (s + n) (length src)) _ unwritten
+      (λ _. pick-case P (fitting f c) (wrote (fieldBytes f c) ws) unwritten
       (λ e st.
       let h = holds-field m small p c f e st in
       record {
@@ -155,22 +153,22 @@ module _ (m : List ℕ) (small : length m < 256 ^ 4) (src : List ℕ) where
       (λ _. tt))
       (λ _. tt)
 
-  back-run : (f : ℕ → Outcome) (g : List ℕ → Written) → ((p : ℕ) (ws : List ℕ) → Back m src p (f p) ws (g ws)) → (p : ℕ) (ws : List ℕ)
-      → Back m src p (andThen (outcome p (fieldAt u16 m p)) (times (be (take 2 (drop p m))) f)) ws (joined (nextField u16 src ws) (λ b. timesFrom (be b) g))
+  back-run : (f : ℕ → MessageRead) (g : List ℕ → Written) → ((p : ℕ) (ws : List ℕ) → Back m src p (f p) ws (g ws)) → (p : ℕ) (ws : List ℕ)
+      → Back m src p (thenRead (fieldOutcome p (fieldAt u16 m p)) (timesRead (be (take 2 (drop p m))) f)) ws (joined (nextField u16 src ws) (λ b. timesWritten (be b) g))
   back-run f g t p ws =
-      back-then m src p _ (times (be (take 2 (drop p m))) f) ws (nextField u16 src ws) (λ b. timesFrom (be b) g) (back-field u16 p ws)
+      back-then m src p _ (timesRead (be (take 2 (drop p m))) f) ws (nextField u16 src ws) (λ b. timesWritten (be b) g) (back-field u16 p ws)
       (λ b vs s x.
       let two : length b ≡ 2 = omega (arith, count-next m p (p + length b) (x .words) (x .is)) in
       rw (rw two at (taken s)) (back-times m src f g t (be b) (p + length b) vs))
 
   -- ---- every layout
 
-  pub read-back : (l : Layout) (p : ℕ) (ws : List ℕ) → Back m src p (fields l m p) ws (fieldsFrom l src ws)
-  unfolding fields fieldsFrom
+  pub read-back : (l : Layout) (p : ℕ) (ws : List ℕ) → Back m src p (fieldsRead l m p) ws (fieldsWritten l src ws)
+  unfolding fieldsRead fieldsWritten
   read-back done p ws = back-none m src p ws
   read-back (one f rest) p ws =
-      back-then m src p _ (fields rest m) ws _ (λ b. fieldsFrom rest src) (back-field f p ws) (λ b vs s x. read-back rest (p + length b) vs)
+      back-then m src p _ (fieldsRead rest m) ws _ (λ b. fieldsWritten rest src) (back-field f p ws) (λ b vs s x. read-back rest (p + length b) vs)
   read-back (run items rest) p ws =
-      back-then m src p _ (fields rest m) ws _ (λ b. fieldsFrom rest src)
-      (back-run (fields items m) (fieldsFrom items src) (read-back items) p ws)
+      back-then m src p _ (fieldsRead rest m) ws _ (λ b. fieldsWritten rest src)
+      (back-run (fieldsRead items m) (fieldsWritten items src) (read-back items) p ws)
       (λ b vs s x. read-back rest (p + length b) vs)

@@ -1,4 +1,4 @@
--- What every reading keeps to: a refusal has a number, and a list's words are pairs that lie in the message. Assumes nothing.
+-- What every reading keeps to: a refusal has a number, and a list's words are pairs that lie in the message.
 use mathlib.Core.Path.{_≡_, refl, sym, _∙_}
 use mathlib.Core.List.{List, [], _∷_, _++_}
 use Prim.Native.Nat.{ℕ, zero, suc, _+_, _<_, _≤_}
@@ -6,17 +6,18 @@ use native.Mathlib.Omega.{arith}
 use lib.Dec.{lit<, ltb}
 use lib.ListN.{length, getD, take, drop}
 use lib.Seq.{length-take-le}
-use Rattle.wire.specs.Be.{be}
 use Rattle.wire.proofs.Picks.{pick-case}
-use Rattle.layout.specs.Layout.{Field, Layout, done, one, run, u16, Known, known, unknown, layoutOf}
-use Rattle.message_read.specs.Reading.{fieldAt, Outcome, refused, read, prefixed, andThen, outcome, times, fields, ending, body, messageOf, roomed, message}
-use Rattle.message_read.specs.declared.Found.{Found}
-use Rattle.message_read.specs.declared.Found.the-variants.{Short, Barred, At}
+use Rattle.forms.specs.declared.FieldRead.{FieldRead}
+use Rattle.forms.specs.declared.FieldRead.the-variants.{Short, Barred, At}
 use Rattle.message_read.proofs.Whole.{roomy}
-use Rattle.message_laws.specs.Contents.{contents}
 use Rattle.message_laws.proofs.Covers.{Covers}
 use Rattle.message_laws.proofs.RoundTrip.{LiesAt, lies-field}
 use Rattle.message_laws.proofs.Again.{made, used}
+use Rattle.protocol.specs.Numbers.{be}
+use Rattle.protocol.specs.Messages.{Field, Layout, done, one, run, u16, layoutOf, fieldAt, MessageRead, unread, read, readBefore, thenRead}
+use Rattle.protocol.specs.Messages.{fieldOutcome, timesRead, fieldsRead, messageEnd, bodyRead, messageOf, messageRoomed, messageCall}
+use Rattle.protocol.specs.Messages.{contents}
+use mathlib.Core.Option.{Option, some, none}
 
 -- ---- pairs of start and length, which lie in n bytes
 
@@ -47,43 +48,44 @@ pairs-contents s m c (p ∷ k ∷ ws) h = rw (c .part p k (h .0), pairs-contents
 -- ---- the outcome of fields
 
 -- a refusal's number is not 0; the words of what is read are pairs in n bytes
-abbrev pub Sound : ℕ → Outcome → Type 0
-Sound n (refused k p) = 0 < k
+abbrev pub Sound : ℕ → MessageRead → Type 0
+Sound n (unread k p) = 0 < k
 Sound n (read q ws) = Pairs n ws
 
 module _ (n : ℕ) where
-  sound-prefixed : (ws : List ℕ) (o : Outcome) → Pairs n ws → Sound n o → Sound n (prefixed ws o)
-  unfolding prefixed
-  sound-prefixed ws (refused k p) h g = g
+  sound-prefixed : (ws : List ℕ) (o : MessageRead) → Pairs n ws → Sound n o → Sound n (readBefore ws o)
+  unfolding readBefore
+  sound-prefixed ws (unread k p) h g = g
   sound-prefixed ws (read q vs) h g = pairs-append n ws vs h g
 
-  sound-then : (o : Outcome) (f : ℕ → Outcome) → Sound n o → ((q : ℕ) → Sound n (f q)) → Sound n (andThen o f)
-  unfolding andThen
-  sound-then (refused k p) f h g = h
+  sound-then : (o : MessageRead) (f : ℕ → MessageRead) → Sound n o → ((q : ℕ) → Sound n (f q)) → Sound n (thenRead o f)
+  unfolding thenRead
+  sound-then (unread k p) f h g = h
   sound-then (read q ws) f h g = sound-prefixed ws (f q) h (g q)
 
-  sound-times : (f : ℕ → Outcome) → ((p : ℕ) → Sound n (f p)) → (k p : ℕ) → Sound n (times k f p)
-  unfolding times
+  sound-times : (f : ℕ → MessageRead) → ((p : ℕ) → Sound n (f p)) → (k p : ℕ) → Sound n (timesRead k f p)
+  unfolding timesRead
   sound-times f h zero p = tt
-  sound-times f h (suc k) p = sound-then (f p) (times k f) (h p) (sound-times f h k)
+  sound-times f h (suc k) p = sound-then (f p) (timesRead k f) (h p) (sound-times f h k)
 
 module _ (m : List ℕ) where
-  sound-found : (f : Field) (p : ℕ) (o : Found) → LiesAt f m p o → Sound (length m) (outcome p o)
-  unfolding outcome
+  sound-found : (f : Field) (p : ℕ) (o : FieldRead) → LiesAt f m p o → Sound (length m) (fieldOutcome p o)
+  unfolding fieldOutcome
   sound-found f p Short l = lit< tt
   sound-found f p Barred l = lit< tt
   sound-found f p (At s k) l = (l .inside, tt)
 
-  sound-field : (f : Field) (p : ℕ) → Sound (length m) (outcome p (fieldAt f m p))
+  sound-field : (f : Field) (p : ℕ) → Sound (length m) (fieldOutcome p (fieldAt f m p))
   sound-field f p = sound-found f p (fieldAt f m p) (lies-field m p f)
 
-  pub sound-fields : (x : Layout) (p : ℕ) → Sound (length m) (fields x m p)
-  unfolding fields
+  pub sound-fields : (x : Layout) (p : ℕ) → Sound (length m) (fieldsRead x m p)
+  unfolding fieldsRead
   sound-fields done p = tt
-  sound-fields (one f rest) p = sound-then (length m) _ (fields rest m) (sound-field f p) (sound-fields rest)
+  sound-fields (one f rest) p = sound-then (length m) _ (fieldsRead rest m) (sound-field f p) (sound-fields rest)
   sound-fields (run items rest) p =
-      sound-then (length m) _ (fields rest m)
-      (sound-then (length m) _ (times (be (take 2 (drop p m))) (fields items m)) (sound-field u16 p) (sound-times (length m) (fields items m) (sound-fields items) (be (take 2 (drop p m)))))
+      sound-then (length m) _ (fieldsRead rest m)
+      (sound-then (length m) _ (timesRead (be (take 2 (drop p m))) (fieldsRead items m)) (sound-field u16 p)
+      (sound-times (length m) (fieldsRead items m) (sound-fields items) (be (take 2 (drop p m)))))
       (sound-fields rest)
 
 -- ---- a message
@@ -95,8 +97,8 @@ pub record Bounded (s : List ℕ) (room u : ℕ) (ws : List ℕ) : Type 0 where
   pub pairs : Pairs u ws
   pub listed : length ws ≤ room
 
-pub bounded : (side : ℕ) (s : List ℕ) (room u : ℕ) (ws : List ℕ) → message side s room ≡ read u ws → Bounded s room u ws
-unfolding message
+pub bounded : (side : ℕ) (s : List ℕ) (room u : ℕ) (ws : List ℕ) → messageCall side s room ≡ read u ws → Bounded s room u ws
+unfolding messageCall
 bounded side s room u ws e =
     let n = be (take 4 (drop 1 s)) in
     let w = made side s room u ws e in
@@ -110,32 +112,32 @@ bounded side s room u ws e =
     }
 
 -- a refusal's number is not 0
-abbrev pub Numbered : Outcome → Type 0
-Numbered (refused n p) = 0 < n
+abbrev pub Numbered : MessageRead → Type 0
+Numbered (unread n p) = 0 < n
 Numbered (read u ws) = Unit {0}
 
-numbered-end : (m : List ℕ) (n : ℕ) (o : Outcome) → Sound n o → Numbered (ending m o)
-unfolding ending
-numbered-end m n (refused k p) h = h
-numbered-end m n (read q ws) h = pick-case Numbered (ltb q (length m)) (refused 5 q) (read q ws) (λ _. lit< tt) (λ _. tt)
+numbered-end : (m : List ℕ) (n : ℕ) (o : MessageRead) → Sound n o → Numbered (messageEnd m o)
+unfolding messageEnd
+numbered-end m n (unread k p) h = h
+numbered-end m n (read q ws) h = pick-case Numbered (ltb q (length m)) (unread 5 q) (read q ws) (λ _. lit< tt) (λ _. tt)
 
-numbered-body : (k : Known) (m : List ℕ) → Numbered (body k m)
-unfolding body
-numbered-body unknown m = lit< tt
-numbered-body (known l) m = numbered-end m (length m) (fields l m 5) (sound-fields m l 5)
+numbered-body : (k : (Option Layout)) (m : List ℕ) → Numbered (bodyRead k m)
+unfolding bodyRead
+numbered-body none m = lit< tt
+numbered-body (some l) m = numbered-end m (length m) (fieldsRead l m 5) (sound-fields m l 5)
 
-numbered-room : (room : ℕ) (o : Outcome) → Numbered o → Numbered (roomed room o)
-unfolding roomed
-numbered-room room (refused n p) h = h
-numbered-room room (read u ws) h = pick-case Numbered (ltb room (length ws)) (refused 31 0) (read u ws) (λ _. lit< tt) (λ _. tt)
+numbered-room : (room : ℕ) (o : MessageRead) → Numbered o → Numbered (messageRoomed room o)
+unfolding messageRoomed
+numbered-room room (unread n p) h = h
+numbered-room room (read u ws) h = pick-case Numbered (ltb room (length ws)) (unread 31 0) (read u ws) (λ _. lit< tt) (λ _. tt)
 
-pub numbered : (side : ℕ) (s : List ℕ) (room : ℕ) → Numbered (message side s room)
-unfolding message messageOf
+pub numbered : (side : ℕ) (s : List ℕ) (room : ℕ) → Numbered (messageCall side s room)
+unfolding messageCall messageOf
 numbered side s room =
     let n = be (take 4 (drop 1 s)) in
     numbered-room room (messageOf side s)
-    (pick-case Numbered (ltb (length s) 5) (refused 1 0) _ (λ _. lit< tt)
-    (λ _. pick-case Numbered (ltb n 4) (refused 2 0) _ (λ _. lit< tt)
-    (λ _. pick-case Numbered (ltb 65535 n) (refused 2 0) _ (λ _. lit< tt)
-    (λ _. pick-case Numbered (ltb (length s) (n + 1)) (refused 1 0) _ (λ _. lit< tt)
+    (pick-case Numbered (ltb (length s) 5) (unread 1 0) _ (λ _. lit< tt)
+    (λ _. pick-case Numbered (ltb n 4) (unread 2 0) _ (λ _. lit< tt)
+    (λ _. pick-case Numbered (ltb 65535 n) (unread 2 0) _ (λ _. lit< tt)
+    (λ _. pick-case Numbered (ltb (length s) (n + 1)) (unread 1 0) _ (λ _. lit< tt)
     (λ _. numbered-body (layoutOf side (getD s 0 0)) (take (n + 1) s))))))

@@ -1,4 +1,4 @@
--- How a reading ends: what a walk's answer says of the outcome, and the laws of the tests before and after the fields. Assumes nothing.
+-- How a reading ends: what a walk's answer says of the outcome, and the laws of the tests before and after the fields.
 use mathlib.Core.Path.{_≡_, refl, ap, sym, _∙_}
 use mathlib.Core.Bool.{false}
 use mathlib.Core.List.{List, _++_}
@@ -8,13 +8,9 @@ use native.Mathlib.Nat.{zero-add}
 use lib.ListN.{length, take, drop, getD}
 use lib.Seq.{sets, sets-eq}
 use borrow.Author.Tests.{lt-ltb, le-ltb}
-use Rattle.wire.specs.Choice.{pick}
-use Rattle.wire.specs.Be.{be}
-use Rattle.layout.specs.Layout.{layoutOf}
-use Rattle.layout.specs.Judged.{judgedAll}
-use Rattle.layout.specs.Tables.{layoutAt, knownAt, startOf}
-use Rattle.layout.proofs.Starts.{start-known}
-use Rattle.message_read.specs.Reading.{Outcome, refused, read, fields, ending, body, messageOf, roomed, message, wordsOf, listAfter}
+use Rattle.message_layout.specs.Judged.{judgedAll}
+use Rattle.message_layout.specs.Tables.{layoutAt, knownAt, startOf}
+use Rattle.message_layout.proofs.Starts.{start-known}
 use Rattle.message_read.specs.Answers.{answerOf, Stored, Checks, Gives, Accepted}
 use Rattle.message_read.specs.Scan.{stopped, reached, outcomeOf, led}
 use Rattle.message_read.specs.declared.Step.{Step}
@@ -23,17 +19,19 @@ use Rattle.message_read.specs.declared.Answer.{Answer}
 use Rattle.message_read.specs.declared.Answer.the-variants.{Read}
 use Rattle.message_read.proofs.Trusted.{unjudged-reads}
 use Rattle.message_read.proofs.Whole.{Whole, whole, known-layout}
+use Rattle.protocol.specs.Numbers.{pick, be}
+use Rattle.protocol.specs.Messages.{layoutOf, MessageRead, unread, read, fieldsRead, messageEnd, bodyRead, messageOf, messageRoomed, messageCall, messageWords, messageList}
 
 -- ---- a walk from no words on
 
-stopped-from : (o : Outcome) (n p : ℕ) (l : List ℕ) → stopped n p ≡ led o 0 l → o ≡ refused n p
+stopped-from : (o : MessageRead) (n p : ℕ) (l : List ℕ) → stopped n p ≡ led o 0 l → o ≡ unread n p
 unfolding led
-stopped-from (refused m q) n p l h = cc
+stopped-from (unread m q) n p l h = cc
 stopped-from (read at ws) n p l h = let z : _≡_ {A = ℕ} 0 1 = cc in absurd (omega arith)
 
-reached-from : (o : Outcome) (at w : ℕ) (l l′ : List ℕ) → reached at w l′ ≡ led o 0 l → (ws : List ℕ) × (o ≡ read at ws) × (w ≡ 0 + length ws)
+reached-from : (o : MessageRead) (at w : ℕ) (l l′ : List ℕ) → reached at w l′ ≡ led o 0 l → (ws : List ℕ) × (o ≡ read at ws) × (w ≡ 0 + length ws)
 unfolding led
-reached-from (refused n p) at w l l′ h = let z : _≡_ {A = ℕ} 0 1 = cc in absurd (omega arith)
+reached-from (unread n p) at w l l′ h = let z : _≡_ {A = ℕ} 0 1 = cc in absurd (omega arith)
 reached-from (read at′ ws) at w l l′ h = let e : at ≡ at′ = cc in (ws, rw e, cc)
 
 list-at : (s : Step) (at : ℕ) (ws l l′ : List ℕ) → outcomeOf s l′ ≡ led (read at ws) 0 l → l′ ≡ sets l 0 ws
@@ -43,9 +41,9 @@ list-at (Reached a k) at ws l l′ h = cc
 
 -- ---- the body's answer
 
-module _ (m : List ℕ) (o : Outcome) (s : Step) (l l′ : List ℕ) (q : outcomeOf s l′ ≡ led o 0 l) where
-  pub body-refused : (n p : ℕ) → s ≡ Refused n p → Checks (ending m o) (Answer.Refused n p) l l′
-  unfolding outcomeOf ending answerOf Stored
+module _ (m : List ℕ) (o : MessageRead) (s : Step) (l l′ : List ℕ) (q : outcomeOf s l′ ≡ led o 0 l) where
+  pub body-refused : (n p : ℕ) → s ≡ Refused n p → Checks (messageEnd m o) (Answer.Refused n p) l l′
+  unfolding outcomeOf messageEnd answerOf Stored
   body-refused n p e = rw (stopped-from o n p l (rw e at q)) (record { answer = refl; words = tt })
 
   module _ (a w : ℕ) (e : s ≡ Reached a w) where
@@ -53,12 +51,12 @@ module _ (m : List ℕ) (o : Outcome) (s : Step) (l l′ : List ℕ) (q : outcom
     unfolding outcomeOf
     from = reached-from o a w l l′ (rw e at q)
 
-    pub body-left : a < length m → Checks (ending m o) (Answer.Refused 5 a) l l′
-    unfolding ending answerOf Stored pick
+    pub body-left : a < length m → Checks (messageEnd m o) (Answer.Refused 5 a) l l′
+    unfolding messageEnd answerOf Stored pick
     body-left g = rw (from .1, lt-ltb a (length m) g) (record { answer = refl; words = tt })
 
-    pub body-read : length m ≤ a → Checks (ending m o) (Read a w) l l′
-    unfolding ending answerOf Stored pick
+    pub body-read : length m ≤ a → Checks (messageEnd m o) (Read a w) l l′
+    unfolding messageEnd answerOf Stored pick
     body-read g =
         rw (from .1, le-ltb a (length m) g)
         (record { answer = ap (Read a) (from .2 ∙ zero-add (length (from .0))); words = list-at s a (from .0) l l′ (rw (from .1) at q) })
@@ -66,7 +64,7 @@ module _ (m : List ℕ) (o : Outcome) (s : Step) (l l′ : List ℕ) (q : outcom
 -- ---- the tests before the body
 
 -- a refusal says nothing of the scratch room
-refuses : (o : Outcome) (n p : ℕ) (l l′ : List ℕ) → o ≡ refused n p → Checks o (Answer.Refused n p) l l′
+refuses : (o : MessageRead) (n p : ℕ) (l l′ : List ℕ) → o ≡ unread n p → Checks o (Answer.Refused n p) l l′
 unfolding answerOf Stored
 refuses o n p l l′ e = rw e (record { answer = refl; words = tt })
 
@@ -91,18 +89,18 @@ module _ (side : ℕ) (s l l′ : List ℕ) where
         check-more j = refuses _ 1 0 l l′ (rw (← e, le-ltb (length s) 5 h, le-ltb n 4 g, le-ltb 65535 n k, lt-ltb (length s) (n + 1) j))
 
         module _ (j : n + 1 ≤ length s) (r : ℕ) (f : r ≡ startOf side (getD s 0 0)) where
-          message-is : messageOf side s ≡ body (knownAt r) (take (n + 1) s)
+          message-is : messageOf side s ≡ bodyRead (knownAt r) (take (n + 1) s)
           unfolding messageOf pick
           message-is =
               let d = start-known r side (getD s 0 0) f in
               rw (← e, le-ltb (length s) 5 h, le-ltb n 4 g, le-ltb 65535 n k, le-ltb (length s) (n + 1) j, ← d)
 
           pub check-unknown : 51 ≤ r → Checks (messageOf side s) (Answer.Refused 3 0) l l′
-          unfolding body knownAt pick
+          unfolding bodyRead knownAt pick
           check-unknown q = refuses _ 3 0 l l′ (message-is ∙ rw (le-ltb r 51 q))
 
-          pub check-known : (a : Answer) → r < 51 → Checks (ending (take (n + 1) s) (fields (layoutAt r) (take (n + 1) s) 5)) a l l′ → Checks (messageOf side s) a l l′
-          unfolding body knownAt pick
+          pub check-known : (a : Answer) → r < 51 → Checks (messageEnd (take (n + 1) s) (fieldsRead (layoutAt r) (take (n + 1) s) 5)) a l l′ → Checks (messageOf side s) a l l′
+          unfolding bodyRead knownAt pick
           check-known a q v = rw (message-is, lt-ltb r 51 q) v
 
 -- ---- an accepted message's words
@@ -119,45 +117,45 @@ module _ (side : ℕ) (s : List ℕ) (acc : Accepted (messageOf side s)) where
     accepted-start = layout-is .0
 
     pub filled : (e : ℕ) (x : Step) (l l′ : List ℕ) → e ≡ be (take 4 (drop 1 s)) + 1
-        → outcomeOf x l′ ≡ led (fields (judgedAll false (layoutAt r)) (take e s) 5) 0 l → l′ ≡ sets l 0 (wordsOf (messageOf side s))
-    unfolding wordsOf judgedAll
+        → outcomeOf x l′ ≡ led (fieldsRead (judgedAll false (layoutAt r)) (take e s) 5) 0 l → l′ ≡ sets l 0 (messageWords (messageOf side s))
+    unfolding messageWords judgedAll
     filled e x l l′ g q =
         let t = unjudged-reads (accepted .layout) (take (be (take 4 (drop 1 s)) + 1) s) 5 (acc .used) (acc .words) (accepted .body .outcome) in
         rw (acc .is) (list-at x (acc .used) (acc .words) l l′ (rw (g, layout-is .1, t) at q))
 
 -- ---- what an answer says of the outcome
 
-read-of : (o : Outcome) (u w : ℕ) → Read u w ≡ answerOf o → (ws : List ℕ) × (o ≡ read u ws) × (w ≡ length ws)
+read-of : (o : MessageRead) (u w : ℕ) → Read u w ≡ answerOf o → (ws : List ℕ) × (o ≡ read u ws) × (w ≡ length ws)
 unfolding answerOf
-read-of (refused n p) u w e = let z : _≡_ {A = ℕ} 0 1 = cc in absurd (omega arith)
+read-of (unread n p) u w e = let z : _≡_ {A = ℕ} 0 1 = cc in absurd (omega arith)
 read-of (read at ws) u w e = let a : at ≡ u = cc in (ws, rw a, cc)
 
-refused-of : (o : Outcome) (n p : ℕ) → Answer.Refused n p ≡ answerOf o → o ≡ refused n p
+refused-of : (o : MessageRead) (n p : ℕ) → Answer.Refused n p ≡ answerOf o → o ≡ unread n p
 unfolding answerOf
-refused-of (refused m q) n p e = cc
+refused-of (unread m q) n p e = cc
 refused-of (read at ws) n p e = let z : _≡_ {A = ℕ} 0 1 = cc in absurd (omega arith)
 
 -- what a check says of an accepted message: its words, and that they are in the scratch room
-pub record Found (o : Outcome) (u w : ℕ) (l l′ : List ℕ) : Type 0 where
+pub record Found (o : MessageRead) (u w : ℕ) (l l′ : List ℕ) : Type 0 where
   pub words : List ℕ
   pub is : o ≡ read u words
   pub count : w ≡ length words
   pub stored : l′ ≡ sets l 0 words
 
-pub found : (o : Outcome) (a : Answer) (l l′ : List ℕ) → Checks o a l l′ → (u w : ℕ) → a ≡ Read u w → Found o u w l l′
+pub found : (o : MessageRead) (a : Answer) (l l′ : List ℕ) → Checks o a l l′ → (u w : ℕ) → a ≡ Read u w → Found o u w l l′
 unfolding Stored
 found o a l l′ c u w e =
     let r = read-of o u w (sym e ∙ c .answer) in
     record { words = r .0; is = r .1; count = r .2; stored = rw (r .1) at (c .words) }
 
-pub turned-down : (o : Outcome) (a : Answer) (l l′ : List ℕ) → Checks o a l l′ → (n p : ℕ) → a ≡ Answer.Refused n p → o ≡ refused n p
+pub turned-down : (o : MessageRead) (a : Answer) (l l′ : List ℕ) → Checks o a l l′ → (n p : ℕ) → a ≡ Answer.Refused n p → o ≡ unread n p
 turned-down o a l l′ c n p e = refused-of o n p (sym e ∙ c .answer)
 
 -- ---- the call
 
 module _ (side : ℕ) (s : List ℕ) (a : Answer) (k k′ : List ℕ) (c : Checks (messageOf side s) a k k′) where
-  pub gives-refused : (l : List ℕ) (n p : ℕ) → a ≡ Answer.Refused n p → Gives (message side s (length l)) a l l
-  unfolding message roomed answerOf listAfter
+  pub gives-refused : (l : List ℕ) (n p : ℕ) → a ≡ Answer.Refused n p → Gives (messageCall side s (length l)) a l l
+  unfolding messageCall messageRoomed answerOf messageList
   gives-refused l n p e =
       let o = turned-down (messageOf side s) a k k′ c n p e in
       record { answer = e ∙ rw o; list = rw o }
@@ -169,14 +167,14 @@ module _ (side : ℕ) (s : List ℕ) (a : Answer) (k k′ : List ℕ) (c : Check
     pub accepts : Accepted (messageOf side s)
     accepts = record { used = u; words = f .words; is = f .is }
 
-    pub gives-full : (l : List ℕ) → length l < w → Gives (message side s (length l)) (Answer.Refused 31 0) l l
-    unfolding message roomed answerOf listAfter pick
+    pub gives-full : (l : List ℕ) → length l < w → Gives (messageCall side s (length l)) (Answer.Refused 31 0) l l
+    unfolding messageCall messageRoomed answerOf messageList pick
     gives-full l h =
         let h′ : length l < length (f .words) = omega (arith, f .count) in
         rw (f .is, lt-ltb (length l) (length (f .words)) h′) (record { answer = refl; list = refl })
 
-    pub gives-read : (l l′ : List ℕ) → w ≤ length l → l′ ≡ sets l 0 (wordsOf (messageOf side s)) → Gives (message side s (length l)) (Read u w) l l′
-    unfolding message roomed answerOf listAfter wordsOf pick
+    pub gives-read : (l l′ : List ℕ) → w ≤ length l → l′ ≡ sets l 0 (messageWords (messageOf side s)) → Gives (messageCall side s (length l)) (Read u w) l l′
+    unfolding messageCall messageRoomed answerOf messageList messageWords pick
     gives-read l l′ h x =
         let h′ : length (f .words) ≤ length l = omega (arith, f .count) in
         let g : l′ ≡ sets l 0 (f .words) = rw (f .is) at x in

@@ -1,4 +1,4 @@
--- The laws of one field at a position: numbers by their codes, content after a length, text. Assumes nothing.
+-- The laws of one field at a position: numbers by their codes, content after a length, text.
 use mathlib.Core.Path.{_≡_, refl, ap, sym, _∙_}
 use mathlib.Core.Bool.{Bool, true, false}
 use mathlib.Core.List.{List}
@@ -7,17 +7,15 @@ use native.Mathlib.Omega.{arith}
 use native.Mathlib.Nat.{add-sub-cancel-left}
 use lib.ListN.{length, take, drop}
 use borrow.Author.Tests.{le-leb, lt-leb}
-use Rattle.wire.specs.Choice.{pick}
-use Rattle.wire.specs.Be.{be}
-use Rattle.wire.specs.Utf8.{wellFormed}
-use Rattle.layout.specs.Layout.{text, bytes, permits}
-use Rattle.layout.specs.Judged.{judged}
-use Rattle.layout.specs.Tables.{fieldOf, widthOf, valuesOf}
-use Rattle.layout.proofs.Rules.{text-code, bytes-code, number-code}
-use Rattle.message_read.specs.Reading.{lengthened, textual, fieldAt}
+use Rattle.message_layout.specs.Judged.{judged}
+use Rattle.message_layout.specs.Tables.{fieldOf, widthOf, valuesOf}
+use Rattle.message_layout.proofs.Rules.{text-code, bytes-code, number-code}
 use Rattle.message_read.specs.Scan.{Inside}
-use Rattle.message_read.specs.declared.Found.{Found}
-use Rattle.message_read.specs.declared.Found.the-variants.{Short, Barred, At}
+use Rattle.forms.specs.declared.FieldRead.{FieldRead}
+use Rattle.forms.specs.declared.FieldRead.the-variants.{Short, Barred, At}
+use Rattle.protocol.specs.Numbers.{pick, be}
+use Rattle.protocol.specs.Text.{wellFormed}
+use Rattle.protocol.specs.Messages.{text, bytes, permits, lengthened, textual, fieldAt}
 
 -- ---- a number field, by its code's width and values
 
@@ -63,7 +61,7 @@ module _ (m : List ℕ) (at : ℕ) where
 
 -- ---- text
 
-module _ (m : List ℕ) (f : Found) (s n : ℕ) (e : f ≡ At s n) (r : Bool) (w : r ≡ wellFormed (take (s + n - s) (drop s m))) where
+module _ (m : List ℕ) (f : FieldRead) (s n : ℕ) (e : f ≡ At s n) (r : Bool) (w : r ≡ wellFormed (take (s + n - s) (drop s m))) where
   rule : textual m f ≡ pick r (At s n) Barred
   unfolding textual
   rule =
@@ -104,7 +102,7 @@ module _ (m : List ℕ) (c at : ℕ) (j : Bool) where
 
 -- ---- what is found stays inside
 
-pub textual-inside : (at n : ℕ) (m : List ℕ) (f : Found) → Inside at n f → Inside at n (textual m f)
+pub textual-inside : (at n : ℕ) (m : List ℕ) (f : FieldRead) → Inside at n f → Inside at n (textual m f)
 unfolding Inside textual pick
 textual-inside at n m Short h = tt
 textual-inside at n m Barred h = tt
@@ -114,7 +112,7 @@ textual-inside at n m (At s l) h = either (wellFormed (take l (drop s m)))
     either true = h
     either false = tt
 
-pub inside-zero : (at n : ℕ) (f : Found) → Inside at n f → Inside 0 n f
+pub inside-zero : (at n : ℕ) (f : FieldRead) → Inside at n f → Inside 0 n f
 unfolding Inside
 inside-zero at n Short h = tt
 inside-zero at n Barred h = tt

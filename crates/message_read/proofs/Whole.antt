@@ -1,4 +1,4 @@
--- What an accepted message is made of. Assumes nothing.
+-- What an accepted message is made of.
 use mathlib.Core.Path.{_≡_, refl, _∙_}
 use mathlib.Core.Bool.{Bool, true, false}
 use mathlib.Core.List.{List}
@@ -7,44 +7,43 @@ use native.Mathlib.Omega.{arith}
 use lib.Dec.{ltb}
 use lib.ListN.{length, getD, take, drop}
 use borrow.Author.Tests.{ltb-false, ltb-true}
-use Rattle.wire.specs.Choice.{pick}
-use Rattle.wire.specs.Be.{be}
-use Rattle.layout.specs.Layout.{Layout, Known, known, unknown, layoutOf}
-use Rattle.layout.specs.Tables.{layoutAt, knownAt}
-use Rattle.message_read.specs.Reading.{Outcome, refused, read, fields, ending, body, messageOf, roomed}
+use Rattle.message_layout.specs.Tables.{layoutAt, knownAt}
+use Rattle.protocol.specs.Numbers.{pick, be}
+use Rattle.protocol.specs.Messages.{Layout, layoutOf, MessageRead, unread, read, fieldsRead, messageEnd, bodyRead, messageOf, messageRoomed}
+use mathlib.Core.Option.{Option, some, none}
 
 -- a test whose refusal was not given
-past : (b : Bool) (n p : ℕ) (o : Outcome) (u : ℕ) (ws : List ℕ) → pick b (refused n p) o ≡ read u ws → (b ≡ false) × (o ≡ read u ws)
+past : (b : Bool) (n p : ℕ) (o : MessageRead) (u : ℕ) (ws : List ℕ) → pick b (unread n p) o ≡ read u ws → (b ≡ false) × (o ≡ read u ws)
 unfolding pick
 past true n p o u ws e = let z : _≡_ {A = ℕ} 0 1 = cc in absurd (omega arith)
 past false n p o u ws e = (refl, e)
 
 -- an accepted body: its fields, with nothing left over
 pub record Body (l : Layout) (m : List ℕ) (u : ℕ) (ws : List ℕ) : Type 0 where
-  pub outcome : fields l m 5 ≡ read u ws
+  pub outcome : fieldsRead l m 5 ≡ read u ws
   pub end : length m ≤ u
 
-ended : (l : Layout) (m : List ℕ) (o : Outcome) (u : ℕ) (ws : List ℕ) → fields l m 5 ≡ o → ending m o ≡ read u ws → Body l m u ws
-unfolding ending
-ended l m (refused n p) u ws f e = let z : _≡_ {A = ℕ} 0 1 = cc in absurd (omega arith)
+ended : (l : Layout) (m : List ℕ) (o : MessageRead) (u : ℕ) (ws : List ℕ) → fieldsRead l m 5 ≡ o → messageEnd m o ≡ read u ws → Body l m u ws
+unfolding messageEnd
+ended l m (unread n p) u ws f e = let z : _≡_ {A = ℕ} 0 1 = cc in absurd (omega arith)
 ended l m (read at vs) u ws f e =
     let a = past (ltb at (length m)) 5 at (read at vs) u ws e in
     let q : at ≡ u = cc (a .1) in
     record { outcome = f ∙ a .1; end = omega (arith, ltb-false at (length m) (a .0)) }
 
 -- a known type, by the position of its layout
-pub known-layout : (r : ℕ) (k : Known) (l : Layout) → knownAt r ≡ k → k ≡ known l → (r < 51) × (layoutAt r ≡ l)
+pub known-layout : (r : ℕ) (k : (Option Layout)) (l : Layout) → knownAt r ≡ k → k ≡ some l → (r < 51) × (layoutAt r ≡ l)
 unfolding knownAt pick
 known-layout r k l e f = go (ltb r 51) refl (e ∙ f)
   where
-    go : (b : Bool) → ltb r 51 ≡ b → pick b (known (layoutAt r)) unknown ≡ known l → (r < 51) × (layoutAt r ≡ l)
+    go : (b : Bool) → ltb r 51 ≡ b → pick b (some (layoutAt r)) none ≡ some l → (r < 51) × (layoutAt r ≡ l)
     go true t q = (ltb-true r 51 t, cc)
     go false t q = let z : _≡_ {A = ℕ} 0 1 = cc in absurd (omega arith)
 
-embodied : (k : Known) (m : List ℕ) (u : ℕ) (ws : List ℕ) → body k m ≡ read u ws → (l : Layout) × (k ≡ known l) × Body l m u ws
-unfolding body
-embodied unknown m u ws e = let z : _≡_ {A = ℕ} 0 1 = cc in absurd (omega arith)
-embodied (known l) m u ws e = (l, refl, ended l m (fields l m 5) u ws refl e)
+embodied : (k : (Option Layout)) (m : List ℕ) (u : ℕ) (ws : List ℕ) → bodyRead k m ≡ read u ws → (l : Layout) × (k ≡ some l) × Body l m u ws
+unfolding bodyRead
+embodied none m u ws e = let z : _≡_ {A = ℕ} 0 1 = cc in absurd (omega arith)
+embodied (some l) m u ws e = (l, refl, ended l m (fieldsRead l m 5) u ws refl e)
 
 -- an accepted message: its length field n, its layout, and its body
 pub record Whole (side : ℕ) (s : List ℕ) (n u : ℕ) (ws : List ℕ) : Type 0 where
@@ -54,7 +53,7 @@ pub record Whole (side : ℕ) (s : List ℕ) (n u : ℕ) (ws : List ℕ) : Type 
   pub high : n ≤ 65535
   pub fits : n + 1 ≤ length s
   pub layout : Layout
-  pub kind : layoutOf side (getD s 0 0) ≡ known layout
+  pub kind : layoutOf side (getD s 0 0) ≡ some layout
   pub body : Body layout (take (n + 1) s) u ws
 
 pub whole : (side : ℕ) (s : List ℕ) (u : ℕ) (ws : List ℕ) → messageOf side s ≡ read u ws → Whole side s (be (take 4 (drop 1 s))) u ws
@@ -78,9 +77,9 @@ whole side s u ws e =
     }
 
 -- what the call reads, the message is, and its list has room
-pub roomy : (o : Outcome) (room u : ℕ) (ws : List ℕ) → roomed room o ≡ read u ws → (o ≡ read u ws) × (length ws ≤ room)
-unfolding roomed
-roomy (refused n p) room u ws e = let z : _≡_ {A = ℕ} 0 1 = cc in absurd (omega arith)
+pub roomy : (o : MessageRead) (room u : ℕ) (ws : List ℕ) → messageRoomed room o ≡ read u ws → (o ≡ read u ws) × (length ws ≤ room)
+unfolding messageRoomed
+roomy (unread n p) room u ws e = let z : _≡_ {A = ℕ} 0 1 = cc in absurd (omega arith)
 roomy (read at vs) room u ws e =
     let a = past (ltb room (length vs)) 31 0 (read at vs) u ws e in
     let q : vs ≡ ws = cc (a .1) in

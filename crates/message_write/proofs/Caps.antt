@@ -1,4 +1,4 @@
--- The laws of a length that stops growing past the largest message. Assumes nothing.
+-- The laws of a length that stops growing past the largest message.
 use mathlib.Core.Path.{_≡_, sym, _∙_}
 use mathlib.Core.List.{List}
 use mathlib.Core.Logic.{⊎-elim}
@@ -7,10 +7,10 @@ use native.Mathlib.Omega.{arith}
 use lib.ListN.{length}
 use lib.Seq.{sets}
 use borrow.Author.Tests.{lt-ltb, le-ltb}
-use Rattle.wire.specs.Choice.{pick}
 use Rattle.wire.proofs.Stores.{sets-out}
-use Rattle.layout.proofs.Codes.{lt-or-ge}
+use Rattle.message_layout.proofs.Codes.{lt-or-ge}
 use Rattle.message_write.specs.Emitting.{cap}
+use Rattle.protocol.specs.Numbers.{pick}
 
 pub cap-small : (n : ℕ) → n ≤ 65537 → cap n ≡ n
 unfolding cap pick

@@ -1,4 +1,4 @@
--- The laws of a field's content: whether it fits, and how it is put out. Assumes nothing.
+-- The laws of a field's content: whether it fits, and how it is put out.
 use mathlib.Core.Path.{_≡_, refl, ap, sym, _∙_}
 use mathlib.Core.Bool.{Bool, true, false}
 use mathlib.Core.List.{List, [], _∷_, _++_, append-nil}
@@ -9,17 +9,15 @@ use native.Mathlib.Nat.{eq-or-lt-of-le}
 use lib.ListN.{length, take, drop, length-append}
 use lib.Seq.{sets, sets-eq, take-length}
 use borrow.Author.Tests.{eq-eqb, ne-eqb}
-use Rattle.wire.specs.Choice.{pick}
-use Rattle.wire.specs.Be.{be, bytesBe}
-use Rattle.wire.specs.Utf8.{wellFormed}
 use Rattle.wire.proofs.Numbers.{length-bytes}
 use Rattle.wire.proofs.Stores.{sets-append}
-use Rattle.layout.specs.Layout.{Field, number, text, bytes, permits}
-use Rattle.layout.specs.Judged.{judged}
-use Rattle.layout.specs.Tables.{fieldOf, widthOf, valuesOf}
-use Rattle.layout.proofs.Rules.{text-code, bytes-code, number-code}
-use Rattle.message_write.specs.Writing.{fitting, framed}
+use Rattle.message_layout.specs.Judged.{judged}
+use Rattle.message_layout.specs.Tables.{fieldOf, widthOf, valuesOf}
+use Rattle.message_layout.proofs.Rules.{text-code, bytes-code, number-code}
 use Rattle.message_write.specs.Emitting.{cap, Framed}
+use Rattle.protocol.specs.Numbers.{pick, be, bytesBe}
+use Rattle.protocol.specs.Text.{wellFormed}
+use Rattle.protocol.specs.Messages.{Field, number, text, bytes, permits, fitting, fieldBytes}
 
 -- ---- whether content fits
 
@@ -67,15 +65,15 @@ module _ (c : ℕ) (b : List ℕ) (j : Bool) where
 -- ---- how content is put out
 
 -- whether content is judged or not, it is put out alike
-pub framed-judged : (j : Bool) (f : Field) (b : List ℕ) → framed (judged j f) b ≡ framed f b
-unfolding framed judged
+pub framed-judged : (j : Bool) (f : Field) (b : List ℕ) → fieldBytes (judged j f) b ≡ fieldBytes f b
+unfolding fieldBytes judged
 framed-judged true f b = refl
 framed-judged false (number w vs) b = refl
 framed-judged false text b = refl
 framed-judged false bytes b = refl
 
-framed-of : (c : ℕ) (b : List ℕ) → 0 < c → c ≤ 2 → framed (fieldOf c) b ≡ bytesBe 4 (length b) ++ b
-unfolding framed
+framed-of : (c : ℕ) (b : List ℕ) → 0 < c → c ≤ 2 → fieldBytes (fieldOf c) b ≡ bytesBe 4 (length b) ++ b
+unfolding fieldBytes
 framed-of c b p q =
     ⊎-elim
     (λ (e : c ≡ 2). rw (bytes-code c e))
@@ -91,12 +89,12 @@ head-is v =
     ∙ append-nil (bytesBe 4 v)
 
 module _ (c at : ℕ) (b out : List ℕ) (r : ℕ) where
-  pub framed-number : (out′ : List ℕ) → 2 < c → r ≡ cap (at + length b) → out′ ≡ sets out at b → Framed (framed (fieldOf c) b) at r out out′
-  unfolding framed
+  pub framed-number : (out′ : List ℕ) → 2 < c → r ≡ cap (at + length b) → out′ ≡ sets out at b → Framed (fieldBytes (fieldOf c) b) at r out out′
+  unfolding fieldBytes
   framed-number out′ g er e = rw (number-code c g) (record { next = er; output = e })
 
   pub framed-content : (head out₁ out′ : List ℕ) → 0 < c → c ≤ 2 → r ≡ cap (at + 4 + length b) → head ≡ sets (0 ∷ 0 ∷ 0 ∷ 0 ∷ []) 0 (bytesBe 4 (length b))
-      → out₁ ≡ sets out at head → out′ ≡ sets out₁ (at + 4) b → Framed (framed (fieldOf c) b) at r out out′
+      → out₁ ≡ sets out at head → out′ ≡ sets out₁ (at + 4) b → Framed (fieldBytes (fieldOf c) b) at r out out′
   framed-content head out₁ out′ p q er e f g =
       rw (framed-of c b p q)
       (record {

@@ -1,4 +1,4 @@
--- How a writing ends: the laws of the last tests and of the whole output. Assumes nothing.
+-- How a writing ends: the laws of the last tests and of the whole output.
 use mathlib.Core.Path.{_≡_, refl, ap, sym, _∙_}
 use mathlib.Core.Bool.{false}
 use mathlib.Core.List.{List, [], _∷_, _++_, append-nil}
@@ -9,16 +9,12 @@ use native.Mathlib.Nat.{zero-add}
 use lib.ListN.{length, take, drop, set, length-append, length-take, drop-of-length-le}
 use lib.Seq.{sets, sets-eq, take-set-lt, drop-set-lt}
 use borrow.Author.Tests.{lt-ltb, le-ltb}
-use Rattle.wire.specs.Choice.{pick}
-use Rattle.wire.specs.Be.{bytesBe}
 use Rattle.wire.proofs.Numbers.{length-bytes}
 use Rattle.wire.proofs.Stores.{sets-append}
-use Rattle.layout.specs.Layout.{layoutOf}
-use Rattle.layout.specs.Judged.{judgedAll}
-use Rattle.layout.specs.Tables.{layoutAt, knownAt, startOf}
-use Rattle.layout.proofs.Starts.{start-known}
-use Rattle.layout.proofs.Codes.{lt-or-ge}
-use Rattle.message_write.specs.Writing.{Written, faulty, wrote, fieldsFrom, whole, bodyFrom, written, outputAfter}
+use Rattle.message_layout.specs.Judged.{judgedAll}
+use Rattle.message_layout.specs.Tables.{layoutAt, knownAt, startOf}
+use Rattle.message_layout.proofs.Starts.{start-known}
+use Rattle.message_layout.proofs.Codes.{lt-or-ge}
 use Rattle.message_write.specs.Emitting.{cap, broken, stands, put-at, standOf}
 use Rattle.message_write.specs.Answers.{Puts, wroteOf}
 use Rattle.message_write.specs.declared.Wrote.the-variants.{Refused, Whole}
@@ -26,6 +22,9 @@ use Rattle.message_write.specs.declared.Emit.{Emit}
 use Rattle.message_write.specs.declared.Emit.the-variants.{Faulty, Done}
 use Rattle.message_write.proofs.Caps.{cap-small, cap-exact}
 use Rattle.message_write.proofs.Trusted.{unjudged-writes}
+use Rattle.protocol.specs.Numbers.{pick, bytesBe}
+use Rattle.protocol.specs.Messages.{layoutOf, Written, unwritten, wrote, fieldsWritten, messageWhole, bodyWritten, messageWritten}
+use Rattle.protocol.specs.Answers.{outputAfter}
 
 -- what was written, from where it leads
 pub record Led (w : Written) (p : ℕ) (us : List ℕ) (at : ℕ) : Type 0 where
@@ -35,16 +34,16 @@ pub record Led (w : Written) (p : ℕ) (us : List ℕ) (at : ℕ) : Type 0 where
 
 pub led : (w : Written) (p : ℕ) (o us : List ℕ) (at : ℕ) (o′ : List ℕ) → stands us at o′ ≡ put-at w p o → Led w p us at
 unfolding put-at
-led faulty p o us at o′ e = let z : _≡_ {A = ℕ} 0 1 = cc in absurd (omega arith)
+led unwritten p o us at o′ e = let z : _≡_ {A = ℕ} 0 1 = cc in absurd (omega arith)
 led (wrote b vs) p o us at o′ e = let f : vs ≡ us = cc in record { body = b; is = ap (wrote b) f; next = cc }
 
 -- no longer than the largest message: the length is exact
 pub exact : (w : Written) (p : ℕ) (us : List ℕ) (at : ℕ) (d : Led w p us at) → at ≤ 65536 → p + length (d .body) ≡ at
 exact w p us at d h = sym (cap-exact (p + length (d .body)) (omega (arith, d .next))) ∙ sym (d .next)
 
-unled : (w : Written) (p : ℕ) (o : List ℕ) → broken ≡ put-at w p o → w ≡ faulty
+unled : (w : Written) (p : ℕ) (o : List ℕ) → broken ≡ put-at w p o → w ≡ unwritten
 unfolding put-at
-unled faulty p o e = refl
+unled unwritten p o e = refl
 unled (wrote b vs) p o e = let z : _≡_ {A = ℕ} 0 1 = cc in absurd (omega arith)
 
 -- the output of a writing that is known to be whole
@@ -96,37 +95,39 @@ module _ (side t : ℕ) (ws src out : List ℕ) (r : ℕ) (e : r ≡ startOf sid
   known-is : knownAt r ≡ layoutOf side t
   known-is = start-known r side t e
 
-  pub puts-unknown : 51 ≤ r → Puts (written side t ws src (length out)) (Refused 3) out out
-  unfolding written bodyFrom knownAt wroteOf outputAfter pick
+  pub puts-unknown : 51 ≤ r → Puts (messageWritten side t ws src (length out)) (Refused 3) out out
+  unfolding messageWritten bodyWritten knownAt wroteOf outputAfter pick
   puts-unknown h = rw (← known-is, le-ltb r 51 h) (record { answer = refl; output = refl })
 
   module _ (h : r < 51) where
-    written-is : written side t ws src (length out) ≡ whole t (length out) (fieldsFrom (layoutAt r) src ws)
-    unfolding written bodyFrom knownAt pick
+    written-is : messageWritten side t ws src (length out) ≡ messageWhole t (length out) (fieldsWritten (layoutAt r) src ws)
+    unfolding messageWritten bodyWritten knownAt pick
     written-is = rw (← known-is, lt-ltb r 51 h)
 
-    pub puts-faulty : (o : List ℕ) → broken ≡ put-at (fieldsFrom (layoutAt r) src ws) 5 o → Puts (written side t ws src (length out)) (Refused 6) out out
-    unfolding whole wroteOf outputAfter
-    puts-faulty o q = rw (written-is, unled (fieldsFrom (layoutAt r) src ws) 5 o q) (record { answer = refl; output = refl })
+    pub puts-faulty : (o : List ℕ) → broken ≡ put-at (fieldsWritten (layoutAt r) src ws) 5 o → Puts (messageWritten side t ws src (length out)) (Refused 6) out out
+    unfolding messageWhole wroteOf outputAfter
+    puts-faulty o q = rw (written-is, unled (fieldsWritten (layoutAt r) src ws) 5 o q) (record { answer = refl; output = refl })
 
-    module _ (us : List ℕ) (at : ℕ) (d : Led (fieldsFrom (layoutAt r) src ws) 5 us at) where
-      pub puts-left : 0 < length us → Puts (written side t ws src (length out)) (Refused 6) out out
-      unfolding whole wroteOf outputAfter
+    module _ (us : List ℕ) (at : ℕ) (d : Led (fieldsWritten (layoutAt r) src ws) 5 us at) where
+      pub puts-left : 0 < length us → Puts (messageWritten side t ws src (length out)) (Refused 6) out out
+      unfolding messageWhole wroteOf outputAfter
       puts-left g = rw (written-is, d .is) (go us g)
         where
-          go : (vs : List ℕ) → 0 < length vs → Puts (whole t (length out) (wrote (d .body) vs)) (Refused 6) out out
+          go : (vs : List ℕ) → 0 < length vs → Puts (messageWhole t (length out) (wrote (d .body) vs)) (Refused 6) out out
           go [] l = absurd (omega arith)
           go (v ∷ vs) l = record { answer = refl; output = refl }
 
       module _ (none : length us ≡ 0) where
-        all-is : written side t ws src (length out) ≡ whole t (length out) (wrote (d .body) [])
-        all-is = written-is ∙ ap (whole t (length out)) (d .is ∙ ap (wrote (d .body)) (none-left us none))
+        all-is : messageWritten side t ws src (length out) ≡ messageWhole t (length out) (wrote (d .body) [])
+        all-is = written-is ∙ ap (messageWhole t (length out)) (d .is ∙ ap (wrote (d .body)) (none-left us none))
 
-        pub puts-long : 65536 < at → Puts (written side t ws src (length out)) (Refused 2) out out
-        unfolding whole wroteOf outputAfter pick
+        pub puts-long : 65536 < at → Puts (messageWritten side t ws src (length out)) (Refused 2) out out
+        unfolding messageWhole wroteOf outputAfter pick
         puts-long g =
             let k : 65535 < length (d .body) + 4 =
-            ⊎-elim (λ (l : 65535 < length (d .body) + 4). l) (λ (l : length (d .body) + 4 ≤ 65535). absurd (omega (arith, d .next, cap-small (5 + length (d .body)) (omega arith)))) (lt-or-ge 65535 (length (d .body) + 4)) in
+            ⊎-elim (λ (l : 65535 < length (d .body) + 4). l)
+            (λ (l : length (d .body) + 4 ≤ 65535). absurd (omega (arith, d .next, cap-small (5 + length (d .body)) (omega arith))))
+            (lt-or-ge 65535 (length (d .body) + 4)) in
             rw (all-is, lt-ltb 65535 (length (d .body) + 4) k) (record { answer = refl; output = refl })
 
         module _ (fit : at ≤ 65536) where
@@ -136,16 +137,16 @@ module _ (side t : ℕ) (ws src out : List ℕ) (r : ℕ) (e : r ≡ startOf sid
           short : length (d .body) + 4 ≤ 65535
           short = omega (arith, size)
 
-          pub puts-full : length out < at → Puts (written side t ws src (length out)) (Refused 32) out out
-          unfolding whole wroteOf outputAfter pick
+          pub puts-full : length out < at → Puts (messageWritten side t ws src (length out)) (Refused 32) out out
+          unfolding messageWhole wroteOf outputAfter pick
           puts-full g =
               let k : length out < length (d .body) + 5 = omega (arith, size) in
               rw (all-is, le-ltb 65535 (length (d .body) + 4) short, lt-ltb (length out) (length (d .body) + 5) k) (record { answer = refl; output = refl })
 
           pub puts-whole : at ≤ length out → (x : Emit) (list out₁ front : List ℕ) → out₁ ≡ sets (set out 0 t) 1 (bytesBe 4 (at - 1))
-              → standOf x list front ≡ put-at (fieldsFrom (judgedAll false (layoutAt r)) src ws) 5 (take at out₁)
-              → Puts (written side t ws src (length out)) (Whole at) out (front ++ drop at out₁)
-          unfolding whole wroteOf outputAfter pick judgedAll
+              → standOf x list front ≡ put-at (fieldsWritten (judgedAll false (layoutAt r)) src ws) 5 (take at out₁)
+              → Puts (messageWritten side t ws src (length out)) (Whole at) out (front ++ drop at out₁)
+          unfolding messageWhole wroteOf outputAfter pick judgedAll
           puts-whole g x list out₁ front e q =
               let k : length (d .body) + 5 ≤ length out = omega (arith, size) in
               let n : at - 1 ≡ length (d .body) + 4 = omega (arith, size) in

@@ -1,5 +1,5 @@
--- The writing as the code does it: the list by the next word's index, the output by the next byte's, which stops growing past the
--- largest message so that no sum can overflow. Assumes nothing: these are definitions.
+-- Nobody has to believe these definitions: they are the writing of a message as the code does it, the list by the next word's index, the
+-- output by the next byte's, which stops growing past the largest message so that no sum can overflow.
 use mathlib.Core.Path.{_≡_}
 use Prim.Native.Nat.{ℕ, _+_, _-_, _≤_}
 use mathlib.Core.Bool.{Bool}
@@ -7,16 +7,14 @@ use mathlib.Core.List.{List}
 use lib.Dec.{ltb}
 use lib.ListN.{length, drop}
 use lib.Seq.{sets}
-use Rattle.wire.specs.Choice.{pick}
-use Rattle.wire.specs.Be.{be}
-use Rattle.layout.specs.Layout.{u16}
-use Rattle.layout.specs.Judged.{judged, judgedAll}
-use Rattle.layout.specs.Tables.{fieldOf, layoutAt}
-use Rattle.message_write.specs.Writing.{Written, faulty, wrote, nextField, joined, timesFrom, fieldsFrom}
+use Rattle.message_layout.specs.Judged.{judged, judgedAll}
+use Rattle.message_layout.specs.Tables.{fieldOf, layoutAt}
 use Rattle.message_write.specs.declared.Emit.{Emit}
 use Rattle.message_write.specs.declared.Emit.the-variants.{Faulty, Done}
+use Rattle.protocol.specs.Numbers.{pick, be}
+use Rattle.protocol.specs.Messages.{u16, Written, unwritten, wrote, nextField, joined, timesWritten, fieldsWritten}
 
--- one past the largest message, at most
+-- one past the largest message (R2.16), at most
 unfoldable pub cap : ℕ → ℕ
 cap n = pick (ltb 65537 n) 65537 n
 
@@ -32,7 +30,7 @@ pub data Stand : Type 0 where
 
 -- where a writing from `at` on leads
 unfoldable pub put-at : Written → ℕ → List ℕ → Stand
-put-at faulty at out = broken
+put-at unwritten at out = broken
 put-at (wrote b ws) at out = stands ws (cap (at + length b)) (sets out at b)
 
 unfoldable pub standOf : Emit → List ℕ → List ℕ → Stand
@@ -48,4 +46,4 @@ Bounded n (Done i at) = (i ≤ n) × (at ≤ 65537)
 unfoldable pub itemFrom : Bool → ℕ → List ℕ → List ℕ → Written
 itemFrom j c src ws =
     pick (ltb c 16) (nextField (judged j (fieldOf c)) src ws)
-    (joined (nextField u16 src ws) (λ b. timesFrom (be b) (fieldsFrom (judgedAll j (layoutAt (c - 16))) src)))
+    (joined (nextField u16 src ws) (λ b. timesWritten (be b) (fieldsWritten (judgedAll j (layoutAt (c - 16))) src)))

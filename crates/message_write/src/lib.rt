@@ -1,16 +1,16 @@
 // Writing a message: one interpreter over the layouts' table. A first pass judges and measures, a second puts the bytes out.
 ghost use mathlib.Core.Path.{_≡_};
-ghost use mathlib.Core.Bool.{Bool, true, false};
-ghost use Prim.Native.Nat.{ℕ, _+_, _^_, _≤_, _<_};
+ghost use mathlib.Core.Bool.{true, false};
+ghost use Prim.Native.Nat.{_+_, _^_, _≤_, _<_};
 ghost use lib.ListN.{length, drop};
-ghost use Rattle.layout.specs.Tables.{codes, fieldOf, layoutAt};
-ghost use Rattle.layout.specs.Judged.{judged, judgedAll};
-ghost use Rattle.message_write.specs.Writing.{fitting, framed, nextField, fieldsFrom, written};
+ghost use Rattle.message_layout.specs.Tables.{codes, fieldOf, layoutAt};
+ghost use Rattle.message_layout.specs.Judged.{judged, judgedAll};
 ghost use Rattle.message_write.specs.Answers.{Puts};
 ghost use Rattle.message_write.specs.Emitting.{cap, Framed, put-at, standOf, Bounded, itemFrom};
+ghost use Rattle.protocol.specs.Messages.{fitting, fieldBytes, nextField, fieldsWritten, messageWritten};
 
 // One past the largest message: where the running length stops growing.
-const LIMIT: usize = 65537;
+const LIMIT: usize = constants::MOST_MESSAGE + 1;
 
 // A writing so far: a fault, or the next word of the list and the next byte of the output.
 pub enum Emit {
@@ -32,12 +32,12 @@ fn number_fits(part: &[u8], code: u8, judge: bool) -> bool
     requires { ⌜ (2 < code) × (code < 12) ⌝ }
     ensures { λ r. ⌜ r ≡ fitting (judged judge (fieldOf code)) (now (part .entry)) ⌝ }
 {
-    let n = layout::width_of(code);
+    let n = message_layout::width_of(code);
     if part.len() != n {
         return false;
     }
     if judge {
-        return layout::admits(part, 0, code);
+        return message_layout::admits(part, 0, code);
     }
     true
 }
@@ -47,10 +47,10 @@ fn content_fits(part: &[u8], code: u8, judge: bool) -> bool
     requires { ⌜ (0 < code) × (code < 12) ⌝ }
     ensures { λ r. ⌜ r ≡ fitting (judged judge (fieldOf code)) (now (part .entry)) ⌝ }
 {
-    if layout::BYTES < code {
+    if message_layout::BYTES < code {
         return number_fits(part, code, judge);
     }
-    if code == layout::BYTES {
+    if code == message_layout::BYTES {
         return true;
     }
     if judge {
@@ -62,9 +62,9 @@ fn content_fits(part: &[u8], code: u8, judge: bool) -> bool
 // A field of the given code with its content, put into out at `at`, as far as it has room.
 fn frame(part: &[u8], code: u8, out: &mut [u8], at: usize) -> usize
     requires { ⌜ (0 < code) × (code < 12) × (length (now part) < 2 ^ 32) × (at ≤ 65537) ⌝ }
-    ensures { λ r. ⌜ Framed (framed (fieldOf code) (now (part .entry))) at r (now (out .entry)) (now (out .exit)) ⌝ }
+    ensures { λ r. ⌜ Framed (fieldBytes (fieldOf code) (now (part .entry))) at r (now (out .entry)) (now (out .exit)) ⌝ }
 {
-    if layout::BYTES < code {
+    if message_layout::BYTES < code {
         wire::copy::put_bytes(part, out, at);
         return capped(at + part.len());
     }
@@ -124,15 +124,15 @@ fn emit_item(
     ensures { λ r. ⌜ standOf r (now (list .entry)) (now (out .exit)) ≡ put-at (itemFrom judge code (now (src .entry)) (drop first (now (list .entry)))) from (now (out .entry)) ⌝ }
     ensures bounded { λ r. ⌜ Bounded (length (now (list .entry))) r ⌝ }
 {
-    if code < layout::RUN {
+    if code < message_layout::RUN {
         return emit_field(src, list, code, judge, first, from, out);
     }
-    let count = emit_field(src, list, layout::U16, judge, first, from, out);
+    let count = emit_field(src, list, message_layout::U16, judge, first, from, out);
     let Emit::Done { word: w, at: a } = count else {
         return Emit::Faulty;
     };
     let s = list[first] as usize;
-    let items = (code - layout::RUN) as usize;
+    let items = (code - message_layout::RUN) as usize;
     let mut left = wire::be::u16_at(src, s);
     let mut i = w;
     let mut at = a;
@@ -160,15 +160,16 @@ fn emit_walk(
     out: &mut [u8],
 ) -> Emit
     requires { ⌜ (start < 51) × (first ≤ length (now list)) × (from ≤ 65537) × (length (now out) ≤ 65536) × (now table ≡ codes) ⌝ }
-    ensures { λ r. ⌜ standOf r (now (list .entry)) (now (out .exit)) ≡ put-at (fieldsFrom (judgedAll judge (layoutAt start)) (now (src .entry)) (drop first (now (list .entry)))) from (now (out .entry)) ⌝ }
+    ensures { λ r. ⌜ standOf r (now (list .entry)) (now (out .exit))
+        ≡ put-at (fieldsWritten (judgedAll judge (layoutAt start)) (now (src .entry)) (drop first (now (list .entry)))) from (now (out .entry)) ⌝ }
     ensures bounded { λ r. ⌜ Bounded (length (now (list .entry))) r ⌝ }
 {
     let mut p = start;
     let mut i = first;
     let mut at = from;
     loop {
-        let code = layout::code_at(table, p);
-        if code == layout::END {
+        let code = message_layout::code_at(table, p);
+        if code == message_layout::END {
             return Emit::Done { word: i, at };
         }
         let step = emit_item(src, list, table, code, judge, i, at, out);
@@ -189,26 +190,36 @@ pub enum Wrote {
 
 // Writes the message of a type byte whose fields hold the bytes of src that the list's pairs name.
 pub fn write(side: u32, ty: u8, list: &[u32], src: &[u8], out: &mut [u8]) -> Wrote
-    ensures { λ r. ⌜ Puts (written side ty (now (list .entry)) (now (src .entry)) (length (now (out .entry)))) r (now (out .entry)) (now (out .exit)) ⌝ }
+    ensures { λ r. ⌜ Puts (messageWritten side ty (now (list .entry)) (now (src .entry)) (length (now (out .entry)))) r (now (out .entry)) (now (out .exit)) ⌝ }
 {
-    let start = layout::start_of(side, ty);
-    if layout::NONE <= start {
-        return Wrote::Refused { no: 3 };
+    let start = message_layout::start_of(side, ty);
+    if message_layout::NONE <= start {
+        return Wrote::Refused {
+            no: constants::UNKNOWN_TYPE,
+        };
     }
-    let table = layout::table();
+    let table = message_layout::table();
     let mut none = [0u8; 0];
     let first = emit_walk(src, list, &table, start, true, 0, 5, &mut none);
     let Emit::Done { word, at } = first else {
-        return Wrote::Refused { no: 6 };
+        return Wrote::Refused {
+            no: constants::BAD_FIELD,
+        };
     };
     if word < list.len() {
-        return Wrote::Refused { no: 6 };
+        return Wrote::Refused {
+            no: constants::BAD_FIELD,
+        };
     }
-    if 65536 < at {
-        return Wrote::Refused { no: 2 };
+    if constants::MOST_MESSAGE < at {
+        return Wrote::Refused {
+            no: constants::BAD_LENGTH,
+        };
     }
     if out.len() < at {
-        return Wrote::Refused { no: 32 };
+        return Wrote::Refused {
+            no: constants::OUTPUT_ROOM,
+        };
     }
     out[0] = ty;
     wire::be::put_u32(out, 1, (at - 1) as u32);

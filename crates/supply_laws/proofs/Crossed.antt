@@ -1,4 +1,4 @@
--- 34 exactly, as the C host meets it: a list that does not cross is 34 too, in its turn. Assumes nothing.
+-- 34 exactly, as the C host meets it: a list that does not cross is 34 too, in its turn.
 use mathlib.Core.Path.{_≡_, refl}
 use mathlib.Core.Bool.{Bool, true, false}
 use mathlib.Core.List.{List, [], _∷_}
@@ -7,16 +7,16 @@ use Prim.Native.Nat.{ℕ, zero, suc, _<_}
 use native.Mathlib.Omega.{arith}
 use lib.Dec.{lit<}
 use lib.ListN.{length}
-use Rattle.wire.specs.Choice.{pick}
 use Rattle.wire.proofs.Numbers.{be-below}
 use Rattle.wire.proofs.Picks.{pick-split}
-use Rattle.plan.specs.Plan.{planFormed}
-use Rattle.supply.specs.Write.{refusedPut, writeOf}
-use Rattle.crossing.specs.Crossing.{wordsIn, crosses}
-use Rattle.panel_supply.specs.Supplies.{uncrossedSupply, writeFrom}
 use Rattle.supply_laws.proofs.Fields.{Bytes}
 use Rattle.supply_laws.proofs.SoundReads.{Words}
 use Rattle.supply_laws.proofs.Exact.{NoneHas, exact-34}
+use Rattle.protocol.specs.Numbers.{pick}
+use Rattle.protocol.specs.Plans.{planFormed}
+use Rattle.protocol.specs.Answers.{refusedPut}
+use Rattle.protocol.specs.Building.{writeOf}
+use Rattle.protocol.specs.Crossing.{wordsIn, crosses, uncrossedSupply, writeFrom}
 
 -- the words of bytes are words
 words-in : (s : List ℕ) → Bytes s → Words (wordsIn s)

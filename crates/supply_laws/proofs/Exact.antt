@@ -1,5 +1,5 @@
--- The numbers of writing a value are given exactly where document 01's table says: 33, 34 and 32. A value, a source and a list are as lent:
--- the first two are bytes, and the list's are words. Assumes nothing.
+-- The numbers of writing a value are given exactly where R1.3 says: 33, 34 and 32. A value, a source and a list are as lent:
+-- the first two are bytes, and the list's are words.
 use mathlib.Core.Path.{_≡_, refl, sym, _∙_}
 use mathlib.Core.Bool.{Bool, true, false}
 use mathlib.Core.List.{List, [], _∷_}
@@ -9,19 +9,19 @@ use native.Mathlib.Omega.{arith}
 use lib.Dec.{ltb}
 use lib.ListN.{length}
 use borrow.Author.Tests.{ltb-true, lt-ltb, le-ltb}
-use Rattle.wire.specs.Choice.{pick}
 use Rattle.wire.proofs.Picks.{pick-yes, pick-no, pick-split}
-use Rattle.plan.specs.Plan.{planFormed}
-use Rattle.supply.specs.Supply.{zeroed, HasSupply}
-use Rattle.supply.specs.Build.{Made, wrong, made}
-use Rattle.supply.specs.Write.{Put, refusedPut, putOut, madeBy, suppliedBy, roomed, writeOf}
 use Rattle.supply_laws.proofs.Fields.{Bytes}
 use Rattle.supply_laws.proofs.SoundReads.{Words}
 use Rattle.supply_laws.proofs.Sound.{sound}
 use Rattle.supply_laws.proofs.Written.{supplied-is-bytes}
 use Rattle.supply_laws.proofs.Complete.{zeroed-length, complete, refused-none}
+use Rattle.protocol.specs.Numbers.{pick}
+use Rattle.protocol.specs.Plans.{planFormed}
+use Rattle.protocol.specs.Supplies.{zeroed, HasSupply}
+use Rattle.protocol.specs.Building.{Made, wrong, made, madeBy, suppliedBy, writeOf}
+use Rattle.protocol.specs.Answers.{Put, refusedPut, putOut, outputRoomed}
 
--- "no accepted value has this supply": a value is bytes
+-- of all values that are bytes and are accepted, none has the supply (R8.6)
 abbrev pub NoneHas : (p ws src : List ℕ) → Type 0
 NoneHas p ws src = (s : List ℕ) → Bytes s → HasSupply p s ws src → ⊥
 
@@ -45,11 +45,11 @@ refused-formed p ws src room e =
 
 module _ (p ws src : List ℕ) (formed : planFormed p ≡ true) where
   refused-is : (room : ℕ) → suppliedBy (madeBy p ws src) ≡ refusedPut 34 → writeOf p ws src room ≡ refusedPut 34
-  unfolding writeOf roomed pick
+  unfolding writeOf outputRoomed pick
   refused-is room e = rw (formed, e)
 
   written-is : (b : List ℕ) → suppliedBy (madeBy p ws src) ≡ putOut b → writeOf p ws src (length b) ≡ putOut b
-  unfolding writeOf roomed pick
+  unfolding writeOf outputRoomed pick
   written-is b e = rw (formed, e, le-ltb (length b) (length b) (omega arith))
 
   -- where no accepted value has the supply, the call gives 34: else what it makes is one
@@ -72,9 +72,9 @@ exact-34 p ws src room small bytes = (
 -- ---- 33 and 32
 
 -- what the room makes of 34 or a value is 34, 32 or the value
-roomed-short : (room : ℕ) (x : Put) (n : ℕ) → (x ≡ refusedPut 34) ⊎ ((b : List ℕ) × (x ≡ putOut b)) → roomed room x ≡ refusedPut n
+roomed-short : (room : ℕ) (x : Put) (n : ℕ) → (x ≡ refusedPut 34) ⊎ ((b : List ℕ) × (x ≡ putOut b)) → outputRoomed room x ≡ refusedPut n
     → (n ≡ 34) ⊎ ((n ≡ 32) × ((b : List ℕ) × (x ≡ putOut b) × (room < length b)))
-unfolding roomed
+unfolding outputRoomed
 roomed-short room (refusedPut m) n o e =
     ⊎-elim
     (λ (h : refusedPut m ≡ refusedPut 34). inl (cc))
@@ -108,7 +108,7 @@ module _ (p ws src : List ℕ) (room : ℕ) where
 
   -- 32 is given exactly when an accepted value has the supply, and is longer than the room.
   pub exact-32 : Words ws → Bytes src → (writeOf p ws src room ≡ refusedPut 32) ↔ ((s : List ℕ) × Bytes s × HasSupply p s ws src × (room < length s))
-  unfolding roomed
+  unfolding outputRoomed
   exact-32 small bytes = (
     λ e. go (planFormed p) refl e,
     λ x.

@@ -1,4 +1,4 @@
--- The bytes of heads: what is made of a head that was read is that head with its reserved fields zero. Assumes nothing.
+-- The bytes of heads: what is made of a head that was read is that head with its reserved fields zero.
 use mathlib.Core.Path.{_≡_, refl, ap, sym, _∙_}
 use mathlib.Core.Bool.{Bool, true, false}
 use mathlib.Core.List.{List, [], _∷_, _++_, append-assoc}
@@ -7,24 +7,25 @@ use native.Mathlib.Omega.{arith}
 use native.Mathlib.Decide.{decLt}
 use native.Mathlib.Nat.{add-zero, suc-add, zero-add}
 use lib.Dec.{lit<}
-use lib.ListN.{length, take, drop, getD, length-append, length-take, length-drop, take-append-drop, List·getD-append, List·getD-eq-default, set as store}
-use lib.Seq.{take-add, drop-drop, take-take, take-nil, length-take-le, take-suc, take-append-seam, drop-append-le, getD-take, getD-drop}
+use lib.ListN.{length, take, drop, getD, length-append, length-take, length-drop, List·getD-append, List·getD-eq-default, set as store}
+use lib.Seq.{take-add, drop-drop, take-take, take-nil, length-take-le, take-suc, getD-take, getD-drop}
 use borrow.Author.Tests.{eqb-true, eqb-false, ltb-false, lt-ltb, eq-eqb, ne-eqb}
-use Rattle.wire.specs.Choice.{pick}
-use Rattle.wire.specs.Be.{bytesBe}
 use Rattle.wire.proofs.Numbers.{bytes-be, length-bytes}
 use Rattle.wire.proofs.Picks.{pick-case}
-use Rattle.heads.specs.Heads.{word, gone, setOpening, countOpening, sparseOpening, rangeFlags, bounds, rangeOpening, optional, plainHead, objectHead, envelopeHead, requires, sparseRest, sparseHead, indexOf}
-use Rattle.heads.specs.declared.Opening.{Opening}
-use Rattle.heads.specs.declared.Opening.the-variants.{Elements, Wrong}
-use Rattle.heads.specs.declared.Head.{Head}
-use Rattle.heads.specs.declared.Head.the-variants.{Present, Absent, Fault}
-use Rattle.heads.proofs.Cases.{sized-cases, plain-cases, index-cases}
-use Rattle.rules.proofs.Parts.{Stands, stands-whole, stands-part}
-use Rattle.rules.specs.Node.{Node, leaf, enum, row, arrays, tuple, object, sparse, range}
-use Rattle.rules.specs.Values.{Form, rowHead, rowForm, sparseForm, openingOf}
-use Rattle.supply.specs.Supply.{zeros, Claim, SameFlags, SameBytes, zeroOpening, zeroHead, between}
-use Rattle.supply.specs.Build.{front, setBytes, boundsFront, rangeFront, countFront, frontOf, headBytes, Order, rowOrder, sparseOrder, mayLack}
+use Rattle.forms.specs.declared.Opening.{Opening}
+use Rattle.forms.specs.declared.Opening.the-variants.{Elements, Wrong}
+use Rattle.forms.specs.declared.Head.{Head}
+use Rattle.forms.specs.declared.Head.the-variants.{Present, Absent, Fault}
+use Rattle.value_heads.proofs.Cases.{sized-cases, plain-cases, index-cases}
+use Rattle.value_laws.proofs.Parts.{Stands}
+use Rattle.protocol.specs.Numbers.{pick, bytesBe}
+use Rattle.protocol.specs.Heads.{word, setOpening, countOpening, sparseOpening, rangeFlags, bounds, rangeOpening, optional, plainHead}
+use Rattle.protocol.specs.Heads.{objectHead, envelopeHead, requires, sparseRest, sparseHead, indexOf, dimension}
+use Rattle.protocol.specs.Constants.{ABSENT}
+use Rattle.protocol.specs.Nodes.{Node, leaf, enum, row, arrays, tuple, object, sparse, range}
+use Rattle.protocol.specs.Values.{Form, rowHead, rowForm, sparseForm, openingOf}
+use Rattle.protocol.specs.Supplies.{zeros, Claim, SameFlags, SameBytes, zeroOpening, zeroHead, between}
+use Rattle.protocol.specs.Building.{front, setBytes, boundsFront, rangeFront, countFront, frontOf, headBytes, Order, rowOrder, sparseOrder, mayLack}
 
 -- every element is a byte
 abbrev pub Bytes : List ℕ → Type 0
@@ -117,12 +118,12 @@ pub record Element {S : Type 0} (order : Order S) (v : Node) (s : List ℕ) (st 
 module _ {S : Type 0} (form : Form S) (order : Order S) (v : Node) (s : List ℕ) (st : S) (at : ℕ) where
   abbrev pub Again : Head → Type 0
   Again (Fault n) = Unit {0}
-  Again (Absent i start) = (mayLack v i ≡ true) × (start ≤ length s) × Element order v s st at (form .next st (Absent i start)) i start gone
+  Again (Absent i start) = (mayLack v i ≡ true) × (start ≤ length s) × Element order v s st at (form .next st (Absent i start)) i start ABSENT
   Again (Present i start n) = (start + n ≤ length s) × Element order v s st at (form .next st (Present i start n)) i start n
 
--- an element that may be absent: heads' case law, with the length
+-- an element that may be absent: the case law of value_heads/proofs/Cases, with the length
 optional-all : (P : Head → Type 0) → ((m : ℕ) → 0 < m → P (Fault m)) → (s : List ℕ) (required : Bool) (i start size : ℕ)
-    → (required ≡ false → size ≡ gone → P (Absent i start)) → (size < 2 ^ 31 → size ≤ length s - start → P (Present i start size)) → P (optional s required i start size)
+    → (required ≡ false → size ≡ ABSENT → P (Absent i start)) → (size < 2 ^ 31 → size ≤ length s - start → P (Present i start size)) → P (optional s required i start size)
 unfolding optional
 optional-all P bad s required i start size none good =
     pick-case P _ _ _ (λ g. pick-case P _ _ _ (λ _. bad 27 (lit< tt)) (λ r. none r (eqb-true _ _ g))) (λ _. sized-cases P bad s i start size good)
@@ -193,7 +194,7 @@ module _ (s : List ℕ) (b : Bytes s) (i at : ℕ) where
       let h : 8 ≤ length s - at = ltb-false _ _ whole in
       let element = gap-head (object refs cards) (λ _. refl) (λ _. refl) in
       optional-all P (λ _ _. tt) s (requires (getD cards i 0)) i (at + 8) (word s (at + 4))
-      (λ r g. (rw r, omega arith, element gone (omega arith) g))
+      (λ r g. (rw r, omega arith, element ABSENT (omega arith) g))
       (λ low fit. (omega arith, element (word s (at + 4)) (omega arith) refl)))
   row-again (sparse refs cards) = tt
   row-again (range r) = plain-head (range r) (λ _. refl) (λ _. refl)
@@ -217,7 +218,7 @@ sparse-again s b refs cards marks at =
     }
     in
     optional-all P (λ _ _. tt) s (requires (getD cards i 0)) i (at + 8) (word s (at + 4))
-    (λ r g. (rw r, omega arith, element gone g))
+    (λ r g. (rw r, omega arith, element ABSENT g))
     (λ low fit. (omega arith, element (word s (at + 4)) refl)))
 
 -- ---- a container's own head
@@ -269,7 +270,7 @@ module _ (s : List ℕ) (b : Bytes s) where
           }
 
       set-opens : Opened v t src base s (setOpening s)
-      unfolding setOpening
+      unfolding setOpening dimension
       set-opens =
           let P = Opened v t src base s in
           pick-case P _ _ _ (λ _. tt)

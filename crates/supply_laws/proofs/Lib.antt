@@ -1,4 +1,4 @@
--- What is written has the supply, and what has it is written: the theorems of writing values. Assumes nothing.
+-- What is written has the supply, and what has it is written: the theorems of writing values.
 pub mod SoundHeads
 pub mod SoundReads
 pub mod Sound

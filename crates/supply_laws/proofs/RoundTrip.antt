@@ -1,5 +1,5 @@
 -- The round trip: an accepted value has its own list and bytes for a supply, so that writing it again gives the same bytes but for the
--- containers' reserved fields, which are zero. Assumes nothing.
+-- containers' reserved fields, which are zero.
 use mathlib.Core.Path.{_≡_, refl, _∙_}
 use mathlib.Core.Bool.{Bool, true, false}
 use mathlib.Core.List.{List, [], _∷_, _++_, append-nil, append-assoc}
@@ -9,24 +9,26 @@ use native.Mathlib.Omega.{arith}
 use lib.Dec.{eqb}
 use lib.ListN.{length, take, drop, getD, length-take, length-drop}
 use borrow.Author.Tests.{le-ltb}
-use Rattle.wire.specs.Choice.{pick}
 use Rattle.wire.proofs.Picks.{pick-no, pick-case}
-use Rattle.heads.specs.Heads.{gone}
-use Rattle.heads.specs.Bounds.{Opened}
-use Rattle.heads.specs.declared.Opening.{Opening}
-use Rattle.heads.specs.declared.Opening.the-variants.{Elements, Wrong}
-use Rattle.heads.specs.declared.Head.{Head}
-use Rattle.heads.specs.declared.Head.the-variants.{Present, Absent, Fault}
-use Rattle.rules.specs.Node.{Node, leaf, enum, row, arrays, tuple, object, sparse, range, refAt}
-use Rattle.rules.specs.Forest.{Entry, Forest, empty, tree, append, width, words}
-use Rattle.rules.specs.Values.{Outcome, refused, listed, then, under, entryOf, Rule, absent, present, member, Form, ending, elements, rowForm, sparseForm, noMarks, leafRule, rowRule, sparseRule, byNode, value, valueOf, fuel}
-use Rattle.rules.proofs.Forests.{words-append}
-use Rattle.rules.proofs.HeadSizes.{Spaced, row-spaced, sparse-spaced, node-opened}
-use Rattle.plan.specs.Plan.{look}
-use Rattle.run.specs.Run.{nothingIn, valueBy, checked}
-use Rattle.supply.specs.Supply.{nextOf, SameLeaf, SameFlags, SameBytes, SamePart, AgreeNext, Agrees, zeroed, HasSupply}
-use Rattle.supply.specs.Write.{putOut, roomed, writeOf}
+use Rattle.value_heads.specs.Bounds.{Opened}
+use Rattle.forms.specs.declared.Opening.{Opening}
+use Rattle.forms.specs.declared.Opening.the-variants.{Elements, Wrong}
+use Rattle.forms.specs.declared.Head.{Head}
+use Rattle.forms.specs.declared.Head.the-variants.{Present, Absent, Fault}
+use Rattle.value_laws.proofs.Forests.{words-append}
+use Rattle.value_laws.proofs.HeadSizes.{Spaced, row-spaced, sparse-spaced, node-opened}
 use Rattle.supply_laws.proofs.Complete.{zeroed-length, complete}
+use Rattle.protocol.specs.Numbers.{pick}
+use Rattle.protocol.specs.Constants.{ABSENT}
+use Rattle.protocol.specs.Nodes.{Node, leaf, enum, row, arrays, tuple, object, sparse, range, refAt}
+use Rattle.protocol.specs.Lists.{Entry, Forest, empty, tree, append, width, words, entryOf}
+use Rattle.protocol.specs.Values.{ValueOutcome, then, under, Rule, absent, present, elementOutcome, Form, containerEnd, elements, rowForm}
+use Rattle.protocol.specs.Values.{sparseForm, noMarks, leafRule, rowRule, sparseRule, byNode, value, valueOf, fuel}
+use Rattle.protocol.specs.Answers.{refused, accepted, putOut, outputRoomed}
+use Rattle.protocol.specs.Plans.{look}
+use Rattle.protocol.specs.Running.{nothingIn, valueBy, checked, admitted}
+use Rattle.protocol.specs.Supplies.{nextOf, SameLeaf, SameFlags, SameBytes, SamePart, AgreeNext, Agrees, zeroed, HasSupply}
+use Rattle.protocol.specs.Building.{writeOf}
 
 -- ---- entries that agree with their own words
 
@@ -39,15 +41,15 @@ module _ (look : ℕ → Node) (t : List ℕ) where
   abbrev Own : Forest → Type 0
   Own g = (rest : List ℕ) → Agrees look t t g (words g ++ rest) rest
 
-  abbrev OwnOf : Outcome → Type 0
+  abbrev OwnOf : ValueOutcome → Type 0
   OwnOf (refused n p) = Unit {0}
-  OwnOf (listed g) = Own g
+  OwnOf (accepted g) = Own g
 
-  own-then : (a b : Outcome) → OwnOf a → OwnOf b → OwnOf (then a b)
+  own-then : (a b : ValueOutcome) → OwnOf a → OwnOf b → OwnOf (then a b)
   unfolding then
   own-then (refused n p) b x y = tt
-  own-then (listed f) (refused n p) x y = tt
-  own-then (listed f) (listed g) x y = λ rest. rw (words-append f g, append-assoc) (agrees-join f g _ (words g ++ rest) rest (x (words g ++ rest)) (y rest))
+  own-then (accepted f) (refused n p) x y = tt
+  own-then (accepted f) (accepted g) x y = λ rest. rw (words-append f g, append-assoc) (agrees-join f g _ (words g ++ rest) rest (x (words g ++ rest)) (y rest))
 
   same-part : (v : Node) (a n : ℕ) (b : Bool) → SameBytes t t v a n a n → SamePart t t v b a n a n
   unfolding SamePart
@@ -55,7 +57,7 @@ module _ (look : ℕ → Node) (t : List ℕ) where
   same-part v a n false h = h
 
   -- an entry, and what is below it
-  own-tree : (e : Entry) (below : Forest) → SamePart t t (look (e .node)) (eqb (e .size) gone) (e .start) (e .size) (e .start) (e .size) → Own below → Own (tree e below empty)
+  own-tree : (e : Entry) (below : Forest) → SamePart t t (look (e .node)) (eqb (e .size) ABSENT) (e .start) (e .size) (e .start) (e .size) → Own below → Own (tree e below empty)
   unfolding Agrees AgreeNext nextOf words pick
   own-tree e below same o rest =
       let more = (words below ++ []) ++ rest in
@@ -66,7 +68,7 @@ module _ (look : ℕ → Node) (t : List ℕ) where
   absent-own : (r : Option ℕ) (i start : ℕ) → OwnOf (absent r i start)
   unfolding absent SamePart Agrees words
   absent-own none i start = tt
-  absent-own (some k) i start = own-tree (entryOf k i start gone) empty tt (λ rest. refl)
+  absent-own (some k) i start = own-tree (entryOf k i start ABSENT) empty tt (λ rest. refl)
 
   -- ---- the rules, for parts of t
 
@@ -80,26 +82,26 @@ module _ (look : ℕ → Node) (t : List ℕ) where
     present-own (some k) i start n h =
         lists k i (base + start) (take n (drop start s)) (simp (length-take, length-drop) (omega arith))
 
-    member-own : (at : ℕ) (h : Head) → Spaced (length s) at h → OwnOf (member rule ref base s h)
-    unfolding member
+    member-own : (at : ℕ) (h : Head) → Spaced (length s) at h → OwnOf (elementOutcome rule ref base s h)
+    unfolding elementOutcome
     member-own at (Fault n) d = tt
     member-own at (Absent i start) d = absent-own (ref i) i (base + start)
     member-own at (Present i start n) d = present-own (ref i) i start n (d .1)
 
     module _ {S : Type 0} (form : Form S) (spaced : (st : S) (at : ℕ) → Spaced (length s) at (form .head st at)) where
       elements-own : (n : ℕ) (st : S) (at : ℕ) → OwnOf (elements form rule ref base s n st at)
-      unfolding elements ending Agrees words
+      unfolding elements containerEnd Agrees words
       elements-own zero st at = pick-case OwnOf _ _ _ (λ _. pick-case OwnOf _ _ _ (λ _. tt) (λ _ rest. refl)) (λ _. tt)
       elements-own (suc n) st at = own-then _ _ (member-own at (form .head st at) (spaced st at)) (elements-own n _ _)
 
   module _ (k i base : ℕ) (s : List ℕ) (v : Node) (is : look k ≡ v) where
     entry-own : SameBytes t t v base (length s) base (length s) → (below : Forest) → Own below → Own (tree (entryOf k i base (length s)) below empty)
-    entry-own same below = own-tree (entryOf k i base (length s)) below (rw is (same-part v base (length s) (eqb (length s) gone) same))
+    entry-own same below = own-tree (entryOf k i base (length s)) below (rw is (same-part v base (length s) (eqb (length s) ABSENT) same))
 
-    under-own : SameBytes t t v base (length s) base (length s) → (o : Outcome) → OwnOf o → OwnOf (under (entryOf k i base (length s)) o)
+    under-own : SameBytes t t v base (length s) base (length s) → (o : ValueOutcome) → OwnOf o → OwnOf (under (entryOf k i base (length s)) o)
     unfolding under
     under-own same (refused n p) h = tt
-    under-own same (listed below) h = entry-own same below h
+    under-own same (accepted below) h = entry-own same below h
 
     leaf-own : (good : Bool) → SameBytes t t v base (length s) base (length s) → OwnOf (leafRule good k i base s)
     unfolding leafRule Agrees words
@@ -139,7 +141,7 @@ module _ (look : ℕ → Node) (t : List ℕ) where
 
 module _ (p s : List ℕ) where
   checked-own : OwnOf (look p) s (checked p s)
-  unfolding checked valueBy valueOf nothingIn Agrees words
+  unfolding checked valueBy valueOf nothingIn Agrees words admitted
   checked-own =
       let P = OwnOf (look p) s in
       pick-case P _ _ _
@@ -150,18 +152,18 @@ module _ (p s : List ℕ) where
       (λ _. tt)
 
   -- An accepted value has its own list and bytes for a supply.
-  pub own-supply : (f : Forest) → checked p s ≡ listed f → HasSupply p s (words f) s
+  pub own-supply : (f : Forest) → checked p s ≡ accepted f → HasSupply p s (words f) s
   own-supply f e = record { forest = f; accepted = e; agrees = rw append-nil at ((rw e at checked-own) []) }
 
 -- An accepted value that is written again from its list and its own bytes is the same but for its containers' reserved fields, which are zero.
-pub round-trip : (p s : List ℕ) (room : ℕ) (f : Forest) → ((i : ℕ) → getD s i 0 < 256) → checked p s ≡ listed f
-    → writeOf p (words f) s room ≡ roomed room (putOut (zeroed p s))
+pub round-trip : (p s : List ℕ) (room : ℕ) (f : Forest) → ((i : ℕ) → getD s i 0 < 256) → checked p s ≡ accepted f
+    → writeOf p (words f) s room ≡ outputRoomed room (putOut (zeroed p s))
 round-trip p s room f bytes e = complete p s (words f) s room bytes (own-supply p s f e)
 
 -- A room as large as the value is enough.
-pub round-trip-fits : (p s : List ℕ) (room : ℕ) (f : Forest) → ((i : ℕ) → getD s i 0 < 256) → checked p s ≡ listed f → length s ≤ room
+pub round-trip-fits : (p s : List ℕ) (room : ℕ) (f : Forest) → ((i : ℕ) → getD s i 0 < 256) → checked p s ≡ accepted f → length s ≤ room
     → writeOf p (words f) s room ≡ putOut (zeroed p s)
-unfolding roomed
+unfolding outputRoomed
 round-trip-fits p s room f bytes e h =
     let l : length (zeroed p s) ≤ room = rw (zeroed-length p s bytes f e) h in
     round-trip p s room f bytes e ∙ pick-no _ _ _ (le-ltb room (length (zeroed p s)) l)

@@ -1,4 +1,4 @@
--- What is written is accepted by the rules, has the supply, and its containers' reserved fields are zero. Assumes nothing.
+-- What is written is accepted by the rules, has the supply, and its containers' reserved fields are zero.
 use mathlib.Core.Path.{_≡_, refl, ap, sym, _∙_}
 use mathlib.Core.Logic.{⊎-elim}
 use mathlib.Core.Bool.{Bool, true, false}
@@ -10,20 +10,22 @@ use lib.ListN.{length, take, drop, getD, length-append}
 use lib.Seq.{take-append-seam, drop-append-seam}
 use borrow.Author.Tests.{eqb-true, leb-true, ltb-false, le-ltb, eq-eqb, not-true}
 use Rattle.wire.proofs.Picks.{both, pick-split, pick-yes, pick-no}
-use Rattle.scalars.specs.Scalars.{scalar, enumeration}
-use Rattle.heads.specs.Heads.{gone}
-use Rattle.heads.specs.declared.Opening.the-variants.{Elements}
-use Rattle.rules.specs.Node.{Node, leaf, enum, row, arrays, tuple, object, sparse, range, refAt}
-use Rattle.rules.specs.Forest.{empty, tree}
-use Rattle.rules.specs.Values.{listed, under, entryOf, Rule, Form, elements, rowForm, sparseForm, noMarks, openingOf, leafRule, rowRule, sparseRule, byNode, value, valueOf, fuel}
-use Rattle.value.specs.Walk.{IsRow}
-use Rattle.plan.specs.Plan.{look, noType, planFormed}
-use Rattle.run.specs.Run.{nothingIn, valueBy, checked}
-use Rattle.supply.specs.Supply.{Claim, Next, short, next, nextOf, SameLeaf, SameBytes, Agrees, HasSupply, zeroOpening, zeroElements, zeroRow, zeroSparse, zeroNode, zeroValue, zeroed}
-use Rattle.supply.specs.Build.{Made, wrong, made, Builder, Front, faulty, front, frontOf, headBytes, Order, rowOrder, sparseOrder, mayLack, elementsMade, leafMade, rowMade, sparseMade, nodeMade, entryMade, build, buildOf}
-use Rattle.supply.specs.Write.{Put, refusedPut, putOut, madeBy, suppliedBy, roomed, writeOf}
+use Rattle.forms.specs.declared.Opening.the-variants.{Elements}
+use Rattle.value_parts.specs.Walk.{IsRow}
 use Rattle.supply_laws.proofs.SoundHeads.{Tail, tail-take, row-present, row-absent, sparse-present, sparse-absent, Opens, opens}
 use Rattle.supply_laws.proofs.SoundReads.{not-made, passed, spared, After, before-parts, Words, words-drop, next-is, Reads, reads-under, reads-alone, agree-present, Laws, Inner, elements-back}
+use Rattle.protocol.specs.Scalars.{scalar, enumeration}
+use Rattle.protocol.specs.Constants.{ABSENT}
+use Rattle.protocol.specs.Nodes.{Node, leaf, enum, row, arrays, tuple, object, sparse, range, refAt}
+use Rattle.protocol.specs.Lists.{empty, tree, entryOf}
+use Rattle.protocol.specs.Answers.{accepted, Put, refusedPut, putOut, outputRoomed}
+use Rattle.protocol.specs.Values.{under, Rule, Form, elements, rowForm, sparseForm, noMarks, openingOf, leafRule, rowRule, sparseRule, byNode, value, valueOf, fuel}
+use Rattle.protocol.specs.Plans.{look, noType, planFormed}
+use Rattle.protocol.specs.Running.{nothingIn, valueBy, checked, admitted}
+use Rattle.protocol.specs.Supplies.{Claim, Next, short, next, nextOf, SameLeaf, SameBytes, Agrees, HasSupply, zeroOpening, zeroElements, zeroRow, zeroSparse, zeroNode, zeroValue, zeroed}
+use Rattle.protocol.specs.Building.{Made, wrong, made, Builder, Front, noFront, front, frontOf, headBytes, Order, rowOrder, sparseOrder}
+use Rattle.protocol.specs.Building.{mayLack, elementsMade, leafMade, rowMade, sparseMade, nodeMade, entryMade, build, buildOf, madeBy}
+use Rattle.protocol.specs.Building.{suppliedBy, writeOf}
 
 -- ---- both orders
 
@@ -45,14 +47,14 @@ sparse-laws refs cards s =
           sparse-present s cards st i at n more small (a .0) (not-true _ (a .1)) w (omega arith) fit;
       not-there = λ st i at more admitted small may w.
           let a = both _ _ admitted in
-          sparse-absent s cards st i at gone more small (a .0) (not-true _ (a .1)) w refl (not-true _ may);
+          sparse-absent s cards st i at ABSENT more small (a .0) (not-true _ (a .1)) w refl (not-true _ may);
       onward = λ st h. refl;
       ends = λ st. refl;
     }
 
 -- ---- a value by its node
 
-leaf-good : (good : Bool) (k i base : ℕ) (s : List ℕ) → good ≡ true → leafRule good k i base s ≡ listed (tree (entryOf k i base (length s)) empty empty)
+leaf-good : (good : Bool) (k i base : ℕ) (s : List ℕ) → good ≡ true → leafRule good k i base s ≡ accepted (tree (entryOf k i base (length s)) empty empty)
 unfolding leafRule
 leaf-good good k i base s e = pick-yes _ _ _ e
 
@@ -61,7 +63,7 @@ record Claims (k i : ℕ) (ws : List ℕ) (c : Claim) (ws′ : List ℕ) : Type 
   entry : nextOf ws ≡ next c ws′
   node : c .node ≡ k
   index : c .index ≡ i
-  there : eqb (c .size) gone ≡ false
+  there : eqb (c .size) ABSENT ≡ false
 
 module _ (look : ℕ → Node) (t src : List ℕ) (k i base : ℕ) (ws : List ℕ) (c : Claim) (ws′ : List ℕ) (x : Claims k i ws c ws′) (small : Words ws)
     (b rest more : List ℕ) (few : length b < 2 ^ 30) (stands : Tail t base (b ++ more)) where
@@ -119,7 +121,7 @@ module _ (look : ℕ → Node) (t src : List ℕ) (k i base : ℕ) (ws : List �
     row-back : (v : Node) → look k ≡ v → IsRow v → (h : Front) → frontOf v src c ≡ h → rowMade rule v h c ws′ ≡ made b rest
         → Reads look t src 1 (rowRule v rules (openingOf v b) k i base b) (zeroRow zrule v (openingOf v b) b) b ws rest
     unfolding rowMade rowRule zeroRow
-    row-back v kind y faulty is e = not-made e
+    row-back v kind y noFront is e = not-made e
     row-back v kind y (front o first) is e =
         let a = before-parts o (elementsMade rowOrder rule v (c .count) first ws′) b rest e in
         let head = opens src c o first v is in
@@ -129,7 +131,7 @@ module _ (look : ℕ → Node) (t src : List ℕ) (k i base : ℕ) (ws : List �
     sparse-back : (refs cards : List ℕ) → look k ≡ sparse refs cards → (h : Front) → frontOf (sparse refs cards) src c ≡ h → sparseMade rule refs cards h c ws′ ≡ made b rest
         → Reads look t src 1 (sparseRule refs cards rules (openingOf (sparse refs cards) b) k i base b) (zeroSparse zrule refs cards (openingOf (sparse refs cards) b) b) b ws rest
     unfolding sparseMade sparseRule zeroSparse
-    sparse-back refs cards kind faulty is e = not-made e
+    sparse-back refs cards kind noFront is e = not-made e
     sparse-back refs cards kind (front o first) is e =
         let v = sparse refs cards in
         let order = sparseOrder cards in
@@ -175,8 +177,8 @@ build-back look t src (suc f) k i ws b rest small e few base more stands =
 not-put : {A : Type 0} {n : ℕ} {b : List ℕ} → refusedPut n ≡ putOut b → A
 not-put e = let z : _≡_ {A = ℕ} 0 1 = cc in absurd (omega arith)
 
-roomed-out : (room : ℕ) (x : Put) (b : List ℕ) → roomed room x ≡ putOut b → x ≡ putOut b
-unfolding roomed
+roomed-out : (room : ℕ) (x : Put) (b : List ℕ) → outputRoomed room x ≡ putOut b → x ≡ putOut b
+unfolding outputRoomed
 roomed-out room (refusedPut n) b e = not-put e
 roomed-out room (putOut c) b e = ⊎-elim (λ p. not-put (p .1)) (λ p. p .1) (pick-split _ _ _ _ e)
 
@@ -195,10 +197,10 @@ supplied-out (made c []) b e =
 
 module _ (p ws src b : List ℕ) (small : Words ws) (formed : planFormed p ≡ true) (fits : length b ≤ 65535) where
   checked-by : checked p b ≡ valueBy p b
-  unfolding checked
+  unfolding checked admitted
   checked-by = pick-yes _ _ _ formed ∙ pick-no _ _ _ (le-ltb 65535 (length b) fits)
 
-  -- "no type"
+  -- no type (R8.11)
   none-sound : noType p ≡ true → made [] ws ≡ made b [] → HasSupply p b ws src × (zeroed p b ≡ b)
   unfolding valueBy nothingIn Agrees zeroed
   none-sound t e =
@@ -232,7 +234,7 @@ pub sound : (p ws src : List ℕ) (room : ℕ) (b : List ℕ) → Words ws → w
 unfolding writeOf
 sound p ws src room b small e =
     ⊎-elim
-    (λ (q : (planFormed p ≡ true) × (roomed room (suppliedBy (madeBy p ws src)) ≡ putOut b)).
+    (λ (q : (planFormed p ≡ true) × (outputRoomed room (suppliedBy (madeBy p ws src)) ≡ putOut b)).
     let m = supplied-out (madeBy p ws src) b (roomed-out room (suppliedBy (madeBy p ws src)) b (q .1)) in
     made-sound p ws src b small (q .0) (m .1) (m .0))
     (λ q. not-put (q .1))

@@ -1,5 +1,5 @@
--- The heads that are written, of a container and of its elements, are read back as what they were written from, and their reserved fields
--- are zero. Assumes nothing.
+-- The heads that are written, of a container and of its elements, are read
+-- back as what they were written from, and their reserved fields are zero.
 use mathlib.Core.Path.{_≡_, refl, ap, sym, _∙_}
 use mathlib.Core.Option.{some}
 use mathlib.Core.Logic.{⊎-elim}
@@ -12,21 +12,22 @@ use lib.Dec.{ltb, lit<, lit≤}
 use lib.ListN.{length, take, drop, getD, length-append, length-drop}
 use lib.Seq.{getD-drop, drop-drop, drop-append-le, take-at, take-append-seam, drop-append-seam}
 use borrow.Author.Tests.{ltb-true, eqb-true, lt-leb, le-ltb, eq-eqb, ne-eqb, not-true}
-use Rattle.wire.specs.Choice.{pick}
-use Rattle.wire.specs.Be.{be, beFrom, bytesBe}
 use Rattle.wire.proofs.Numbers.{be-bytes, length-bytes}
 use Rattle.wire.proofs.Picks.{clash, pick-yes, pick-no, pick-case, pick-split}
-use Rattle.heads.specs.Heads.{word, negative, gone, setOpening, countOpening, sparseOpening, rangeFlags, bounds, rangeOpening, sized, optional, plainHead, objectHead, envelopeHead, sparseIndex, requires, sparseHead}
-use Rattle.heads.specs.declared.Opening.{Opening}
-use Rattle.heads.specs.declared.Opening.the-variants.{Elements, Wrong}
-use Rattle.heads.specs.declared.Head.{Head}
-use Rattle.heads.specs.declared.Head.the-variants.{Present, Absent}
-use Rattle.heads.proofs.Cases.{sparse-known}
-use Rattle.rules.specs.Node.{Node, leaf, enum, row, arrays, tuple, object, sparse, range, refAt}
-use Rattle.rules.specs.Values.{rowHead, openingOf}
-use Rattle.value.specs.Walk.{IsRow}
-use Rattle.supply.specs.Supply.{zeros, Claim, SameFlags, SameBytes, zeroOpening, zeroHead, between}
-use Rattle.supply.specs.Build.{faulty, front, setBytes, boundsFront, rangeFront, countFront, frontOf, headBytes, mayLack}
+use Rattle.forms.specs.declared.Opening.{Opening}
+use Rattle.forms.specs.declared.Opening.the-variants.{Elements, Wrong}
+use Rattle.forms.specs.declared.Head.{Head}
+use Rattle.forms.specs.declared.Head.the-variants.{Present, Absent}
+use Rattle.value_heads.proofs.Cases.{sparse-known}
+use Rattle.value_parts.specs.Walk.{IsRow}
+use Rattle.protocol.specs.Numbers.{pick, be, beFrom, bytesBe}
+use Rattle.protocol.specs.Heads.{word, negative, setOpening, countOpening, sparseOpening, rangeFlags, bounds, rangeOpening, elementIn}
+use Rattle.protocol.specs.Heads.{optional, plainHead, objectHead, envelopeHead, sparseIndex, requires, sparseHead, dimension}
+use Rattle.protocol.specs.Constants.{ABSENT}
+use Rattle.protocol.specs.Nodes.{Node, leaf, enum, row, arrays, tuple, object, sparse, range, refAt}
+use Rattle.protocol.specs.Values.{rowHead, openingOf}
+use Rattle.protocol.specs.Supplies.{zeros, Claim, SameFlags, SameBytes, zeroOpening, zeroHead, between}
+use Rattle.protocol.specs.Building.{noFront, front, setBytes, boundsFront, rangeFront, countFront, frontOf, headBytes, mayLack}
 
 -- ---- bytes from a position on
 
@@ -77,8 +78,8 @@ tail-within {s = s} {at = at} more b y u w =
 -- ---- the head of an element
 
 module _ (s : List ℕ) (i at n : ℕ) (more : List ℕ) where
-  sized-back : (start : ℕ) → n < 2 ^ 31 → start + n ≤ length s → sized s i start n ≡ Present i start n
-  unfolding sized negative
+  sized-back : (start : ℕ) → n < 2 ^ 31 → start + n ≤ length s → elementIn s i start n ≡ Present i start n
+  unfolding elementIn negative
   sized-back start small fit = pick-no _ _ _ (lt-leb (2 ^ 31) n small) ∙ pick-no _ _ _ (le-ltb (length s - start) n (omega arith))
 
   plain-back : (gap : ℕ) (z : List ℕ) → length z ≡ gap → n < 2 ^ 31 → n ≤ length more → Tail s at (z ++ (bytesBe 4 n ++ more))
@@ -96,7 +97,7 @@ module _ (s : List ℕ) (i at n : ℕ) (more : List ℕ) where
   optional-back required small fit w =
       let l = tail-length more (word-next n more w) in
       let q : word s (at + 4) ≡ n = word-is n more (omega arith) w in
-      rw q (pick-no _ _ _ (ne-eqb n gone (λ e. omega arith)) ∙ sized-back (at + 8) small (omega arith))
+      rw q (pick-no _ _ _ (ne-eqb n ABSENT (λ e. omega arith)) ∙ sized-back (at + 8) small (omega arith))
 
   envelope-back : 12 + n < 2 ^ 31 → n ≤ length more → Tail s at (bytesBe 4 (12 + n) ++ (bytesBe 4 1 ++ (zeros 4 ++ (bytesBe 4 n ++ more))))
       → envelopeHead s i at ≡ Present i (at + 16) n
@@ -118,12 +119,12 @@ module _ (s : List ℕ) (i at n : ℕ) (more : List ℕ) where
       ∙ sized-back (at + 16) (omega arith) (omega arith))
 
 -- an element that is not there
-gone-back : (s : List ℕ) (i at : ℕ) (more : List ℕ) (required : Bool) → required ≡ false → Tail s (at + 4) (bytesBe 4 gone ++ more)
+gone-back : (s : List ℕ) (i at : ℕ) (more : List ℕ) (required : Bool) → required ≡ false → Tail s (at + 4) (bytesBe 4 ABSENT ++ more)
     → optional s required i (at + 8) (word s (at + 4)) ≡ Absent i (at + 8)
 unfolding optional
 gone-back s i at more required free w =
-    let q : word s (at + 4) ≡ gone = word-is gone more (lit< tt) w in
-    rw (q, free) (pick-yes _ _ _ (eq-eqb gone gone refl) ∙ pick-no _ _ _ refl)
+    let q : word s (at + 4) ≡ ABSENT = word-is ABSENT more (lit< tt) w in
+    rw (q, free) (pick-yes _ _ _ (eq-eqb ABSENT ABSENT refl) ∙ pick-no _ _ _ refl)
 
 -- the head, and where the element's data starts
 placed : (h : Head) (i a b n : ℕ) → h ≡ Present i a n → a ≡ b → h ≡ Present i b n
@@ -158,7 +159,7 @@ module _ (s : List ℕ) (i at n : ℕ) (more : List ℕ) (small : 12 + n < 2 ^ 3
 
 -- an absent one
 module _ (s : List ℕ) (i at : ℕ) (more : List ℕ) where
-  pub row-absent : (v : Node) → IsRow v → mayLack v i ≡ true → Tail s at (headBytes v i gone ++ more) → rowHead v s i at ≡ Absent i (at + length (headBytes v i gone))
+  pub row-absent : (v : Node) → IsRow v → mayLack v i ≡ true → Tail s at (headBytes v i ABSENT ++ more) → rowHead v s i at ≡ Absent i (at + length (headBytes v i ABSENT))
   unfolding IsRow rowHead headBytes mayLack objectHead
   row-absent (leaf f) x may w = absurd x
   row-absent enum x may w = absurd x
@@ -166,12 +167,12 @@ module _ (s : List ℕ) (i at : ℕ) (more : List ℕ) where
   row-absent (arrays r) x may w = clash may
   row-absent (tuple refs) x may w = clash may
   row-absent (object refs cards) x may w =
-      let w1 : Tail s (at + 4) (bytesBe 4 gone ++ more) = tail-next (zeros 4) (bytesBe 4 gone ++ more) w in
-      let l = tail-length more (word-next gone more w1) in
+      let w1 : Tail s (at + 4) (bytesBe 4 ABSENT ++ more) = tail-next (zeros 4) (bytesBe 4 ABSENT ++ more) w in
+      let l = tail-length more (word-next ABSENT more w1) in
       left _ i _ _
       (pick-no _ _ _ (le-ltb (length s - at) 8 (omega arith))
       ∙ gone-back s i at more (requires (getD cards i 0)) (not-true _ may) w1)
-      (omega (arith, length-bytes 4 gone))
+      (omega (arith, length-bytes 4 ABSENT))
   row-absent (sparse refs cards) x may w = absurd x
   row-absent (range r) x may w = clash may
 
@@ -197,7 +198,7 @@ module _ (s cards : List ℕ) (marks : List Bool) (i at n : ℕ) (more : List �
   sparse-present few fit =
       placed _ i _ _ n (sparse-read ∙ optional-back s i at n more (requires (getD cards i 0)) few fit after-index) head-eight
 
-  pub sparse-absent : n ≡ gone → requires (getD cards i 0) ≡ false → sparseHead s cards marks at ≡ Absent i (at + length (bytesBe 4 i ++ bytesBe 4 n))
+  pub sparse-absent : n ≡ ABSENT → requires (getD cards i 0) ≡ false → sparseHead s cards marks at ≡ Absent i (at + length (bytesBe 4 i ++ bytesBe 4 n))
   sparse-absent e free =
       left _ i _ _ (sparse-read ∙ gone-back s i at more (requires (getD cards i 0)) free (rw e at after-index)) head-eight
 
@@ -250,7 +251,7 @@ module _ (n : ℕ) (more : List ℕ) where
 -- a set's or an array's with elements
 some-back : (s : List ℕ) (n : ℕ) (more : List ℕ) → 0 < n → n < 2 ^ 31 → Tail s 0 (bytesBe 4 1 ++ (zeros 8 ++ (bytesBe 4 n ++ (bytesBe 4 1 ++ more))))
     → setOpening s ≡ Elements n 0 20
-unfolding setOpening negative
+unfolding setOpening negative dimension
 some-back s n more many small w =
     let w1 : Tail s 12 (bytesBe 4 n ++ (bytesBe 4 1 ++ more)) = tail-next (zeros 8) (bytesBe 4 n ++ (bytesBe 4 1 ++ more)) (word-next 1 _ w) in
     let w2 : Tail s 16 (bytesBe 4 1 ++ more) = word-next n (bytesBe 4 1 ++ more) w1 in
@@ -270,7 +271,7 @@ some-back s n more many small w =
     ∙ pick-yes _ _ _ refl)
 
 none-back : (more : List ℕ) → setOpening (zeros 12 ++ more) ≡ Elements 0 0 12
-unfolding setOpening word be beFrom
+unfolding setOpening word be beFrom dimension
 none-back more =
     pick-no _ _ _ (le-ltb (length (zeros 12 ++ more)) 4 (omega arith))
     ∙ pick-no _ _ _ refl
@@ -315,7 +316,7 @@ pub record Opens (v : Node) (src : List ℕ) (c : Claim) (o : List ℕ) (first :
   pub same : (t : List ℕ) (base n : ℕ) (d : List ℕ) → Tail t base (o ++ d) → SameBytes t src v base n (c .start) (c .size)
 
 module _ (src : List ℕ) (c : Claim) (o : List ℕ) (first : ℕ) where
-  not-faulty : {A : Type 0} → faulty ≡ front o first → A
+  not-faulty : {A : Type 0} → noFront ≡ front o first → A
   not-faulty e = let z : _≡_ {A = ℕ} 0 1 = cc in absurd (omega arith)
 
   count-front : (n : ℕ) → countFront n c ≡ front o first → (c .count ≡ n) × (bytesBe 4 n ≡ o) × (0 ≡ first)

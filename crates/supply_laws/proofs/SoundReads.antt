@@ -1,5 +1,4 @@
 -- What was made of a supply's words reads back: laws of one thing after the other, and of a container's elements whatever their order.
--- Assumes nothing.
 use mathlib.Core.Path.{_≡_, refl, ap, sym, _∙_}
 use mathlib.Core.Logic.{⊎-elim}
 use mathlib.Core.Bool.{Bool, true, false}
@@ -12,19 +11,21 @@ use lib.Dec.{eqb}
 use lib.ListN.{length, drop, getD, length-append}
 use lib.Seq.{getD-drop}
 use borrow.Author.Tests.{eqb-true, ne-eqb, eq-eqb}
-use Rattle.wire.specs.Choice.{pick}
 use Rattle.wire.proofs.Picks.{pick-split}
-use Rattle.heads.specs.Heads.{gone, endOf, indexOf}
-use Rattle.heads.specs.declared.Head.{Head}
-use Rattle.heads.specs.declared.Head.the-variants.{Present, Absent}
-use Rattle.rules.specs.Node.{Node, refAt}
-use Rattle.rules.specs.Forest.{Entry, Forest, empty, tree, append, width}
-use Rattle.rules.specs.Values.{Outcome, listed, then, under, entryOf, Rule, absent, present, member, Form, elements}
-use Rattle.rules.proofs.Forests.{width-append}
-use Rattle.rules.proofs.Loops.{elements-done}
-use Rattle.supply.specs.Supply.{Claim, Next, short, next, claimOf, nextOf, SameBytes, SamePart, Agree, AgreeNext, Agrees, zeroPart, zeroMember, zeroElements}
-use Rattle.supply.specs.Build.{Made, wrong, made, before, andThen, Builder, headBytes, Order, mayLack, absentMade, headed, partMade, memberMade, stateAfter, elementsMade}
+use Rattle.forms.specs.declared.Head.{Head}
+use Rattle.forms.specs.declared.Head.the-variants.{Present, Absent}
+use Rattle.value_laws.proofs.Forests.{width-append}
+use Rattle.value_laws.proofs.Loops.{elements-done}
 use Rattle.supply_laws.proofs.SoundHeads.{Tail, tail-length, tail-next, tail-within, tail-take, tail-between, head-zero, head-length}
+use Rattle.protocol.specs.Numbers.{pick}
+use Rattle.protocol.specs.Constants.{ABSENT}
+use Rattle.protocol.specs.Heads.{endOf, indexOf}
+use Rattle.protocol.specs.Nodes.{Node, refAt}
+use Rattle.protocol.specs.Lists.{Entry, Forest, empty, tree, append, width, entryOf}
+use Rattle.protocol.specs.Values.{ValueOutcome, then, under, Rule, absent, present, elementOutcome, Form, elements}
+use Rattle.protocol.specs.Answers.{accepted}
+use Rattle.protocol.specs.Supplies.{Claim, Next, short, next, claimOf, nextOf, SameBytes, SamePart, Agree, AgreeNext, Agrees, zeroPart, zeroMember, zeroElements}
+use Rattle.protocol.specs.Building.{Made, wrong, made, madeBefore, thenMade, Builder, headBytes, Order, mayLack, absentMade, headed, partMade, memberMade, stateAfter, elementsMade}
 
 -- ---- what is made, taken apart
 
@@ -44,8 +45,8 @@ pub record After (m : Made) (x b rest : List ℕ) : Type 0 where
   pub made-is : m ≡ made last rest
   pub bytes : b ≡ x ++ last
 
-pub before-parts : (x : List ℕ) (m : Made) (b rest : List ℕ) → before x m ≡ made b rest → After m x b rest
-unfolding before
+pub before-parts : (x : List ℕ) (m : Made) (b rest : List ℕ) → madeBefore x m ≡ made b rest → After m x b rest
+unfolding madeBefore
 before-parts x wrong b rest e = not-made e
 before-parts x (made c ws) b rest e =
     let p : ws ≡ rest = cc in
@@ -57,8 +58,8 @@ record Both (m : Made) (f : List ℕ → Made) (b rest : List ℕ) : Type 0 wher
   first-is : m ≡ made first mid
   after : After (f mid) first b rest
 
-then-parts : (m : Made) (f : List ℕ → Made) (b rest : List ℕ) → andThen m f ≡ made b rest → Both m f b rest
-unfolding andThen
+then-parts : (m : Made) (f : List ℕ → Made) (b rest : List ℕ) → thenMade m f ≡ made b rest → Both m f b rest
+unfolding thenMade
 then-parts wrong f b rest e = not-made e
 then-parts (made c ws) f b rest e = record { first = c; mid = ws; first-is = refl; after = before-parts c (f ws) b rest e }
 
@@ -100,15 +101,15 @@ module _ (look : ℕ → Node) (t src : List ℕ) where
   agrees-append (tree e below sib) g ws mid rest a b = (a .0, (a .1 .0, a .1 .1, agrees-append sib g (a .1 .0) mid rest (a .1 .2) b))
 
   -- the outcome o lists n trees whose entries agree with the words ws up to `rest`, and z are the bytes b
-  pub record Reads (n : ℕ) (o : Outcome) (z b ws rest : List ℕ) : Type 0 where
+  pub record Reads (n : ℕ) (o : ValueOutcome) (z b ws rest : List ℕ) : Type 0 where
     pub forest : Forest
-    pub is : o ≡ listed forest
+    pub is : o ≡ accepted forest
     pub wide : width forest ≡ n
     pub agrees : Agrees look t src forest ws rest
     pub zeros-are : z ≡ b
     pub small : Words rest
 
-  pub reads-then : (n : ℕ) (o o′ : Outcome) (z z′ b b′ ws mid rest : List ℕ) → Reads 1 o z b ws mid → Reads n o′ z′ b′ mid rest
+  pub reads-then : (n : ℕ) (o o′ : ValueOutcome) (z z′ b b′ ws mid rest : List ℕ) → Reads 1 o z b ws mid → Reads n o′ z′ b′ mid rest
       → Reads (suc n) (then o o′) (z ++ z′) (b ++ b′) ws rest
   unfolding then
   reads-then n o o′ z z′ b b′ ws mid rest x y =
@@ -122,7 +123,7 @@ module _ (look : ℕ → Node) (t src : List ℕ) where
       }
 
   -- an entry whose claim is c, and what is below it
-  pub reads-under : (n : ℕ) (e : Entry) (o : Outcome) (z z′ b b′ whole ws rest : List ℕ) (c : Claim) (ws′ : List ℕ) → nextOf ws ≡ next c ws′
+  pub reads-under : (n : ℕ) (e : Entry) (o : ValueOutcome) (z z′ b b′ whole ws rest : List ℕ) (c : Claim) (ws′ : List ℕ) → nextOf ws ≡ next c ws′
       → Agree (look (e .node)) t src e n c → z′ ≡ b′ → whole ≡ b′ ++ b → Reads n o z b ws′ rest → Reads 1 (under e o) (z′ ++ z) whole ws rest
   unfolding under Agrees AgreeNext width
   reads-under n e o z z′ b b′ whole ws rest c ws′ entry agree zero-is parts x =
@@ -138,7 +139,7 @@ module _ (look : ℕ → Node) (t src : List ℕ) where
 
   -- an entry with nothing below it
   pub reads-alone : (e : Entry) (z b ws : List ℕ) (c : Claim) (rest : List ℕ) → nextOf ws ≡ next c rest → Agree (look (e .node)) t src e 0 c → z ≡ b → Words rest
-      → Reads 1 (listed (tree e empty empty)) z b ws rest
+      → Reads 1 (accepted (tree e empty empty)) z b ws rest
   unfolding Agrees AgreeNext width
   reads-alone e z b ws c rest entry agree zero-is small =
       let d = next-is ws c rest entry in
@@ -151,18 +152,18 @@ module _ (look : ℕ → Node) (t src : List ℕ) where
         small = small;
       }
 
-  pub agree-present : (v : Node) (k i base n m : ℕ) (c : Claim) → c .node ≡ k → c .index ≡ i → m ≡ c .count → eqb (c .size) gone ≡ false → n < 2 ^ 31
+  pub agree-present : (v : Node) (k i base n m : ℕ) (c : Claim) → c .node ≡ k → c .index ≡ i → m ≡ c .count → eqb (c .size) ABSENT ≡ false → n < 2 ^ 31
       → SameBytes t src v base n (c .start) (c .size) → Agree v t src (entryOf k i base n) m c
   unfolding SamePart
   agree-present v k i base n m c e d q there few same =
-      let f : eqb n gone ≡ false = ne-eqb n gone (λ z. omega arith) in
+      let f : eqb n ABSENT ≡ false = ne-eqb n ABSENT (λ z. omega arith) in
       record { node = sym e; index = sym d; count = q; absence = f ∙ sym there; part = rw f same }
 
-  agree-absent : (v : Node) (k i base : ℕ) (c : Claim) → c .node ≡ k → c .index ≡ i → 0 ≡ c .count → eqb (c .size) gone ≡ true
-      → Agree v t src (entryOf k i base gone) 0 c
+  agree-absent : (v : Node) (k i base : ℕ) (c : Claim) → c .node ≡ k → c .index ≡ i → 0 ≡ c .count → eqb (c .size) ABSENT ≡ true
+      → Agree v t src (entryOf k i base ABSENT) 0 c
   unfolding SamePart
   agree-absent v k i base c e d q none-there =
-      let f : eqb gone gone ≡ true = eq-eqb gone gone refl in
+      let f : eqb ABSENT ABSENT ≡ true = eq-eqb ABSENT ABSENT refl in
       record { node = sym e; index = sym d; count = q; absence = f ∙ sym none-there; part = tt }
 
 -- ---- elements
@@ -172,7 +173,7 @@ pub record Laws {S : Type 0} (order : Order S) (form : Form S) (v : Node) (s : L
   pub there : (st : S) (i at n : ℕ) (more : List ℕ) → order .admits st i ≡ true → i < 2 ^ 32 → 12 + n < 2 ^ 31 → n ≤ length more
       → Tail s at (headBytes v i n ++ more) → form .head st at ≡ Present i (at + length (headBytes v i n)) n
   pub not-there : (st : S) (i at : ℕ) (more : List ℕ) → order .admits st i ≡ true → i < 2 ^ 32 → mayLack v i ≡ true
-      → Tail s at (headBytes v i gone ++ more) → form .head st at ≡ Absent i (at + length (headBytes v i gone))
+      → Tail s at (headBytes v i ABSENT ++ more) → form .head st at ≡ Absent i (at + length (headBytes v i ABSENT))
   pub onward : (st : S) (h : Head) → form .next st h ≡ order .after st (indexOf h)
   pub ends : (st : S) → form .lacks st ≡ order .lacks st
 
@@ -192,36 +193,36 @@ module _ (look : ℕ → Node) (t src : List ℕ) (rule : Builder) (rules : Rule
       onward : form .next st head ≡ after
       end : endOf head ≡ at + length b
       long : 4 ≤ length b
-      read : Reads look t src 1 (member rules (refAt v) base s head) (zeroMember zrule v s at head) b ws mid
+      read : Reads look t src 1 (elementOutcome rules (refAt v) base s head) (zeroMember zrule v s at head) b ws mid
 
     module _ (st : S) (at : ℕ) (ws : List ℕ) (c : Claim) (rest : List ℕ) (entry : nextOf ws ≡ next c rest) (small : Words ws)
         (admitted : order .admits st (c .index) ≡ true) (r : ℕ) (ref : refAt v (c .index) ≡ some r) (y : List ℕ) where
       index-small : c .index < 2 ^ 32
       index-small = let e : getD ws 1 0 ≡ c .index = ap (λ (x : Claim). x .index) (next-is ws c rest entry .0) in rw e at (small 1)
 
-      absent-step : mayLack v (c .index) ≡ true → c .node ≡ r → c .count ≡ 0 → eqb (c .size) gone ≡ true → Tail s at (headBytes v (c .index) gone ++ y)
-          → Step st (order .after st (c .index)) at ws (headBytes v (c .index) gone) rest
-      unfolding member absent zeroMember endOf indexOf
+      absent-step : mayLack v (c .index) ≡ true → c .node ≡ r → c .count ≡ 0 → eqb (c .size) ABSENT ≡ true → Tail s at (headBytes v (c .index) ABSENT ++ y)
+          → Step st (order .after st (c .index)) at ws (headBytes v (c .index) ABSENT) rest
+      unfolding elementOutcome absent zeroMember endOf indexOf
       absent-step may node count not-here w =
-          let h = headBytes v (c .index) gone in
+          let h = headBytes v (c .index) ABSENT in
           let start = at + length h in
           record {
             head = Absent (c .index) start;
             is = laws .not-there st (c .index) at y admitted index-small may w;
             onward = laws .onward st (Absent (c .index) start);
             end = refl;
-            long = head-length v (c .index) gone r ref;
+            long = head-length v (c .index) ABSENT r ref;
             read =
                 rw ref
-                (reads-alone look t src (entryOf r (c .index) (base + start) gone) _ h ws c rest entry
+                (reads-alone look t src (entryOf r (c .index) (base + start) ABSENT) _ h ws c rest entry
                 (agree-absent look t src (look r) r (c .index) (base + start) c node refl (sym count) not-here)
-                (rw (tail-between h y w) (head-zero v (c .index) gone))
+                (rw (tail-between h y w) (head-zero v (c .index) ABSENT))
                 (rw (next-is ws c rest entry .1) at (words-drop 5 ws small)));
           }
 
       present-step : (d mid : List ℕ) → rule r (c .index) ws ≡ made d mid → Tail s at (headBytes v (c .index) (length d) ++ (d ++ y))
           → Step st (order .after st (c .index)) at ws (headBytes v (c .index) (length d) ++ d) mid
-      unfolding member present zeroMember zeroPart endOf indexOf
+      unfolding elementOutcome present zeroMember zeroPart endOf indexOf
       present-step d mid e w =
           let h = headBytes v (c .index) (length d) in
           let start = at + length h in
@@ -258,11 +259,11 @@ module _ (look : ℕ → Node) (t src : List ℕ) (rule : Builder) (rules : Rule
           let node = passed _ _ b mid (may .1) in
           let count = passed _ _ b mid (node .1) in
           let m = count .1 in
-          let hb : headBytes v (c .index) gone ≡ b = cc in
+          let hb : headBytes v (c .index) ABSENT ≡ b = cc in
           let hm : rest ≡ mid = cc in
           rw (← hb, ← hm)
           (absent-step st at ws c rest entry small admitted r ref y (may .0) (eqb-true _ _ (node .0)) (eqb-true _ _ (count .0)) (p .0) (rw (← hb) at w)))
-          (λ (p : (eqb (c .size) gone ≡ false) × (headed v (c .index) (rule r (c .index) ws) ≡ made b mid)).
+          (λ (p : (eqb (c .size) ABSENT ≡ false) × (headed v (c .index) (rule r (c .index) ws) ≡ made b mid)).
           let d = headed-parts v (c .index) (rule r (c .index) ws) b mid (p .1) in
           rw (← (d .bytes))
           (present-step st at ws c rest entry small admitted r ref y (d .data-bytes) mid (d .made-is) (rw (← (d .bytes), append-assoc) at w)))

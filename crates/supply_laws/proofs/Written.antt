@@ -1,5 +1,5 @@
--- What is made of a source that is bytes is bytes: each part of it is a number's bytes, zeros, or bytes of the source. By induction over
--- the building. Assumes nothing.
+-- What is made of a source that is bytes is bytes: each part of it is a number's
+-- bytes, zeros, or bytes of the source. By induction over the building.
 use mathlib.Core.Path.{_≡_}
 use mathlib.Core.Bool.{Bool}
 use mathlib.Core.List.{List, [], _∷_, _++_}
@@ -7,18 +7,22 @@ use mathlib.Core.Option.{Option, none, some}
 use Prim.Native.Nat.{ℕ, zero, suc, _+_, _<_}
 use lib.Dec.{lit<}
 use lib.ListN.{length, getD}
-use Rattle.wire.specs.Be.{bytesBe}
 use Rattle.wire.proofs.Numbers.{bytes-append, bytes-below}
 use Rattle.wire.proofs.Picks.{pick-case}
-use Rattle.heads.specs.Heads.{gone, bounds}
-use Rattle.heads.specs.declared.Opening.{Opening}
-use Rattle.heads.specs.declared.Opening.the-variants.{Elements, Wrong}
-use Rattle.rules.specs.Node.{Node, leaf, enum, row, arrays, tuple, object, sparse, range, refAt}
-use Rattle.rules.specs.Values.{noMarks}
-use Rattle.supply.specs.Supply.{zeros, Claim, Next, short, next, nextOf}
-use Rattle.supply.specs.Build.{Made, wrong, made, before, andThen, Builder, Front, faulty, front, setBytes, boundsFront, rangeFront, countFront, frontOf, headBytes, Order, rowOrder, sparseOrder, absentMade, headed, partMade, memberMade, stateAfter, elementsMade, leafMade, rowMade, sparseMade, nodeMade, entryMade, build, buildOf}
-use Rattle.supply.specs.Write.{Put, refusedPut, putOut, madeBy, suppliedBy}
+use Rattle.forms.specs.declared.Opening.{Opening}
+use Rattle.forms.specs.declared.Opening.the-variants.{Elements, Wrong}
 use Rattle.supply_laws.proofs.Fields.{Bytes, bytes-part}
+use Rattle.protocol.specs.Numbers.{bytesBe}
+use Rattle.protocol.specs.Constants.{ABSENT}
+use Rattle.protocol.specs.Heads.{bounds}
+use Rattle.protocol.specs.Nodes.{Node, leaf, enum, row, arrays, tuple, object, sparse, range, refAt}
+use Rattle.protocol.specs.Values.{noMarks}
+use Rattle.protocol.specs.Supplies.{zeros, Claim, Next, short, next, nextOf}
+use Rattle.protocol.specs.Building.{Made, wrong, made, madeBefore, thenMade, Builder, Front, noFront, front, setBytes, boundsFront}
+use Rattle.protocol.specs.Building.{rangeFront, countFront, frontOf, headBytes, Order, rowOrder, sparseOrder, absentMade, headed, partMade}
+use Rattle.protocol.specs.Building.{memberMade, stateAfter, elementsMade, leafMade, rowMade, sparseMade, nodeMade, entryMade, build}
+use Rattle.protocol.specs.Building.{buildOf, madeBy, suppliedBy}
+use Rattle.protocol.specs.Answers.{Put, refusedPut, putOut}
 
 -- ---- heads
 
@@ -48,7 +52,7 @@ head-bytes (sparse refs cards) i n = two-bytes i n
 head-bytes (range r) i n = bytes-below 4 n
 
 abbrev FrontBytes : Front → Type 0
-FrontBytes faulty = Unit {0}
+FrontBytes noFront = Unit {0}
 FrontBytes (front b first) = Bytes b
 
 set-bytes : (n : ℕ) → Bytes (setBytes n)
@@ -77,13 +81,13 @@ abbrev MadeBytes : Made → Type 0
 MadeBytes wrong = Unit {0}
 MadeBytes (made b ws) = Bytes b
 
-before-bytes : (b : List ℕ) (m : Made) → Bytes b → MadeBytes m → MadeBytes (before b m)
-unfolding before
+before-bytes : (b : List ℕ) (m : Made) → Bytes b → MadeBytes m → MadeBytes (madeBefore b m)
+unfolding madeBefore
 before-bytes b wrong h g = tt
 before-bytes b (made c ws) h g = bytes-append b c h g
 
-then-bytes : (m : Made) (f : List ℕ → Made) → MadeBytes m → ((ws : List ℕ) → MadeBytes (f ws)) → MadeBytes (andThen m f)
-unfolding andThen
+then-bytes : (m : Made) (f : List ℕ → Made) → MadeBytes m → ((ws : List ℕ) → MadeBytes (f ws)) → MadeBytes (thenMade m f)
+unfolding thenMade
 then-bytes wrong f h g = tt
 then-bytes (made b ws) f h g = before-bytes b (f ws) h (g ws)
 
@@ -96,7 +100,7 @@ absent-bytes : (v : Node) (r : ℕ) (c : Claim) (ws : List ℕ) → MadeBytes (a
 unfolding absentMade
 absent-bytes v r c ws =
     pick-case MadeBytes _ _ _
-    (λ _. pick-case MadeBytes _ _ _ (λ _. pick-case MadeBytes _ _ _ (λ _. head-bytes v (c .index) gone) (λ _. tt)) (λ _. tt))
+    (λ _. pick-case MadeBytes _ _ _ (λ _. pick-case MadeBytes _ _ _ (λ _. head-bytes v (c .index) ABSENT) (λ _. tt)) (λ _. tt))
     (λ _. tt)
 
 module _ (rule : Builder) (inner : (k i : ℕ) (ws : List ℕ) → MadeBytes (rule k i ws)) (v : Node) where
@@ -145,12 +149,12 @@ module _ (src : List ℕ) (bytes : Bytes src) where
   module _ (rule : Builder) (inner : (k i : ℕ) (ws : List ℕ) → MadeBytes (rule k i ws)) where
     row-bytes : (v : Node) (h : Front) → FrontBytes h → (c : Claim) (ws : List ℕ) → MadeBytes (rowMade rule v h c ws)
     unfolding rowMade
-    row-bytes v faulty h c ws = tt
+    row-bytes v noFront h c ws = tt
     row-bytes v (front b first) h c ws = before-bytes b _ h (elements-bytes rule inner v rowOrder (c .count) first ws)
 
     sparse-bytes : (refs cards : List ℕ) (h : Front) → FrontBytes h → (c : Claim) (ws : List ℕ) → MadeBytes (sparseMade rule refs cards h c ws)
     unfolding sparseMade
-    sparse-bytes refs cards faulty h c ws = tt
+    sparse-bytes refs cards noFront h c ws = tt
     sparse-bytes refs cards (front b first) h c ws =
         before-bytes b _ h (elements-bytes rule inner (sparse refs cards) (sparseOrder cards) (c .count) noMarks ws)
 

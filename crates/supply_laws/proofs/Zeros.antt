@@ -1,5 +1,5 @@
 -- An accepted value with its containers' reserved fields zero is as long as the value, and is what is made of every supply that agrees
--- with the value's entries. By induction over the rules, and over the elements whatever the container's form. Assumes nothing.
+-- with the value's entries. By induction over the rules, and over the elements whatever the container's form.
 use mathlib.Core.Path.{_≡_, refl, ap, sym, _∙_}
 use mathlib.Core.Bool.{Bool, true, false}
 use mathlib.Core.List.{List, [], _++_}
@@ -10,23 +10,29 @@ use native.Mathlib.Nat.{add-zero}
 use lib.Dec.{eqb}
 use lib.ListN.{length, take, drop, length-append, length-take, length-drop}
 use borrow.Author.Tests.{eqb-true, le-leb, eq-eqb, ne-eqb}
-use Rattle.wire.specs.Choice.{pick}
 use Rattle.wire.proofs.Picks.{pick-case}
-use Rattle.scalars.specs.Scalars.{scalar, enumeration}
-use Rattle.heads.specs.Heads.{gone, endOf}
-use Rattle.heads.specs.declared.Opening.{Opening}
-use Rattle.heads.specs.declared.Opening.the-variants.{Elements, Wrong}
-use Rattle.heads.specs.declared.Head.{Head}
-use Rattle.heads.specs.declared.Head.the-variants.{Present, Absent, Fault}
-use Rattle.rules.specs.Node.{Node, leaf, enum, row, arrays, tuple, object, sparse, range, refAt}
-use Rattle.rules.specs.Forest.{Entry, Forest, empty, tree, append, width}
-use Rattle.rules.specs.Values.{Outcome, refused, listed, then, under, entryOf, Rule, absent, present, member, Form, ending, elements, rowForm, sparseForm, noMarks, leafRule, rowRule, sparseRule, byNode, value}
-use Rattle.rules.proofs.Outcomes.{accepted-listed}
-use Rattle.rules.proofs.Widths.{elements-width}
-use Rattle.supply.specs.Supply.{Claim, Next, next, nextOf, SameLeaf, SameBytes, SamePart, Agree, AgreeNext, Agrees, zeroOpening, zeroHead, between, zeroPart, zeroMember, zeroElements, zeroRow, zeroSparse, zeroNode, zeroValue}
-use Rattle.supply.specs.Build.{Made, made, before, andThen, Builder, front, frontOf, Order, rowOrder, sparseOrder, mayLack, absentMade, headed, partMade, memberMade, stateAfter, elementsMade, leafMade, rowMade, sparseMade, nodeMade, entryMade, build}
-use Rattle.rules.proofs.Parts.{Stands, stands-whole, stands-part}
+use Rattle.forms.specs.declared.Opening.{Opening}
+use Rattle.forms.specs.declared.Opening.the-variants.{Elements, Wrong}
+use Rattle.forms.specs.declared.Head.{Head}
+use Rattle.forms.specs.declared.Head.the-variants.{Present, Absent, Fault}
+use Rattle.value_laws.proofs.Outcomes.{accepted-listed}
+use Rattle.value_laws.proofs.Widths.{elements-width}
+use Rattle.value_laws.proofs.Parts.{Stands, stands-whole, stands-part}
 use Rattle.supply_laws.proofs.Fields.{Bytes, bytes-part, HeadOf, Element, Again, row-again, sparse-again, Opens, Opened, opened}
+use Rattle.protocol.specs.Numbers.{pick}
+use Rattle.protocol.specs.Scalars.{scalar, enumeration}
+use Rattle.protocol.specs.Constants.{ABSENT}
+use Rattle.protocol.specs.Heads.{endOf}
+use Rattle.protocol.specs.Nodes.{Node, leaf, enum, row, arrays, tuple, object, sparse, range, refAt}
+use Rattle.protocol.specs.Lists.{Entry, Forest, empty, tree, append, width, entryOf}
+use Rattle.protocol.specs.Values.{ValueOutcome, then, under, Rule, absent, present, elementOutcome, Form, containerEnd, elements, rowForm}
+use Rattle.protocol.specs.Values.{sparseForm, noMarks, leafRule, rowRule, sparseRule, byNode, value}
+use Rattle.protocol.specs.Answers.{refused, accepted}
+use Rattle.protocol.specs.Supplies.{Claim, Next, next, nextOf, SameLeaf, SameBytes, SamePart, Agree, AgreeNext, Agrees, zeroOpening}
+use Rattle.protocol.specs.Supplies.{zeroHead, between, zeroPart, zeroMember, zeroElements, zeroRow, zeroSparse, zeroNode, zeroValue}
+use Rattle.protocol.specs.Building.{Made, made, madeBefore, thenMade, Builder, front, frontOf, Order, rowOrder, sparseOrder, mayLack}
+use Rattle.protocol.specs.Building.{absentMade, headed, partMade, memberMade, stateAfter, elementsMade, leafMade, rowMade, sparseMade}
+use Rattle.protocol.specs.Building.{nodeMade, entryMade, build}
 
 -- ---- the entries of a supply
 
@@ -55,7 +61,7 @@ module _ (look : ℕ → Node) (t src : List ℕ) where
     pub claim : Claim
     pub first : nextOf ws ≡ next claim (drop 5 ws)
     pub index : i ≡ claim .index
-    pub present : eqb (claim .size) gone ≡ false
+    pub present : eqb (claim .size) ABSENT ≡ false
     pub is : b ws ≡ made z rest
 
   -- z has n bytes, and is made wherever the supply agrees
@@ -63,18 +69,18 @@ module _ (look : ℕ → Node) (t src : List ℕ) where
     pub size : length z ≡ n
     pub makes : (ws rest : List ℕ) → Agrees look t src g ws rest → Makes i b z ws rest
 
-  abbrev pub Completes : ℕ → (List ℕ → Made) → List ℕ → ℕ → Outcome → Type 0
+  abbrev pub Completes : ℕ → (List ℕ → Made) → List ℕ → ℕ → ValueOutcome → Type 0
   Completes i b z n (refused m p) = Unit {0}
-  Completes i b z n (listed g) = Whole i b z n g
+  Completes i b z n (accepted g) = Whole i b z n g
 
   -- of the elements of a container, from a position to its end at n
   record Row (b : List ℕ → Made) (z : List ℕ) (at n : ℕ) (g : Forest) : Type 0 where
     size : at + length z ≡ n
     makes : (ws rest : List ℕ) → Agrees look t src g ws rest → b ws ≡ made z rest
 
-  abbrev RowOf : (List ℕ → Made) → List ℕ → ℕ → ℕ → Outcome → Type 0
+  abbrev RowOf : (List ℕ → Made) → List ℕ → ℕ → ℕ → ValueOutcome → Type 0
   RowOf b z at n (refused m p) = Unit {0}
-  RowOf b z at n (listed g) = Row b z at n g
+  RowOf b z at n (accepted g) = Row b z at n g
 
   -- of one of them, with the state after it
   record One {S : Type 0} (b : List ℕ → Made) (after : List ℕ → S) (z : List ℕ) (at end n : ℕ) (st : S) (g : Forest) : Type 0 where
@@ -82,17 +88,17 @@ module _ (look : ℕ → Node) (t src : List ℕ) where
     inside : end ≤ n
     makes : (ws rest : List ℕ) → Agrees look t src g ws rest → (b ws ≡ made z rest) × (after ws ≡ st)
 
-  abbrev OneOf : {S : Type 0} → (List ℕ → Made) → (List ℕ → S) → List ℕ → ℕ → ℕ → ℕ → S → Outcome → Type 0
+  abbrev OneOf : {S : Type 0} → (List ℕ → Made) → (List ℕ → S) → List ℕ → ℕ → ℕ → ℕ → S → ValueOutcome → Type 0
   OneOf b after z at end n st (refused m p) = Unit {0}
-  OneOf b after z at end n st (listed g) = One b after z at end n st g
+  OneOf b after z at end n st (accepted g) = One b after z at end n st g
 
   -- one element and the rest
-  one-then : {S : Type 0} (b : List ℕ → Made) (after : List ℕ → S) (more : S → List ℕ → Made) (z zs : List ℕ) (at end n : ℕ) (st : S) (x y : Outcome)
-      → OneOf b after z at end n st x → (end ≤ n → RowOf (more st) zs end n y) → RowOf (λ ws. andThen (b ws) (more (after ws))) (z ++ zs) at n (then x y)
-  unfolding then andThen before
+  one-then : {S : Type 0} (b : List ℕ → Made) (after : List ℕ → S) (more : S → List ℕ → Made) (z zs : List ℕ) (at end n : ℕ) (st : S) (x y : ValueOutcome)
+      → OneOf b after z at end n st x → (end ≤ n → RowOf (more st) zs end n y) → RowOf (λ ws. thenMade (b ws) (more (after ws))) (z ++ zs) at n (then x y)
+  unfolding then thenMade madeBefore
   one-then b after more z zs at end n st (refused m p) y h k = tt
-  one-then b after more z zs at end n st (listed f) (refused m p) h k = tt
-  one-then b after more z zs at end n st (listed f) (listed g) h k =
+  one-then b after more z zs at end n st (accepted f) (refused m p) h k = tt
+  one-then b after more z zs at end n st (accepted f) (accepted g) h k =
       let r = k (h .inside) in
       record {
         size = omega (arith, length-append z zs, h .size, r .size);
@@ -112,7 +118,7 @@ module _ (look : ℕ → Node) (t src : List ℕ) where
       (v : Node) (base : ℕ) (s : List ℕ) (stands : Stands t base s) (bytes : Bytes s) (small : length s ≤ 65535) where
     module _ {S : Type 0} (form : Form S) (order : Order S) (st : S) (at : ℕ) where
       -- what is made of the next element, and the state after it
-      abbrev Member : List ℕ → ℕ → S → Outcome → Type 0
+      abbrev Member : List ℕ → ℕ → S → ValueOutcome → Type 0
       Member z end st′ = OneOf (λ ws. memberMade order build v st ws (nextOf ws)) (λ ws. stateAfter order build v st (nextOf ws)) z at end (length s) st′
 
       module _ (i start n : ℕ) (st′ : S) (el : Element order v s st at st′ i start n) (d : Claim) (ws : List ℕ) (first : nextOf ws ≡ next d (drop 5 ws)) (index : i ≡ d .index) where
@@ -124,7 +130,7 @@ module _ (look : ℕ → Node) (t src : List ℕ) where
         unfolding memberMade pick
         part-made = rw (first, ← index, el .admits)
 
-      absent-made : (i start k : ℕ) (d : Claim) (ws : List ℕ) → mayLack v i ≡ true → HeadOf v s at i start gone → i ≡ d .index → k ≡ d .node → 0 ≡ d .count → true ≡ eqb (d .size) gone
+      absent-made : (i start k : ℕ) (d : Claim) (ws : List ℕ) → mayLack v i ≡ true → HeadOf v s at i start ABSENT → i ≡ d .index → k ≡ d .node → 0 ≡ d .count → true ≡ eqb (d .size) ABSENT
           → partMade build v (some k) d (drop 5 ws) ws ≡ made (zeroHead v (between s at start)) (drop 5 ws)
       unfolding partMade absentMade pick
       absent-made i start k d ws lack h index node count size = rw (← size, ← index, lack, ← node, eq-eqb k k refl, ← count, ← (h .same))
@@ -138,24 +144,24 @@ module _ (look : ℕ → Node) (t src : List ℕ) where
       absent-one i start (lack, inside, el) none ref = tt
       absent-one i start (lack, inside, el) (some k) ref =
           record {
-            size = head-size i start gone (el .head);
+            size = head-size i start ABSENT (el .head);
             inside = inside;
             makes = λ ws rest a.
-                let (d, first, g) = agree-next (look k) (entryOf k i (base + start) gone) 0 ws (a .0) in
+                let (d, first, g) = agree-next (look k) (entryOf k i (base + start) ABSENT) 0 ws (a .0) in
                 let after : drop 5 ws ≡ rest = a .1 .1 ∙ a .1 .2 in (
-                  part-made i start gone _ el d ws first (g .index)
+                  part-made i start ABSENT _ el d ws first (g .index)
                       ∙ rw ref (absent-made i start k d ws lack (el .head) (g .index) (g .node) (g .count) (g .absence))
                       ∙ ap (made (zeroHead v (between s at start))) after,
-                  state-made i start gone _ el d ws first (g .index),
+                  state-made i start ABSENT _ el d ws first (g .index),
                 );
           }
 
       present-made : (i start n k : ℕ) → Again form order v s st at (Present i start n) → refAt v i ≡ some k → (part : List ℕ) → length part ≡ n
-          → (o : Outcome) → Completes i (build k i) (zeroing k part) (length part) o
+          → (o : ValueOutcome) → Completes i (build k i) (zeroing k part) (length part) o
           → Member (zeroHead v (between s at start) ++ zeroing k part) (start + n) (form .next st (Present i start n)) o
       unfolding partMade headed pick
       present-made i start n k a ref part long (refused m p) h = tt
-      present-made i start n k (inside, el) ref part long (listed g) h =
+      present-made i start n k (inside, el) ref part long (accepted g) h =
           let z = zeroing k part in
           let size : length z ≡ n = h .size ∙ long in
           record {
@@ -181,8 +187,8 @@ module _ (look : ℕ → Node) (t src : List ℕ) where
           present-made i start n k a ref part long (rule k i (base + start) part)
           (known k i (base + start) part (stands-part t base s stands start n inside) (bytes-part s bytes start n) (omega arith))
 
-      member-one : (h : Head) → Again form order v s st at h → Member (zeroMember zeroing v s at h) (endOf h) (form .next st h) (member rule (refAt v) base s h)
-      unfolding zeroMember member endOf
+      member-one : (h : Head) → Again form order v s st at h → Member (zeroMember zeroing v s at h) (endOf h) (form .next st h) (elementOutcome rule (refAt v) base s h)
+      unfolding zeroMember elementOutcome endOf
       member-one (Fault n) a = tt
       member-one (Absent i start) a = absent-one i start a (refAt v i) refl
       member-one (Present i start n) a = present-one i start n a (refAt v i) refl
@@ -191,7 +197,7 @@ module _ (look : ℕ → Node) (t src : List ℕ) where
     module _ {S : Type 0} (form : Form S) (order : Order S) (lacks : (st : S) → order .lacks st ≡ form .lacks st)
         (again : (st : S) (at : ℕ) → Again form order v s st at (form .head st at)) where
       row-end : (st : S) (at : ℕ) → (whole lack : Bool) → eqb at (length s) ≡ whole → form .lacks st ≡ lack
-          → RowOf (elementsMade order build v zero st) [] at (length s) (pick whole (pick lack (refused 27 base) (listed empty)) (refused 21 base))
+          → RowOf (elementsMade order build v zero st) [] at (length s) (pick whole (pick lack (refused 27 base) (accepted empty)) (refused 21 base))
       unfolding elementsMade Agrees pick
       row-end st at true true e l = tt
       row-end st at true false e l = record { size = add-zero at ∙ eqb-true _ _ e; makes = λ ws rest a. rw (lacks st, l, a) }
@@ -199,7 +205,7 @@ module _ (look : ℕ → Node) (t src : List ℕ) where
 
       row-made : (n : ℕ) (st : S) (at : ℕ) → at ≤ length s
           → RowOf (elementsMade order build v n st) (zeroElements form zeroing v s n st at) at (length s) (elements form rule (refAt v) base s n st at)
-      unfolding elements ending elementsMade zeroElements
+      unfolding elements containerEnd elementsMade zeroElements
       row-made zero st at h = row-end st at (eqb at (length s)) (form .lacks st) refl refl
       row-made (suc n) st at h =
           one-then _ (λ ws. stateAfter order build v st (nextOf ws)) (elementsMade order build v n) _ _ at (endOf (form .head st at)) (length s) (form .next st (form .head st at)) _ _
@@ -209,14 +215,14 @@ module _ (look : ℕ → Node) (t src : List ℕ) where
   -- ---- an entry, and what is below it
 
   module _ (build : Builder) (v : Node) (k i base : ℕ) (s : List ℕ) (is : look k ≡ v) (small : length s ≤ 65535) where
-    not-gone : eqb (length s) gone ≡ false
-    not-gone = ne-eqb (length s) gone (λ e. omega arith)
+    not-gone : eqb (length s) ABSENT ≡ false
+    not-gone = ne-eqb (length s) ABSENT (λ e. omega arith)
 
     same-bytes : (d : Claim) (c : ℕ) → Agree (look k) t src (entryOf k i base (length s)) c d → SameBytes t src v base (length s) (d .start) (d .size)
     unfolding SamePart
     same-bytes d c g = rw (is, not-gone) at (g .part)
 
-    entry-made : (d : Claim) (ws : List ℕ) → k ≡ d .node → i ≡ d .index → eqb (length s) gone ≡ eqb (d .size) gone → entryMade src v build k i (next d ws) ≡ nodeMade src v build d ws
+    entry-made : (d : Claim) (ws : List ℕ) → k ≡ d .node → i ≡ d .index → eqb (length s) ABSENT ≡ eqb (d .size) ABSENT → entryMade src v build k i (next d ws) ≡ nodeMade src v build d ws
     unfolding entryMade pick
     entry-made d ws node index absence = rw (← node, ← index, eq-eqb k k refl, eq-eqb i i refl, ← absence, not-gone)
 
@@ -261,12 +267,12 @@ module _ (look : ℕ → Node) (t src : List ℕ) where
 
     -- a container
     under-whole : (z zs : List ℕ) (n at : ℕ) (more : List ℕ → Made) → length z ≡ at → at ≤ length s
-        → ((d : Claim) (ws : List ℕ) → n ≡ d .count → SameBytes t src v base (length s) (d .start) (d .size) → nodeMade src v build d ws ≡ before z (more ws))
-        → (o : Outcome) → ((below : Forest) → o ≡ listed below → width below ≡ n) → RowOf more zs at (length s) o
+        → ((d : Claim) (ws : List ℕ) → n ≡ d .count → SameBytes t src v base (length s) (d .start) (d .size) → nodeMade src v build d ws ≡ madeBefore z (more ws))
+        → (o : ValueOutcome) → ((below : Forest) → o ≡ accepted below → width below ≡ n) → RowOf more zs at (length s) o
         → Completes i (λ ws. entryMade src v build k i (nextOf ws)) (z ++ zs) (length s) (under (entryOf k i base (length s)) o)
-    unfolding under before
+    unfolding under madeBefore
     under-whole z zs n at more size inside f (refused m p) wide h = tt
-    under-whole z zs n at more size inside f (listed below) wide h =
+    under-whole z zs n at more size inside f (accepted below) wide h =
         entry-whole (z ++ zs) below (omega (arith, length-append z zs, h .size))
         (λ d ws rest c same a. f d ws (sym (wide below refl) ∙ c) same ∙ rw (h .makes ws rest a))
 
@@ -275,12 +281,12 @@ module _ (look : ℕ → Node) (t src : List ℕ) where
   module _ (f : ℕ) (known : Known (value look f) (build src look f) (zeroValue look f))
       (k i base : ℕ) (s : List ℕ) (stands : Stands t base s) (bytes : Bytes s) (small : length s ≤ 65535) where
     -- what is made of its entry
-    abbrev Done : Node → List ℕ → Outcome → Type 0
+    abbrev Done : Node → List ℕ → ValueOutcome → Type 0
     Done v z = Completes i (λ ws. entryMade src v (build src look f) k i (nextOf ws)) z (length s)
 
     container-whole : {S : Type 0} (form : Form S) (order : Order S) → ((st : S) → order .lacks st ≡ form .lacks st) → (v : Node) → look k ≡ v
         → ((st : S) (at : ℕ) → Again form order v s st at (form .head st at)) → (st : S) (n first at : ℕ) → Opens v t src base s n first at
-        → ((d : Claim) (ws b : List ℕ) → frontOf v src d ≡ front b first → nodeMade src v (build src look f) d ws ≡ before b (elementsMade order (build src look f) v (d .count) st ws))
+        → ((d : Claim) (ws b : List ℕ) → frontOf v src d ≡ front b first → nodeMade src v (build src look f) d ws ≡ madeBefore b (elementsMade order (build src look f) v (d .count) st ws))
         → Done v (zeroOpening v (take at s) ++ zeroElements form (zeroValue look f) v s n st at) (under (entryOf k i base (length s)) (elements form (value look f) (refAt v) base s n st at))
     container-whole form order lacks v is again st n first at o p =
         let x = elements form (value look f) (refAt v) base s n st at in

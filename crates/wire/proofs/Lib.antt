@@ -1,4 +1,4 @@
--- The laws that this crate's proofs cite, and other crates' too. Assumes nothing.
+-- The laws that this crate's proofs cite, and other crates' too.
 pub mod Picks
 pub mod Tables
 pub mod Numbers

@@ -1,4 +1,4 @@
--- The laws of big-endian numbers, over the width. Assumes nothing.
+-- The laws of big-endian numbers, over the width.
 use mathlib.Core.Path.{_≡_, refl, ap, sym, _∙_}
 use mathlib.Core.List.{List, [], _∷_, _++_}
 use Prim.Native.Nat.{ℕ, zero, suc, _+_, _*_, _/_, _%_, _^_, _<_, _≤_}
@@ -9,7 +9,7 @@ use lib.Dec.{lit<}
 use lib.Arith.{digits-div, digits-mod}
 use lib.ListN.{length, take, drop, getD, length-drop, length-append}
 use lib.Seq.{take-suc, getD-drop}
-use Rattle.wire.specs.Be.{be, beFrom, bytesBe}
+use Rattle.protocol.specs.Numbers.{be, beFrom, bytesBe}
 
 from-snoc : (a : ℕ) (xs : List ℕ) (x : ℕ) → beFrom a (xs ++ (x ∷ [])) ≡ beFrom a xs * 256 + x
 unfolding beFrom

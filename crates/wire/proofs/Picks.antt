@@ -1,4 +1,4 @@
--- The laws of a choice by a test. Assumes nothing.
+-- The laws of a choice by a test.
 use mathlib.Core.Path.{_≡_, refl}
 use mathlib.Core.Logic.{_⊎_, inl, inr}
 use mathlib.Core.Bool.{Bool, true, false}
@@ -6,7 +6,7 @@ use Prim.Native.Nat.{ℕ}
 use native.Mathlib.Omega.{arith}
 use lib.Dec.{eqb}
 use borrow.Author.Tests.{eqb-true, eqb-false}
-use Rattle.wire.specs.Choice.{pick}
+use Rattle.protocol.specs.Numbers.{pick}
 
 -- nothing is both
 pub clash : {A : Type 0} → false ≡ true → A

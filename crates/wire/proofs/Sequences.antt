@@ -1,4 +1,4 @@
--- The laws of well-formed UTF-8: a first byte by the table, a sequence a byte at a time, and runs of plain bytes. Assumes nothing.
+-- The laws of well-formed UTF-8: a first byte by the table, a sequence a byte at a time, and runs of plain bytes.
 use mathlib.Core.Path.{_≡_, refl, ap, ap₂, sym, _∙_}
 use mathlib.Core.Bool.{Bool, true, false}
 use mathlib.Core.List.{List, [], _∷_}
@@ -11,11 +11,11 @@ use lib.Dec.{leb, ltb, eqb}
 use lib.ListN.{length, drop, getD, length-drop, drop-of-length-le}
 use lib.Seq.{drop-cons, drop-drop}
 use borrow.Author.Tests.{leb-true, leb-false, le-leb, lt-leb, lt-ltb, le-ltb, ltb-true, eqb-true}
-use Rattle.wire.specs.Choice.{pick}
-use Rattle.wire.specs.Utf8.{Range, _to_, within, table, after, goesOn, wellFormed, plainRun}
-use Rattle.wire.specs.Scan.{follower, followers, ahead, second, Begins, follow, sequenceSize, plainEnd, blocksEnd}
+use Rattle.wire.specs.Scan.{follower, followers, ahead, second, Begins, follow, sequenceSize, plainEnd, blocksEnd, plainRun}
 use Rattle.wire.proofs.Picks.{pick-yes, pick-no, pick-case, both, clash}
 use Rattle.wire.proofs.Tables.{each, each-at}
+use Rattle.protocol.specs.Numbers.{pick}
+use Rattle.protocol.specs.Text.{Range, _to_, within, utf8Table, following, goesOn, wellFormed}
 
 -- ---- a first byte: what the table says is computed at each byte
 
@@ -42,8 +42,8 @@ same-is (q ∷ qs) (r ∷ rs) t =
     ends a b c d e f = cc
 
 -- what is said to follow a first byte is the table's at any of the n bytes from l, where that is so, by computation, at each of them
-pub row-is : (f : ℕ → List Range) (l n : ℕ) → each (λ b. same (f b) (after table b)) l n ≡ true → (b : ℕ) → l ≤ b → b < l + n → f b ≡ after table b
-row-is f l n t b p q = same-is (f b) (after table b) (each-at (λ b. same (f b) (after table b)) l n t b p q)
+pub row-is : (f : ℕ → List Range) (l n : ℕ) → each (λ b. same (f b) (following utf8Table b)) l n ≡ true → (b : ℕ) → l ≤ b → b < l + n → f b ≡ following utf8Table b
+row-is f l n t b p q = same-is (f b) (following utf8Table b) (each-at (λ b. same (f b) (following utf8Table b)) l n t b p q)
 
 -- ---- a sequence, a byte at a time
 
@@ -80,7 +80,7 @@ short (r ∷ rs) [] h = refl
 short (r ∷ rs) (b ∷ l) h = pick-case (λ (t : Bool). t ≡ false) (within r b) (follow rs l) false (λ _. short rs l (omega arith)) (λ _. refl)
 
 module _ (s : List ℕ) (i : ℕ) where
-  pub begun : (n : ℕ) (r : Range) → i < length s → ahead n r ≡ after table (getD s i 0) → Going s i 1 n r
+  pub begun : (n : ℕ) (r : Range) → i < length s → ahead n r ≡ following utf8Table (getD s i 0) → Going s i 1 n r
   unfolding sequenceSize
   begun n r h e =
       let l : suc (length (ahead n r)) ≡ 1 + n = ap suc (length-ahead n r) ∙ omega arith in
@@ -112,12 +112,12 @@ module _ (s : List ℕ) (i : ℕ) where
 -- the first byte at i is one of the m bytes from l
 module _ (s : List ℕ) (i l m : ℕ) where
   -- n bytes follow it, which is computed at each of them
-  pub begins : (n : ℕ) → each (λ b. same (ahead n (second b)) (after table b)) l m ≡ true → i < length s → 0 < n → n < 4 → l ≤ getD s i 0 → getD s i 0 < l + m → Begins s i n
+  pub begins : (n : ℕ) → each (λ b. same (ahead n (second b)) (following utf8Table b)) l m ≡ true → i < length s → 0 < n → n < 4 → l ≤ getD s i 0 → getD s i 0 < l + m → Begins s i n
   begins n t h p q f g =
       record { inside = h; some = p; few = q; row = row-is (λ b. ahead n (second b)) l m t (getD s i 0) f g }
 
   -- no row has it: then a range that no byte is in is to follow
-  pub stray : each (λ b. same ((1 to 0) ∷ []) (after table b)) l m ≡ true → i < length s → l ≤ getD s i 0 → getD s i 0 < l + m → 0 ≡ sequenceSize (drop i s)
+  pub stray : each (λ b. same ((1 to 0) ∷ []) (following utf8Table b)) l m ≡ true → i < length s → l ≤ getD s i 0 → getD s i 0 < l + m → 0 ≡ sequenceSize (drop i s)
   unfolding ahead followers within
   stray t h f g =
       let b = getD s (i + 1) 0 in
@@ -127,7 +127,7 @@ module _ (s : List ℕ) (i l m : ℕ) where
         | no p ↦ cut s i 1 1 (1 to 0) o (omega arith) (omega arith)
       ]
 
--- what a sequence, or none, says of the text from i on
+-- ---- what a sequence, or none, says of the text from i on
 
 follow-goes : (rs : List Range) (l : List ℕ) → goesOn rs l ≡ pick (follow rs l) (goesOn [] (drop (length rs) l)) false
 unfolding goesOn follow pick
@@ -149,21 +149,21 @@ size-inside : (l : List ℕ) → sequenceSize l ≤ length l
 unfolding sequenceSize
 size-inside [] = zero-le
 size-inside (b ∷ l) =
-    pick-case (λ (n : ℕ). n ≤ suc (length l)) (follow (after table b) l) (suc (length (after table b))) 0
-    (λ e. let h = follow-inside (after table b) l e in omega arith)
+    pick-case (λ (n : ℕ). n ≤ suc (length l)) (follow (following utf8Table b) l) (suc (length (following utf8Table b))) 0
+    (λ e. let h = follow-inside (following utf8Table b) l e in omega arith)
     (λ _. zero-le)
 
 size-goes : (l : List ℕ) → 0 < length l → goesOn [] l ≡ pick (ltb 0 (sequenceSize l)) (goesOn [] (drop (sequenceSize l) l)) false
 unfolding sequenceSize goesOn pick
 size-goes [] h = absurd (not-suc-le-zero h)
-size-goes (b ∷ l) h = go (follow (after table b) l) refl
+size-goes (b ∷ l) h = go (follow (following utf8Table b) l) refl
   where
     go :
         (t : Bool)
-        → follow (after table b) l ≡ t
-        → goesOn (after table b) l ≡ pick (ltb 0 (pick t (suc (length (after table b))) 0)) (goesOn [] (drop (pick t (suc (length (after table b))) 0) (b ∷ l))) false
-    go true e = follow-goes (after table b) l ∙ rw (e, lt-ltb 0 (suc (length (after table b))) (omega arith))
-    go false e = follow-goes (after table b) l ∙ rw e
+        → follow (following utf8Table b) l ≡ t
+        → goesOn (following utf8Table b) l ≡ pick (ltb 0 (pick t (suc (length (following utf8Table b))) 0)) (goesOn [] (drop (pick t (suc (length (following utf8Table b))) 0) (b ∷ l))) false
+    go true e = follow-goes (following utf8Table b) l ∙ rw (e, lt-ltb 0 (suc (length (following utf8Table b))) (omega arith))
+    go false e = follow-goes (following utf8Table b) l ∙ rw e
 
 module _ (s : List ℕ) (i n : ℕ) (h : i < length s) (q : n ≡ sequenceSize (drop i s)) where
   same-on : goesOn [] (drop i s) ≡ pick (ltb 0 n) (goesOn [] (drop (i + n) s)) false
@@ -208,8 +208,8 @@ unfolding plainRun
 plain-length [] = omega arith
 plain-length (b ∷ l) = pick-case (λ (n : ℕ). n ≤ suc (length l)) (ltb b 0x80) (suc (plainRun l)) 0 (λ _. let h = plain-length l in omega arith) (λ _. omega arith)
 
-plain-first : (b : ℕ) → b < 0x80 → after table b ≡ []
-unfolding after table within pick
+plain-first : (b : ℕ) → b < 0x80 → following utf8Table b ≡ []
+unfolding following utf8Table within pick
 plain-first b h = sym (row-is (λ _. []) 0 0x80 refl b (omega arith) (omega arith))
 
 -- plain bytes are sequences
@@ -217,7 +217,7 @@ plain-go : (l : List ℕ) → goesOn [] l ≡ goesOn [] (drop (plainRun l) l)
 unfolding plainRun goesOn pick
 plain-go [] = refl
 plain-go (b ∷ l) =
-    pick-case (λ (n : ℕ). goesOn (after table b) l ≡ goesOn [] (drop n (b ∷ l))) (ltb b 0x80) (suc (plainRun l)) 0
+    pick-case (λ (n : ℕ). goesOn (following utf8Table b) l ≡ goesOn [] (drop n (b ∷ l))) (ltb b 0x80) (suc (plainRun l)) 0
     (λ e. ap (λ (r : List Range). goesOn r l) (plain-first b (ltb-true b 0x80 e)) ∙ plain-go l)
     (λ _. refl)
 

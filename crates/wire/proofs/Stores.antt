@@ -1,4 +1,4 @@
--- The laws of stores one after the other, as far as there is room. Assumes nothing.
+-- The laws of stores one after the other, as far as there is room.
 use mathlib.Core.Path.{_≡_, refl, ap, sym, _∙_}
 use mathlib.Core.List.{List, [], _∷_, _++_}
 use Prim.Native.Nat.{ℕ, suc, _+_, _-_, _<_, _≤_, min}

@@ -1,12 +1,12 @@
--- A test that passes at each number of a range, which antt computes, and so passes at any of them. Assumes nothing.
+-- A test that passes at each number of a range, which antt computes, and so passes at any of them.
 use mathlib.Core.Path.{_≡_, subst}
 use mathlib.Core.Bool.{Bool, true, false}
 use mathlib.Core.Logic.{⊎-elim}
 use Prim.Native.Nat.{ℕ, zero, suc, _+_, _<_, _≤_}
 use native.Mathlib.Omega.{arith}
 use native.Mathlib.Nat.{eq-or-lt-of-le}
-use Rattle.wire.specs.Choice.{pick}
 use Rattle.wire.proofs.Picks.{clash, both}
+use Rattle.protocol.specs.Numbers.{pick}
 
 -- the n numbers from l
 abbrev pub each : (ℕ → Bool) → ℕ → ℕ → Bool

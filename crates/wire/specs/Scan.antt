@@ -1,13 +1,18 @@
--- What the functions of src/text.rt say to each other of a scan of text: forms of Utf8's definitions that no other crate needs.
--- Assumes nothing: these are definitions.
+-- Nobody has to believe these definitions: they are what the functions of src/text.rt say to each other of a scan of text, in forms of
+-- protocol's well-formed text (R2.6) that no other crate needs.
 use mathlib.Core.Path.{_≡_}
 use mathlib.Core.Bool.{Bool, true, false}
 use mathlib.Core.List.{List, [], _∷_}
 use Prim.Native.Nat.{ℕ, zero, suc, _+_, _*_, _/_, _<_}
-use lib.Dec.{eqb}
+use lib.Dec.{eqb, ltb}
 use lib.ListN.{length, drop, getD}
-use Rattle.wire.specs.Choice.{pick}
-use Rattle.wire.specs.Utf8.{Range, _to_, within, table, after, plainRun}
+use Rattle.protocol.specs.Numbers.{pick}
+use Rattle.protocol.specs.Text.{Range, _to_, within, utf8Table, following}
+
+-- how many bytes at the front are below 80 hex
+unfoldable pub plainRun : List ℕ → ℕ
+plainRun [] = 0
+plainRun (b ∷ s) = pick (ltb b 0x80) (suc (plainRun s)) 0
 
 -- the range of a byte that is not the first, and is not narrowed by the first
 abbrev pub follower : Range
@@ -35,7 +40,7 @@ pub record Begins (s : List ℕ) (i n : ℕ) : Type 0 where
   pub inside : i < length s
   pub some : 0 < n
   pub few : n < 4
-  pub row : ahead n (second (getD s i 0)) ≡ after table (getD s i 0)
+  pub row : ahead n (second (getD s i 0)) ≡ following utf8Table (getD s i 0)
 
 -- bytes in ranges, in their order
 unfoldable pub follow : List Range → List ℕ → Bool
@@ -46,7 +51,7 @@ follow (r ∷ rs) (b ∷ s) = pick (within r b) (follow rs s) false
 -- how many bytes the sequence at the front has, by the row of its first byte; 0 where none stands there
 unfoldable pub sequenceSize : List ℕ → ℕ
 sequenceSize [] = 0
-sequenceSize (b ∷ s) = pick (follow (after table b) s) (suc (length (after table b))) 0
+sequenceSize (b ∷ s) = pick (follow (following utf8Table b) s) (suc (length (following utf8Table b))) 0
 
 -- where the plain bytes at i end
 abbrev pub plainEnd : List ℕ → ℕ → ℕ

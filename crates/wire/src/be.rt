@@ -3,7 +3,7 @@ ghost use mathlib.Core.Path.{_≡_};
 ghost use Prim.Native.Nat.{_+_, _*_, _≤_, _<_};
 ghost use lib.ListN.{length, take, drop};
 ghost use lib.Seq.{sets};
-ghost use Rattle.wire.specs.Be.{be, bytesBe};
+ghost use Rattle.protocol.specs.Numbers.{be, bytesBe};
 
 // The number of four bytes, the first the highest.
 pub fn join(a: u8, b: u8, c: u8, d: u8) -> u32

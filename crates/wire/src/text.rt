@@ -3,8 +3,8 @@ ghost use mathlib.Core.Path.{_≡_};
 ghost use Prim.Native.Nat.{_+_, _≤_, _<_, min};
 ghost use lib.Dec.{leb};
 ghost use lib.ListN.{length, drop, getD};
-ghost use Rattle.wire.specs.Utf8.{_to_, within, wellFormed, plainRun};
-ghost use Rattle.wire.specs.Scan.{second, Begins, sequenceSize, plainEnd, blocksEnd};
+ghost use Rattle.wire.specs.Scan.{second, Begins, sequenceSize, plainEnd, blocksEnd, plainRun};
+ghost use Rattle.protocol.specs.Text.{_to_, within, wellFormed};
 
 // Whether a byte is in a range, both ends in it.
 fn is_within(b: u8, low: u8, high: u8) -> bool

@@ -1,4 +1,4 @@
-//! Blocks as data: all that source document 001 has in them. Nothing is judged here.
+//! Blocks as data: all the fields of R3.3. Nothing is judged here.
 
 use crate::scalar::Format;
 
@@ -7,9 +7,9 @@ pub type Id = [u8; 16];
 /// The blocks of a descriptor, those that take an index and those that do not.
 #[derive(Clone, Debug, Default, PartialEq, Eq)]
 pub struct Blocks<'a> {
-    /// "Other blocks count from 0": a block's index is its place here.
+    /// A block's index is its place here (R3.4).
     pub list: Vec<Block<'a>>,
-    /// "Annotation blocks (7f) take no index".
+    /// These have no index (R3.4).
     pub annotations: Vec<Annotation<'a>>,
 }
 
@@ -114,7 +114,7 @@ pub struct OutputElement<'a> {
 }
 
 impl Body<'_> {
-    /// "blocks with values: all but 10, 11, 13".
+    /// Object types, compound types and records have none (R3.2).
     pub fn has_values(&self) -> bool {
         !matches!(
             self,

@@ -1,4 +1,4 @@
-//! The fields of each tag after the id, in the orders of source document 001.
+//! The fields of each tag after the id, in the order of R3.3.
 
 use super::block::{Body, Id, InputElement, Name, NamedElement, OutputElement, Schema};
 use super::reader::{Reader, Tag};
@@ -7,7 +7,7 @@ use crate::refusal::{self, Refusal};
 use crate::scalar::Format;
 use std::collections::HashSet;
 
-/// "Shape flags: low three bits only".
+/// An output shape's flags have three bits (R3.6).
 const SHAPE_FLAGS: u32 = 0b111;
 
 impl<'a> Reader<'a> {
@@ -67,7 +67,7 @@ impl<'a> Reader<'a> {
         })
     }
 
-    /// "Ancestors .. may go to any earlier block."
+    /// Name, flag and ancestors, which are earlier blocks of any kind (R3.11).
     fn schema(&mut self) -> Result<Schema<'a>, Refusal> {
         Ok(Schema {
             name: self.name()?,
@@ -75,9 +75,9 @@ impl<'a> Reader<'a> {
         })
     }
 
-    /// "A scalar's format comes from its own id, if known, else from its last ancestor, which must
-    /// be a scalar with a known id (no ancestor: 12; any other block: 14)." The last ancestor is
-    /// the block's last field, and no ancestor's rule but 13 is judged before it (reading 3.10).
+    /// The format is the block's own by its id, or else that of its last ancestor, a scalar with a
+    /// known id; without any ancestor it is 12, with another one 14 (R3.16). The last ancestor is
+    /// the block's last field, and no ancestor's rule but 13 is judged before it.
     fn scalar(&mut self, id: &Id) -> Result<Body<'a>, Refusal> {
         let schema = self.schema()?;
         let format = match (known_format(id), schema.ancestors.last()) {
@@ -88,7 +88,7 @@ impl<'a> Reader<'a> {
         Ok(Body::Scalar { schema, format })
     }
 
-    /// The tag must be a scalar's, and the id known (reading 3.12).
+    /// The tag must be a scalar's, and the id known (R3.16).
     fn format_of(&self, index: u16) -> Result<Format, Refusal> {
         self.demand_kind(index, Body::is_scalar)?;
         match known_format(&self.blocks.list[usize::from(index)].id) {
@@ -97,7 +97,7 @@ impl<'a> Reader<'a> {
         }
     }
 
-    /// "Array dimensions: exactly one, -1."
+    /// An array has one dimension, of which the bound is -1 (R3.6).
     fn array(&mut self) -> Result<Body<'a>, Refusal> {
         let schema = self.schema()?;
         let element = self.element(is_array_element)?;
@@ -108,7 +108,7 @@ impl<'a> Reader<'a> {
         Ok(Body::Array { schema, element })
     }
 
-    /// "Operation: 1 or 2."
+    /// What is done with the components is 1 or 2 (R3.6).
     fn compound(&mut self) -> Result<Body<'a>, Refusal> {
         let name = self.name()?;
         let operation = self.fields.byte()?;
@@ -129,7 +129,7 @@ impl<'a> Reader<'a> {
         })
     }
 
-    /// "in a free shape neither type is checked", though both must be whole (reading 3.14).
+    /// In a free shape it may hold anything, though it must be whole (R3.12).
     fn shape_type(&mut self, free: bool) -> Result<u16, Refusal> {
         if free {
             self.fields.short()
@@ -150,7 +150,7 @@ impl<'a> Reader<'a> {
         })
     }
 
-    /// "input flags zero".
+    /// An input shape's flags are 0 (R3.6).
     fn input_elements(&mut self) -> Result<Vec<InputElement<'a>>, Refusal> {
         let mut names = HashSet::new();
         self.items(|reader| {
@@ -175,7 +175,7 @@ impl<'a> Reader<'a> {
         })
     }
 
-    /// "name twice in an input shape or named tuple", with the second name (reading 3.5).
+    /// No two elements may have one name: 16 comes with the second (R3.8).
     fn new_name(&mut self, names: &mut HashSet<&'a str>) -> Result<&'a str, Refusal> {
         let name = self.fields.text()?;
         if !names.insert(name) {
@@ -184,7 +184,7 @@ impl<'a> Reader<'a> {
         Ok(name)
     }
 
-    /// "record elements may go to any earlier block."
+    /// It may be an earlier block of any kind (R3.11).
     fn record_element(&mut self) -> Result<NamedElement<'a>, Refusal> {
         Ok(NamedElement {
             name: self.fields.text()?,
@@ -193,8 +193,8 @@ impl<'a> Reader<'a> {
     }
 }
 
-/// "Ids are zero up to the last two bytes: 01 00 uuid, then in order .. date_duration; memory is
-/// 01 30."
+/// Known ids begin with fourteen zeros; the last two bytes are 01 and the format's number, but for
+/// memory, which has 01 30 (R3.15).
 fn known_format(id: &Id) -> Option<Format> {
     let [zeros @ .., high, low] = id;
     if *zeros != [0; 14] || *high != 1 {

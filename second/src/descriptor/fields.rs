@@ -1,11 +1,11 @@
-//! The fields of a block, read from left to right: "each field first whole, then its rule". The
-//! place of all faults is the block's tag.
+//! The fields of a block, read from left to right: it is asked whether a field is whole before it
+//! is asked what it holds (R3.5). The place of all faults is the block's tag.
 
 use crate::refusal::{self, Refusal};
 
-/// "512 elements, ancestors, components or members in a block".
+/// The most that one count of a block may say (R1.4).
 const MOST_ITEMS: u16 = 512;
-/// "Cardinality: 6e none, 6f at most one, 41 one, 6d many, 4d at least one."
+/// None, at most one, one, many, at least one (R2.10).
 const CARDINALITIES: [u8; 5] = [0x6e, 0x6f, 0x41, 0x6d, 0x4d];
 
 pub struct Fields<'a> {
@@ -46,7 +46,7 @@ impl<'a> Fields<'a> {
         }
     }
 
-    /// "descriptor ends inside a field", also where the field should start (reading 3.19).
+    /// 10 where bytes are missing, also where the field should start (R3.5).
     pub fn take<const N: usize>(&mut self) -> Result<[u8; N], Refusal> {
         let Some(taken) = self.bytes[self.at..].first_chunk() else {
             return self.refuse(refusal::CUT_DESCRIPTOR);
@@ -68,8 +68,7 @@ impl<'a> Fields<'a> {
         Ok(u32::from_be_bytes(self.take()?))
     }
 
-    /// Length and content are one field (reading 3.3): "Every string, names and members too, is
-    /// text as in messages, else 12."
+    /// Length and content are one field (R3.5), of which the content must be text (R3.6).
     pub fn text(&mut self) -> Result<&'a str, Refusal> {
         let length = self.word()? as usize;
         let Some(content) = self.bytes[self.at..].get(..length) else {
@@ -82,7 +81,7 @@ impl<'a> Fields<'a> {
         }
     }
 
-    /// "Bools are 0 or 1."
+    /// 0 or 1 (R3.6).
     pub fn bool(&mut self) -> Result<bool, Refusal> {
         let byte = self.byte()?;
         self.demand(byte <= 1)?;
@@ -95,7 +94,7 @@ impl<'a> Fields<'a> {
         Ok(cardinality)
     }
 
-    /// A count over 512 is 17 before any item is read (reading 3.4).
+    /// A count over 512 is 17 before any item is read (R3.9).
     pub fn count(&mut self) -> Result<u16, Refusal> {
         let count = self.short()?;
         if count > MOST_ITEMS {

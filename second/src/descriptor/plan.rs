@@ -1,8 +1,9 @@
-//! The plan of a descriptor's blocks: 01, "Plan, list, finding", the first paragraph.
+//! The plan of a descriptor's blocks: R4.1, R4.2, R4.7, R4.8.
 
 use super::block::{Block, Body};
 
-/// "total, root position, then a node for each block with values, in block order."
+/// How many words there are, where the root's node starts, and the nodes of the blocks that have
+/// values, in their order (R4.7).
 pub fn words(blocks: &[Block], root: usize) -> Vec<u32> {
     let mut plan = Plan {
         words: vec![0, 0],
@@ -27,7 +28,7 @@ impl Plan {
     fn add(&mut self, block: &Block, blocks: &[Block]) {
         match &block.body {
             Body::Scalar { format, .. } => self.words.extend([1, *format as u32]),
-            // "set of an array block: set of arrays".
+            // R4.8: a set whose element is an array block has a kind of its own.
             Body::Set { element } if blocks[usize::from(*element)].body.is_array() => {
                 self.over(3, *element)
             }
@@ -58,13 +59,13 @@ impl Plan {
         self.starts[usize::from(index)]
     }
 
-    /// "Set or array 2,r. Set of arrays 3,r. .. Range 7,r."
+    /// A set or array, a set of arrays, or a range: its kind and one ref (R4.2).
     fn over(&mut self, kind: u32, element: u16) {
         let start = self.start(element);
         self.words.extend([kind, start]);
     }
 
-    /// "Tuple 4,n,refs."
+    /// A tuple: 4, how many elements it has, and their refs (R4.2).
     fn tuple(&mut self, elements: impl ExactSizeIterator<Item = u16>) {
         self.words.extend([4, elements.len() as u32]);
         for element in elements {
@@ -72,7 +73,7 @@ impl Plan {
         }
     }
 
-    /// "Output object 5,n and input 6,n, then pairs ref, cardinality."
+    /// An object: 5 or 6, how many elements it has, and the ref and cardinality of each (R4.2).
     fn object(&mut self, kind: u32, elements: impl ExactSizeIterator<Item = (u16, u8)>) {
         self.words.extend([kind, elements.len() as u32]);
         for (element, cardinality) in elements {

@@ -6,12 +6,11 @@ use super::ZERO;
 use crate::refusal::{self, Refusal};
 use std::collections::HashMap;
 
-/// "1,024 indexed blocks".
+/// The most blocks that have an index (R1.4).
 const MOST_BLOCKS: usize = 1_024;
 const ANNOTATION: u8 = 0x7f;
 
-/// "Known tags: 0, 1, 3 to 11, 13 and 7f; others, multirange's 12 too, are unknown." These are the
-/// tags of blocks that take an index.
+/// The known tags (R3.2) but that of annotations: these blocks take an index.
 #[derive(Clone, Copy, Debug, PartialEq, Eq)]
 pub enum Tag {
     Set,
@@ -76,7 +75,7 @@ impl<'a> Reader<'a> {
         Ok((reader.blocks, reader.indexes))
     }
 
-    /// "their index field must name an earlier block", of any kind (reading 3.16).
+    /// Its reference is to an earlier block of any kind (R3.4).
     fn annotation(&mut self) -> Result<(), Refusal> {
         let annotation = Annotation {
             block: self.reference()?,
@@ -87,7 +86,7 @@ impl<'a> Reader<'a> {
         Ok(())
     }
 
-    /// A block that takes an index: "the block count's with the tag, after 11".
+    /// A block that takes an index: one too many is told by its tag, after 11 (R3.14).
     fn indexed(&mut self, tag: u8) -> Result<(), Refusal> {
         let Some(tag) = Tag::of(tag) else {
             return self.fields.refuse(refusal::UNKNOWN_TAG);
@@ -97,7 +96,7 @@ impl<'a> Reader<'a> {
             return self.fields.refuse(refusal::DESCRIPTOR_SIZE);
         }
         let id = self.fields.take()?;
-        // "block id zero, or equal to an earlier one".
+        // R3.7: an id is not zero, and no earlier block's.
         if id == ZERO || self.indexes.insert(id, index).is_some() {
             return self.fields.refuse(refusal::BAD_ID);
         }
@@ -108,7 +107,7 @@ impl<'a> Reader<'a> {
         Ok(())
     }
 
-    /// "blocks without values have none".
+    /// Of a block without values nothing asks for it (R3.13).
     fn height(&self, body: &Body) -> u32 {
         if body.has_values() {
             self.highest + 1

@@ -1,20 +1,20 @@
-//! What a block may refer to: 01, "Descriptors", the second paragraph.
+//! What a block may refer to: R3.10 to R3.13.
 
 use super::block::Body;
 use super::reader::Reader;
 use crate::refusal::{self, Refusal};
 
-/// "height 32 (a leaf is 1, a container one more than its highest element, an empty container 1)".
+/// The greatest height of a block (R1.4, R3.13).
 const MOST_HEIGHT: u32 = 32;
 
 impl<'a> Reader<'a> {
-    /// "A reference names an earlier index".
+    /// It is the index of an earlier block (R3.10).
     pub fn reference(&mut self) -> Result<u16, Refusal> {
         let index = self.fields.short()?;
         self.earlier(index)
     }
 
-    /// "the named tuple's is signed; negative is 13".
+    /// A named tuple's has a sign, and a negative one is 13 (R3.10).
     pub fn signed_reference(&mut self) -> Result<u16, Refusal> {
         let index = i16::from_be_bytes(self.fields.take()?);
         match u16::try_from(index) {
@@ -43,7 +43,7 @@ impl<'a> Reader<'a> {
         &self.blocks.list[usize::from(index)].body
     }
 
-    /// "Shape type, source type and components go to 10 or 11".
+    /// The type and source_type of a shape, and a component, are object or compound types (R3.11).
     pub fn object_type(&mut self) -> Result<u16, Refusal> {
         let index = self.reference()?;
         self.demand_kind(index, Body::is_object_type)?;
@@ -61,7 +61,7 @@ impl<'a> Reader<'a> {
         self.judge_element(index, Body::has_values)
     }
 
-    /// "Height's 17 comes with the reference that passes it, after 14".
+    /// 17 comes with the reference that makes the block too high, after 14 (R3.13).
     fn judge_element(
         &mut self,
         index: u16,
@@ -77,12 +77,12 @@ impl<'a> Reader<'a> {
     }
 }
 
-/// "Set and array elements aren't sets", and go to blocks with values.
+/// Every block with values but a set (R3.11).
 pub fn is_set_element(body: &Body) -> bool {
     body.has_values() && !body.is_set()
 }
 
-/// "array elements aren't arrays".
+/// And no array either (R3.11).
 pub fn is_array_element(body: &Body) -> bool {
     is_set_element(body) && !body.is_array()
 }

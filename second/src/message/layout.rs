@@ -13,13 +13,13 @@ pub enum Field {
     Fixed(usize),
     /// One byte, which must be among these.
     OneOf(&'static [u8]),
-    /// D's "u16 which is 1". It is a body field like any other (reading 2.4).
+    /// D's u16, which must be 1. It is a field as any other (R2.8).
     One,
     /// u32 length and well-formed UTF-8.
     Text,
     /// u32 length and any bytes.
     Bytes,
-    /// A u16 count, itself a field, and as many times these fields (reading 2.1).
+    /// A u16 count, itself a field, and as many times these fields (R2.7).
     Run(&'static [Field]),
 }
 
@@ -87,7 +87,7 @@ impl Field {
             OneOf(allowed) => allowed.contains(&content[0]),
             One => content == [0, 1],
             Text => std::str::from_utf8(content).is_ok(),
-            // "Unnamed u64 bits pass", and a count is never refused for its size (reading 2.3).
+            // Bits of a u64 without a name pass (R2.5), and a count is never too large (R2.7).
             Fixed(_) | Bytes | Run(_) => true,
         }
     }

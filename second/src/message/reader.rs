@@ -17,7 +17,7 @@ pub struct Read {
 /// Reads the message at the start of `src`. The order of refusals is 1, 2, 1, 3, then those of the
 /// fields, then 5, then 31.
 pub fn read_message(side: u32, src: &[u8], room_words: usize) -> Result<Read, Refusal> {
-    // "Under 5 message bytes: 1; then 2; then 1; then 3."
+    // R1.6: 1 for fewer than five bytes, 2, 1 again, and then 3.
     let Some((&[type_byte, a, b, c, d], _)) = src.split_first_chunk() else {
         return Err(Refusal::at_start(refusal::NOT_WHOLE));
     };
@@ -25,7 +25,7 @@ pub fn read_message(side: u32, src: &[u8], room_words: usize) -> Result<Read, Re
     if !(LEAST_LENGTH..=MOST_LENGTH).contains(&length) {
         return Err(Refusal::at_start(refusal::BAD_LENGTH));
     }
-    // "Bytes after the message aren't looked at."
+    // R2.3: what comes after the message has no effect.
     let Some(message) = src.get(..1 + length) else {
         return Err(Refusal::at_start(refusal::NOT_WHOLE));
     };
@@ -69,7 +69,7 @@ impl<'a> Body<'a> {
         fields.iter().try_for_each(|field| self.field(field))
     }
 
-    /// "each field first whole, then its rule"; a run's items are fields of their own.
+    /// First whole (4), then its content (6): R2.11. The parts of repeated items are fields (R2.7).
     fn field(&mut self, field: &Field) -> Result<(), Refusal> {
         let start = self.at;
         let Some(content) = self.content(field) else {
@@ -78,7 +78,7 @@ impl<'a> Body<'a> {
         if !field.permits(content) {
             return Err(Refusal::at(refusal::BAD_FIELD, start));
         }
-        // "text and bytes by their content": the pair passes over the u32 length.
+        // R2.13: of text and bytes the length before them is left out.
         let pair = [self.at - content.len(), content.len()];
         self.words.extend(pair.map(|word| word as u32));
         if let Field::Run(item) = field {

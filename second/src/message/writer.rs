@@ -15,7 +15,7 @@ pub fn write_message(
 ) -> Result<Vec<u8>, u32> {
     let fields = layout(side, type_byte).ok_or(refusal::UNKNOWN_TYPE)?;
     let contents = gather(fields, words, src).ok_or(refusal::BAD_FIELD)?;
-    // All contents are judged before the size is (reading 2.9).
+    // All contents are judged before the size is (R2.15).
     let length = LEAST_LENGTH + contents.iter().map(Content::size).sum::<usize>();
     if length > MOST_LENGTH {
         return Err(refusal::BAD_LENGTH);
@@ -87,7 +87,7 @@ impl Gathering<'_, '_> {
             bytes,
         });
         if let Field::Run(item) = field {
-            // The count is read from the source bytes at its own pair (reading 2.8).
+            // The count is read from the source bytes at its own pair (R2.15).
             for _ in 0..u16::from_be_bytes([bytes[0], bytes[1]]) {
                 self.fields(item)?;
             }
@@ -96,8 +96,8 @@ impl Gathering<'_, '_> {
     }
 }
 
-/// The bytes that a pair names. A pair of length 0 past the source's end lies outside too (reading
-/// 2.5), and no sum wraps (reading 2.6).
+/// The bytes that a pair names. A pair of length 0 past the source's end lies outside too, and no
+/// sum wraps (R2.15).
 fn part(src: &[u8], start: u32, length: u32) -> Option<&[u8]> {
     src.get(start as usize..)?.get(..length as usize)
 }

@@ -12,15 +12,15 @@ pub struct Member {
 /// What length -1 means for a member.
 #[derive(Clone, Copy, PartialEq, Eq)]
 pub enum Absence {
-    /// "Tuples never": 23.
+    /// In a tuple: 23 (R5.7).
     Never,
-    /// "Cardinalities 41 and 4d are required": 27.
+    /// With cardinality 41 or 4d: 27 (R5.11).
     Required,
-    /// "others may be -1".
+    /// With any other cardinality (R5.11).
     Permitted,
 }
 
-/// "Its node word in the list is 2 plus the number of words in all earlier blocks' nodes."
+/// Where the node of each block would start: after two words, and the nodes before it (R4.12).
 pub fn node_words(blocks: &[Block]) -> Vec<u32> {
     let mut before = 0;
     let mut node_word = |block: &Block| {

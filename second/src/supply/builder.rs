@@ -16,7 +16,7 @@ pub struct Builder<'a> {
 }
 
 impl<'a> Builder<'a> {
-    /// The value of a whole list: entries left over are 34 (reading 6.5).
+    /// The value of a whole list: entries left over are 34 (R8.6).
     pub fn whole(tree: &'a Tree, list: &[u32], src: &'a [u8]) -> Option<Vec<u8>> {
         let mut builder = Builder {
             tree,
@@ -33,13 +33,13 @@ impl<'a> Builder<'a> {
         self.entries.as_slice().first().copied()
     }
 
-    /// Takes the entry that comes next: "node, index .. agree".
+    /// Takes the entry that comes next, whose node and index must be these (R8.3).
     fn take(&mut self, node: u32, index: u32) -> Option<Entry> {
         let entry = self.entries.next()?;
         (entry.node == node && entry.index == index).then_some(entry)
     }
 
-    /// Puts out bytes. "accepted" includes the size (reading 6.1).
+    /// Puts out bytes: a value that is too large would not be accepted (R8.10).
     pub fn put(&mut self, bytes: &[u8]) -> Option<()> {
         self.value.extend(bytes);
         (self.value.len() <= MOST_BYTES).then_some(())
@@ -80,7 +80,7 @@ impl<'a> Builder<'a> {
         }
     }
 
-    /// "Leaf bytes lie at start, length", and are copied as they are (reading 6.7).
+    /// A leaf's bytes are those at its start and length, and are copied as they are (R8.2, R8.5).
     fn leaf(&mut self, entry: Entry, permits: impl Fn(&[u8]) -> bool) -> Option<()> {
         let content = entry.bytes(self.src)?;
         if entry.below != 0 || content.len() > MOST_BYTES || !permits(content) {
@@ -89,7 +89,7 @@ impl<'a> Builder<'a> {
         self.put(content)
     }
 
-    /// "a range's flags at its start".
+    /// A range's flags are the byte at its start (R8.2).
     pub fn flags(&self, entry: Entry) -> Option<u8> {
         self.src.get(entry.start as usize).copied()
     }
@@ -103,7 +103,7 @@ impl<'a> Builder<'a> {
         Some(())
     }
 
-    /// An array in its envelope: "envelope length = 12 + inner".
+    /// An array in its envelope, whose length is 12 more than the array's (R5.6).
     pub fn enveloped(&mut self, array: u32, index: u32) -> Option<()> {
         let at = self.value.len();
         self.put_words(&[0, 1, 0])?;

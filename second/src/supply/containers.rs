@@ -17,8 +17,8 @@ impl Builder<'_> {
         (0..count).try_for_each(|index| self.enveloped(array, index))
     }
 
-    /// The head of a set or array: an empty one has "ndims 0, 12 bytes: the only accepted form"
-    /// (reading 6.6). More elements than a signed count can say are more than there is place for.
+    /// The head of a set or array: an empty one has no dimension and 12 bytes (R8.9). More elements
+    /// than a signed count can say are more than there is place for.
     fn dimension(&mut self, count: u32) -> Option<()> {
         match count {
             0 => self.put_words(&[0, 0, 0]),
@@ -44,7 +44,7 @@ impl Builder<'_> {
         Some(())
     }
 
-    /// "count equal to the descriptor's".
+    /// As many elements as the node has (R5.7).
     fn full_count(&mut self, elements: usize, count: u32) -> Option<()> {
         if count as usize != elements {
             return None;
@@ -52,8 +52,8 @@ impl Builder<'_> {
         self.put_words(&[count])
     }
 
-    /// Sparse: the elements keep the supply's order (reading 6.7), each index is given once, and
-    /// the required ones are.
+    /// Sparse: the elements keep the supply's order (R8.9), each index is given once, and the
+    /// required ones are.
     pub fn input(&mut self, elements: &[Element], count: u32) -> Option<()> {
         let mut given = vec![false; elements.len()];
         self.put_words(&[count])?;

@@ -1,4 +1,4 @@
-//! The bytes of one container, read from left to right: "each field first whole, then its rule".
+//! The bytes of one container, read from left to right: a field is first whole, and then judged.
 
 use crate::refusal::{self, Refusal};
 
@@ -10,7 +10,7 @@ pub struct Span {
 }
 
 /// The place of all its faults is where the container itself starts, not its head in the parent
-/// (reading 5.11).
+/// (R1.12).
 pub struct Container<'a> {
     start: usize,
     /// How much was read.
@@ -40,8 +40,7 @@ impl<'a> Container<'a> {
         }
     }
 
-    /// The next bytes: "container ends inside a head" also where the head should start (reading
-    /// 5.5).
+    /// The next bytes: 20 where they are not there, also where the head should start (R5.3).
     pub fn take(&mut self, count: usize) -> Result<&'a [u8], Refusal> {
         let Some(taken) = self.bytes[self.at..].get(..count) else {
             return self.refuse(refusal::CUT_CONTAINER);
@@ -69,8 +68,8 @@ impl<'a> Container<'a> {
         self.start + self.at
     }
 
-    /// Steps over the element of this length, which must not be absent. "length below -1, or -1 in
-    /// a set, array, tuple or range" (23), then fit: "an element passes its end" (20).
+    /// Steps over the element of this length, which must not be absent: a negative length is 23,
+    /// and one that the container does not hold is 20 (R5.3).
     pub fn element(&mut self, length: i32) -> Result<Span, Refusal> {
         let Ok(length) = usize::try_from(length) else {
             return self.refuse(refusal::BAD_ELEMENT_LENGTH);
@@ -80,7 +79,7 @@ impl<'a> Container<'a> {
         Ok(Span { start, length })
     }
 
-    /// After the last element: "bytes left over in a container".
+    /// After the last element: no byte may follow (R5.14).
     pub fn end(&self) -> Result<(), Refusal> {
         if self.at < self.bytes.len() {
             return self.refuse(refusal::BYTES_OVER);

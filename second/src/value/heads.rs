@@ -9,8 +9,7 @@ const UPPER_INCLUDED: u8 = 0x04;
 const LOWER_INFINITE: u8 = 0x08;
 const UPPER_INFINITE: u8 = 0x10;
 
-/// "ndims 0 or 1, 8 reserved; if 1, upper at least 1 and lower 1", field by field (reading 5.1).
-/// Gives the number of elements.
+/// The head of a set or array, field by field (R5.4). Gives the number of elements.
 pub fn dimension(set: &mut Container) -> Result<u32, Refusal> {
     let ndims = set.number()?;
     set.demand(ndims == 0 || ndims == 1)?;
@@ -25,8 +24,7 @@ pub fn dimension(set: &mut Container) -> Result<u32, Refusal> {
     Ok(upper as u32)
 }
 
-/// "each head is 16 bytes: envelope length, 1, reserved, inner length; checked in the order whole,
-/// 1 (22), inner sign (23), envelope length = 12 + inner (22)". Gives the inner length.
+/// The head of an array in a set, its checks in the order of R5.6. Gives the inner length.
 pub fn envelope(set: &mut Container) -> Result<i32, Refusal> {
     let [outer, one, _, inner] = set.numbers()?;
     set.demand(one == 1)?;
@@ -37,22 +35,22 @@ pub fn envelope(set: &mut Container) -> Result<i32, Refusal> {
     Ok(inner)
 }
 
-/// "Tuples and objects: count equal to the descriptor's, else 22".
+/// A tuple or an object has as many elements as its node, else 22 (R5.7).
 pub fn full_count(container: &mut Container, elements: usize) -> Result<u32, Refusal> {
     let count = container.number()?;
     container.demand(usize::try_from(count) == Ok(elements))?;
     Ok(count as u32)
 }
 
-/// A range's flags, of which a missing byte is 20 (reading 5.2). Gives the indexes of the bounds on
-/// the wire.
+/// A range's flags, of which a missing byte is 20 (R5.12). Gives the indexes of the bounds on the
+/// wire.
 pub fn bounds(range: &mut Container) -> Result<impl Iterator<Item = u32>, Refusal> {
     let flags = range.take(1)?[0];
     range.demand(are_permitted(flags))?;
     Ok(bounds_on_wire(flags))
 }
 
-/// "Lower is present unless empty or 08; upper unless empty or 10." Gives their indexes.
+/// The bounds that the flags do not leave out (R5.13). Gives their indexes.
 pub fn bounds_on_wire(flags: u8) -> impl Iterator<Item = u32> {
     let present = [(0, LOWER_INFINITE), (1, UPPER_INFINITE)]
         .into_iter()
@@ -60,7 +58,7 @@ pub fn bounds_on_wire(flags: u8) -> impl Iterator<Item = u32> {
     present.map(|(index, _)| index)
 }
 
-/// "flags 01 alone; or bits 02, 04, 08, 10, without 02 with 08 or 04 with 10".
+/// 01 stands alone, and a bound that is not there is not included (R5.12).
 pub fn are_permitted(flags: u8) -> bool {
     let any_of = LOWER_INCLUDED | UPPER_INCLUDED | LOWER_INFINITE | UPPER_INFINITE;
     let both = |bits: u8| flags & bits == bits;

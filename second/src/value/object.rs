@@ -8,7 +8,7 @@ use crate::refusal::{self, Refusal};
 use std::mem;
 
 impl Walk<'_> {
-    /// "each element reserved, length, data". No element of a tuple may be absent.
+    /// Each element has reserved bytes, a length and data, and none may be absent (R5.7).
     pub fn tuple(&mut self, elements: &[u32], mut tuple: Container) -> Result<u32, Refusal> {
         let count = full_count(&mut tuple, elements.len())?;
         for (index, &element) in (0..).zip(elements) {
@@ -30,9 +30,8 @@ impl Walk<'_> {
         Ok(count)
     }
 
-    /// "Sparse: count not negative; each index, length, data; indexes in any order. Per element:
-    /// head whole, 25, 26, 23 or 27, fit, then the element as a value. After the last: 21, then 27
-    /// for a required index not given."
+    /// Sparse: entries in any order, each with its index (R5.9). The checks of an entry come in the
+    /// order of R5.10, and those after the last one in that of R5.14.
     pub fn input(&mut self, elements: &[Element], mut object: Container) -> Result<u32, Refusal> {
         let count = object.number()?;
         object.demand(count >= 0)?;
@@ -42,7 +41,7 @@ impl Walk<'_> {
             let Some(element) = elements.get(index as u32 as usize) else {
                 return object.refuse(refusal::INDEX_OUTSIDE);
             };
-            // Absent or not, an index is given once (reading 5.7).
+            // Absent or not, an index is given once (R5.10).
             if mem::replace(&mut given[index as usize], true) {
                 return object.refuse(refusal::INDEX_TWICE);
             }
@@ -56,8 +55,8 @@ impl Walk<'_> {
         Ok(count as u32)
     }
 
-    /// An object's element whose head was read. -1: "required element of length -1" is 27, another
-    /// is absent. Below -1: 23.
+    /// An object's element whose head was read. With -1 a required one is 27, and another is absent
+    /// (R5.11). Below -1: 23.
     fn field(
         &mut self,
         element: &Element,

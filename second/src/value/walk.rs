@@ -6,8 +6,8 @@ use crate::plan::{Node, Tree};
 use crate::refusal::{self, Refusal};
 use crate::scalar::{self, Format};
 
-/// "A container comes first, then each element with all below it, in wire order." That is also the
-/// order of faults: all inside an element is judged before the next one's head (reading 5.10).
+/// A container's entry comes before those of its elements, each with all that it holds (R6.2). That
+/// is also the order of faults: all inside an element is judged before the next one's head (R5.2).
 pub struct Walk<'a> {
     tree: &'a Tree,
     /// The top value: places are offsets in it.
@@ -27,7 +27,7 @@ impl<'a> Walk<'a> {
             start: 0,
             length: value.len(),
         };
-        // "top 0".
+        // The index of the top is 0 (R6.3).
         walk.value(tree.root(), 0, whole)?;
         Ok(walk.words)
     }
@@ -48,17 +48,17 @@ impl<'a> Walk<'a> {
             Node::Input(elements) => self.input(elements, container),
             Node::Range(bound) => self.range(*bound, container),
         }?;
-        // "number of entries directly below".
+        // How many entries are directly below (R6.6).
         self.words[entry + 4] = below;
         Ok(())
     }
 
-    /// Lists an absent element, whose head ends here: "Absent: start just past its head."
+    /// Lists an absent element, which starts where its head ends (R6.5).
     pub fn absent(&mut self, node: u32, index: u32, start: usize) {
         self.list([node, index, start as u32, ABSENT, 0]);
     }
 
-    /// "node, index in its parent .., start, length .., number of entries directly below".
+    /// The words of an entry (R6.1).
     fn list(&mut self, entry: [u32; ENTRY_WORDS]) {
         self.words.extend(entry);
     }
@@ -67,7 +67,7 @@ impl<'a> Walk<'a> {
         self.judge(span, |content| format.permits(content))
     }
 
-    /// "scalar or enumeration content not permitted": the place is "that value". Nothing is below.
+    /// 24 at the leaf's own start (R5.15, R5.17). Nothing is below it.
     fn judge(&self, span: Span, permits: impl Fn(&[u8]) -> bool) -> Result<u32, Refusal> {
         if permits(&self.value[span.start..span.start + span.length]) {
             Ok(0)

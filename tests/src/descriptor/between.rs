@@ -22,7 +22,7 @@ impl Clothing<'_> {
         self.add(Kind::ObjectType, 10, fields);
     }
 
-    /// "Operation: 1 or 2."
+    /// Its operation is 1 or 2 (R3.6).
     fn compound(&mut self) {
         let operation = self.rng.between(1, 2) as u32;
         let mut fields = vec![

@@ -1,4 +1,4 @@
-//! Blocks put together by hand, in the orders of source document 001.
+//! Blocks put together by hand, their fields in the order of R3.3.
 
 use super::draft::Id;
 

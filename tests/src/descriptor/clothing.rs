@@ -157,7 +157,7 @@ impl Clothing<'_> {
         self.add(Kind::Set, 0, fields)
     }
 
-    /// "Array dimensions: exactly one, -1."
+    /// One dimension, of which the bound is -1 (R3.6).
     fn array(&mut self, element: usize) -> u16 {
         let mut fields = vec![self.id(false)];
         fields.extend(self.schema(None));
@@ -237,7 +237,7 @@ impl Clothing<'_> {
         self.add(Kind::Other, 1, fields)
     }
 
-    /// "in a free shape neither type is checked".
+    /// In a free shape it may hold anything (R3.12).
     fn object_type(&mut self, free: bool) -> Field {
         match self.some(Role::ObjectType) {
             Some(index) if !free => Field::reference(Role::ObjectType, index),

@@ -26,7 +26,7 @@ fn ends(cases: &mut Cases) {
     }
 }
 
-/// 11: "others, multirange's 12 too, are unknown", whatever comes after.
+/// 11: every tag that R3.2 does not have, the multirange's 12 too, whatever comes after.
 fn tags(cases: &mut Cases) {
     for tag in [2, 12, 14, 0x10, 0x7e, 0x80, 0xff] {
         cases.bad(&[tag], &ELEVENS, 11, 0);
@@ -35,7 +35,7 @@ fn tags(cases: &mut Cases) {
     }
 }
 
-/// 12: "Every string, names and members too, is text as in messages".
+/// 12: names, members, keys and values are text (R3.6).
 fn texts(cases: &mut Cases) {
     let bad = text(b"a\xff");
     cases.second(&block(3, id(1), &[&bad, &[1, 0, 0]]), 12);

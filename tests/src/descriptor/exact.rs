@@ -1,4 +1,4 @@
-//! Cases worked out by hand: those of 01, "Values at the edges", and one of each kind of block.
+//! Cases worked out by hand: the eleven of docs/RULES.md, and one of each kind of block.
 
 use super::bytes::*;
 use super::draft::Id;
@@ -8,7 +8,7 @@ use crate::crossed::hex;
 /// The root of descriptor A.
 pub const ELEVENS: Id = [0x11; 16];
 
-/// 01's descriptor A, 53 bytes: an int64 and a set of it.
+/// Descriptor A of docs/RULES.md, 53 bytes: an int64 and a set of it.
 pub fn descriptor_a() -> Vec<u8> {
     hex(
         "03 00000000000000000000000000000105 0000000a 7374643a3a696e743634 01 0000 \
@@ -26,7 +26,7 @@ pub fn add(cases: &mut Cases) {
     rich(cases);
 }
 
-/// The cases 1, 8 and 9 of 01.
+/// The cases 1, 8 and 9 of docs/RULES.md.
 fn edges(cases: &mut Cases) {
     let a = descriptor_a();
     assert_eq!(a.len(), 53, "descriptor A has 53 bytes");
@@ -40,7 +40,7 @@ fn edges(cases: &mut Cases) {
     cases.bad(&nine, &ELEVENS, 15, 34);
 }
 
-/// The cases 2 to 7 of 01.
+/// The cases 2 to 7 of docs/RULES.md.
 fn values_of_a(cases: &mut Cases) {
     let a = descriptor_a();
     let two = hex("00000001 0000000000000000 00000002 00000001 \
@@ -57,7 +57,7 @@ fn values_of_a(cases: &mut Cases) {
     cases.faulty(&a, &ELEVENS, &[0; 65_536], (28, 0));
 }
 
-/// The cases 10 and 11 of 01: an input shape of one int64, which is required.
+/// The cases 10 and 11 of docs/RULES.md: an input shape of one int64, which is required.
 fn required_input(cases: &mut Cases) {
     let element = In {
         flags: 0,
@@ -77,7 +77,7 @@ fn required_input(cases: &mut Cases) {
     cases.faulty(&descriptor, &id(1), &below, (23, 0));
 }
 
-/// "Cardinalities 41 and 4d are required; others may be -1", in either shape.
+/// Which elements are required, and which may be absent, in either shape (R5.11).
 fn cardinalities(cases: &mut Cases) {
     let absent = hex("00000001 00000000 ffffffff");
     let list = [4, 0, 0, 12, 1, 2, 0, 12, 0xffff_ffff, 0];
@@ -107,7 +107,7 @@ fn cardinalities(cases: &mut Cases) {
     }
 }
 
-/// "Id zero with no bytes is accepted as "no type"".
+/// An id of zeros and no bytes: "no type" (R3.17).
 fn no_type(cases: &mut Cases) {
     cases.good(&[], &[0; 16], &[2, 0]);
     cases.listed(&[], &[0; 16], &[], &[]);
@@ -116,8 +116,7 @@ fn no_type(cases: &mut Cases) {
     cases.faulty(&[], &[0; 16], &[0; 65_536], (28, 0));
 }
 
-/// "01 00 uuid, then in order str, bytes, .., date_duration; memory is 01 30. Formats are numbered
-/// 0 to 19 in this order."
+/// The twenty known ids and the numbers of their formats (R3.15).
 fn formats(cases: &mut Cases) {
     for (format, low) in (0..).zip((0..=0x12).chain([0x30])) {
         cases.good(&scalar(low), &known(low), &[4, 2, 1, format]);

@@ -98,7 +98,7 @@ fn heights(cases: &mut Cases) {
             let descriptor = [&most[..], &block].concat();
             cases.bad(&descriptor, &known(INT64), 17, most.len());
         }
-        // "an empty container 1".
+        // One without elements has height 1 (R3.13).
         let empty = chain(tuple(id(0), &[]), 33, above);
         let last = chain(tuple(id(0), &[]), 32, above).len();
         cases.bad(&empty, &id(0), 17, last);
@@ -124,7 +124,7 @@ fn plan_of_tuples(height: u32, total: u32, root: u32) -> Vec<u32> {
     plan
 }
 
-/// 13 and 14 come before 17; the source type and all later elements after it (reading 3.15).
+/// 13 and 14 come before 17; the source type and all later elements after it (R3.13).
 fn in_order(cases: &mut Cases) {
     let most = chain(scalar(INT64), 32, of_tuple);
     let before = [&most[..], &object(id(50))].concat();

@@ -10,7 +10,7 @@ pub fn add(cases: &mut Cases) {
     roots(cases);
 }
 
-/// 15: "block id zero, or equal to an earlier one".
+/// 15: an id of zeros, or an earlier block's (R3.7).
 fn ids(cases: &mut Cases) {
     for block in [
         scalar(INT64),
@@ -36,7 +36,7 @@ fn ids(cases: &mut Cases) {
     }
 }
 
-/// 16: "name twice in an input shape or named tuple"; elsewhere names may be twice.
+/// 16: two elements of an input shape or named tuple have one name; elsewhere they may (R3.8).
 fn names(cases: &mut Cases) {
     for name in [&b"n"[..], b"", b"abc"] {
         cases.second(&named_tuple(id(1), &[(name, 0), (name, 0)]), 16);
@@ -66,7 +66,7 @@ fn names(cases: &mut Cases) {
     cases.good(&descriptor, &id(1), &[11, 4, 1, 5, 4, 5, 2, 2, 2, 2, 2]);
 }
 
-/// 18: "root missing or without values", and the id's length and zero rules.
+/// 18: no block has the root id, or one without values; its length, and zeros (R3.17).
 fn roots(cases: &mut Cases) {
     let a = descriptor_a();
     for root in [

@@ -1,4 +1,4 @@
-//! Cases at and past each size that 01 limits.
+//! Cases at and past each largest size of R1.4.
 
 use super::bytes::*;
 use super::fixed::Cases;
@@ -47,7 +47,7 @@ fn plan_of_tuples(count: u16, root: u16) -> Vec<u32> {
     plan
 }
 
-/// "1,024 indexed blocks": the 1,025th is refused with its tag, after 11 (reading 3.6).
+/// Block 1,025 of those that have an index is refused with its tag, after 11 (R3.14).
 fn blocks(cases: &mut Cases) {
     for count in [1_023, 1_024] {
         let descriptor = tuples(count);
@@ -189,7 +189,7 @@ fn wide(words: usize) -> (Vec<u8>, Vec<u32>) {
     (descriptor, plan)
 }
 
-/// "at most 8,192 words": a larger plan does not fit in any room from C (reading 1.3).
+/// A plan of more than 8,192 words does not fit in any room from C (R9.6).
 fn plan_words(cases: &mut Cases) {
     for words in [8_191, 8_192] {
         let (descriptor, plan) = wide(words);

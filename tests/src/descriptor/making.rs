@@ -55,7 +55,7 @@ pub fn make(rng: &mut Rng) -> Case {
     }
 }
 
-/// What the call must answer: "room counts in whole words, 8,192 at most".
+/// What the call must answer: a room counts in whole words, at most 8,192 (R9.6).
 fn expected(known: Outcome, words: Vec<u32>, room: usize) -> Expected {
     match known {
         Outcome::Unknown => Expected::Unknown,

@@ -100,8 +100,7 @@ impl Naming {
     }
 }
 
-/// "Ids are zero up to the last two bytes: 01 00 uuid, then in order .. date_duration; memory is
-/// 01 30."
+/// Fourteen zeros, 01, and the format's number; of memory 01 30 (R3.15).
 fn id_of(format: u32) -> Id {
     let mut id = [0; 16];
     id[14] = 1;

@@ -1,4 +1,4 @@
-//! Two faults in one descriptor, where the order of 01 says which is given (reading, section 3).
+//! Two faults in one descriptor, where the order of R1.8 and R3.5 says which is given.
 
 use super::bytes::*;
 use super::exact::descriptor_a;
@@ -14,8 +14,8 @@ pub fn add(cases: &mut Cases) {
     of_free_shapes(cases);
 }
 
-/// "Total size and then the root id's length and zero rules precede a descriptor's blocks"; a root
-/// that is missing comes after them (readings 3.7 to 3.9).
+/// The total of bytes, then the root id's length and zeros, come before the blocks; a root that is
+/// missing comes after them (R1.8).
 fn of_calls(cases: &mut Cases) {
     let long = vec![0xff; 65_536];
     for root in [&[][..], &[0; 3], &[0; 16], &[0x11; 16]] {
@@ -30,7 +30,7 @@ fn of_calls(cases: &mut Cases) {
     cases.bad(&descriptor_a()[..20], &id(1), 10, 0);
 }
 
-/// Field order, and within a field "first whole" (readings 3.1 to 3.3).
+/// Field after field, and of each field first whether it is whole (R3.5).
 fn of_fields(cases: &mut Cases) {
     // Nothing after a tag that is unknown, or an id that is there already, is looked at.
     cases.second(&[2], 11);
@@ -67,7 +67,7 @@ fn of_later_fields(cases: &mut Cases) {
     cases.second(&[&[0x7f, 0, 0][..], &text(b"k")].concat(), 10);
 }
 
-/// "513 and nothing after it is 17, 512 and nothing after it is 10" (reading 3.4).
+/// With nothing after it a count of 513 is 17, and one of 512 is 10 (R3.9).
 fn of_counts(cases: &mut Cases) {
     let heads: [(u8, Vec<u8>); 12] = [
         (3, [text(b"t"), vec![1]].concat()),
@@ -93,7 +93,7 @@ fn of_counts(cases: &mut Cases) {
     }
 }
 
-/// 16 comes with the second name, after its 12 and before the element's type (reading 3.5).
+/// 16 comes with the second name, after its 12 and before the element's type (R3.8).
 fn of_names(cases: &mut Cases) {
     let field = |flags, cardinality, name, element| In {
         flags,
@@ -158,7 +158,7 @@ fn of_elements(cases: &mut Cases) {
     }
 }
 
-/// "in a free shape neither type is checked", but both must be whole (reading 3.14).
+/// In a free shape both types may hold anything, but they must be whole (R3.12).
 fn of_free_shapes(cases: &mut Cases) {
     for number in [0, 1, 2, 0x7fff, 0xffff] {
         let out = Out {

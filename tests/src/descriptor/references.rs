@@ -148,7 +148,7 @@ fn plan_of_kinds(block: &[u8], index: u16) -> Vec<u32> {
     plan
 }
 
-/// "(no ancestor: 12; any other block: 14)": the ancestors of a scalar whose own id is not known.
+/// 12 and 14 for the ancestors of a scalar whose own id is not known (R3.16).
 fn scalars(cases: &mut Cases) {
     cases.second(&derived(id(1), &[]), 12);
     for id in near_ids() {
@@ -165,7 +165,7 @@ fn scalars(cases: &mut Cases) {
         let descriptor = [&before[..], &derived(id(3), ancestors)].concat();
         cases.good(&descriptor, &id(3), &[8, 6, 1, 5, 1, 5, 1, 5]);
     }
-    // A tuple with a known id is no scalar (reading 3.12).
+    // A tuple with a known id is no scalar (R3.16).
     let tuple = tuple(known(STR), &[]);
     let descriptor = [&tuple[..], &derived(id(1), &[0])].concat();
     cases.bad(&descriptor, &known(STR), 14, tuple.len());

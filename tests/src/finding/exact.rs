@@ -19,7 +19,7 @@ pub fn add(cases: &mut Cases) {
     long_paths(cases);
 }
 
-/// The set {7, -1} of 01's case 2.
+/// The set {7, -1} of case 2 of docs/RULES.md.
 fn two() -> Vec<u8> {
     hex("00000001 0000000000000000 00000002 00000001 \
          00000008 0000000000000007 00000008 ffffffffffffffff")
@@ -120,7 +120,7 @@ fn ranges(cases: &mut Cases) {
     }
 }
 
-/// 28, 21 first; then 35 for every path (reading 7.3).
+/// 28, 21 first; then 35 for every path (R7.6).
 fn no_type(cases: &mut Cases) {
     for path in [&[][..], &[0], &[0, 0]] {
         cases.bad((&[2, 0], &[], path), 35, 0);
@@ -129,7 +129,7 @@ fn no_type(cases: &mut Cases) {
     }
 }
 
-/// "Finding: 33, 28, value faults, 35 or 36, 37", and a path of bytes left over has 35's turn.
+/// The order of R1.11; a path that is no whole number of words has 35's turn (R9.5).
 fn order(cases: &mut Cases) {
     let (two, long) = (two(), vec![0; 65_536]);
     let bad_plan = [6, 4, 1, 20, 2, 2];
@@ -166,7 +166,7 @@ fn order(cases: &mut Cases) {
     cases.refused(call, 33, 0);
 }
 
-/// No list room is needed: a value whose list cannot cross can be searched (reading 7.6).
+/// No list room is needed: a value whose list cannot cross can be searched (R7.7).
 fn long_lists(cases: &mut Cases) {
     let plan = [6, 4, 1, STR, 2, 2];
     for count in [1_638, 16_378] {

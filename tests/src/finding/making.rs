@@ -45,7 +45,7 @@ fn made(rng: &mut Rng) -> Made {
     }
 }
 
-/// What the call must answer. "Finding: 33, 28, value faults, 35 or 36".
+/// What the call must answer, in the order of R1.11.
 fn expected(known: Known, names: Names, entries: &[Entry]) -> Expected {
     match (known, names) {
         (Known::BadPlan, _) => Expected::Refused(33, 0),

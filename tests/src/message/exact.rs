@@ -1,5 +1,5 @@
-//! Cases by construction, at the exact sizes of 01, with answers worked out by hand. Each is run
-//! with either end of its buffers fenced.
+//! Cases by construction, at the largest sizes of R1.4 and beside them, with answers worked out by
+//! hand. Each is run with either end of its buffers fenced.
 
 use super::bytes::whole;
 use super::case::{Call, Case, ReadCall, WriteCall};

@@ -1,4 +1,4 @@
-//! The fields of the ten messages by name, as source document 003 has them.
+//! The fields of the ten messages by name, as R2.8 and R2.9 have them.
 
 use super::human;
 use super::texts::{self, Extent};

@@ -1,4 +1,4 @@
-//! Scalars in human form: source document 000 says what the bytes mean.
+//! Scalars in human form: R5.15 says what the bytes mean.
 
 use super::calendar;
 use super::float;

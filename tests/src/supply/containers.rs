@@ -66,7 +66,7 @@ fn tuples(cases: &mut Cases) {
 }
 
 /// An object of a tuple that may be absent and an int16 that may not: empty tuple at 2, leaf at 4,
-/// object at 6. An absent entry's start may be anything, but nothing is below it (reading 6.3).
+/// object at 6. An absent entry's start may be anything, but nothing is below it (R8.8).
 fn outputs(cases: &mut Cases) {
     let plan = [12, 6, 4, 0, 1, 3, 5, 2, 2, 0x6f, 4, 0x41];
     let list = |tuple: [u32; 5]| [[6, 0, 0, 0, 2], tuple, [4, 1, 0, 2, 0]].concat();

@@ -145,8 +145,8 @@ fn cut_source(rng: &mut Rng, supply: &mut Supply) {
     supply.src.truncate(length - cut);
 }
 
-/// An empty leaf just past the source, or at its very end (reading 6.4); or leaves that all claim
-/// as much as there is, or more than a value can have.
+/// An empty leaf just past the source, or at its very end (R8.7); or leaves that all claim as much
+/// as there is, or more than a value can have.
 fn beyond(rng: &mut Rng, kinds: &Kinds, supply: &mut Supply) {
     if rng.below(8) > 0 {
         with(

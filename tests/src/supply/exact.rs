@@ -1,5 +1,5 @@
-//! Cases worked out by hand: those of 01, "Values at the edges", that a value has, sets and leaves,
-//! and what makes them such as no value has.
+//! Cases worked out by hand: those of docs/RULES.md that a value has, sets and leaves, and what
+//! makes them such as no value has.
 
 use super::fixed::Cases;
 use crate::crossed::hex;
@@ -15,7 +15,7 @@ pub fn add(cases: &mut Cases) {
     no_type(cases);
 }
 
-/// The cases 2 and 3 of 01, written again from their lists.
+/// The cases 2 and 3 of docs/RULES.md, written again from their lists.
 fn edges(cases: &mut Cases) {
     let head = "00000001 0000000000000000 00000002 00000001";
     let elements = "00000008 0000000000000007 00000008 ffffffffffffffff";
@@ -116,8 +116,8 @@ fn words(cases: &mut Cases) {
     }
 }
 
-/// An empty leaf beyond the source is 34 (reading 6.4); contents must be permitted, and are copied
-/// as they are.
+/// An empty leaf beyond the source is 34 (R8.7); contents must be permitted, and are copied as they
+/// are (R8.5).
 fn leaves(cases: &mut Cases) {
     let enumeration = [3, 2, 8];
     cases.good((&enumeration, &[2, 0, 0, 0, 0], &[]), &[]);
@@ -135,7 +135,7 @@ fn leaves(cases: &mut Cases) {
     cases.bad((&[4, 2, 1, 14], &[2, 0, 0, 16, 0], &duration), 34);
 }
 
-/// The empty list is the supply of the empty value (reading 6.5).
+/// The list of no words is the supply of the value of no bytes (R8.11).
 fn no_type(cases: &mut Cases) {
     cases.good((&[2, 0], &[], &[]), &[]);
     cases.good((&[2, 0], &[], &[1, 2, 3]), &[]);

@@ -36,8 +36,8 @@ impl Kinds<'_> {
         }
     }
 
-    /// "A value has the supply when node, index, count, absence, leaf bytes and flags agree." Both
-    /// are a list, of a supply that was accepted and of a value, and the bytes that it is on.
+    /// Whether a value has a supply: all that counts in an entry is equal (R8.2, R8.3). Both are a
+    /// list, of a supply that was accepted and of a value, and the bytes that it is on.
     pub fn agree(&self, supply: (&[Entry], &[u8]), value: (&[Entry], &[u8])) -> bool {
         let same = |(one, other): (&Entry, &Entry)| {
             one.node == other.node

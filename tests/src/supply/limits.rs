@@ -16,7 +16,7 @@ pub fn add(cases: &mut Cases) {
     ranges(cases);
 }
 
-/// "Value writer: 33, 34, 32", and what cannot cross has its number's turn (reading 1.2).
+/// The order of R1.10; what cannot cross has its number's turn (R9.5).
 fn order(cases: &mut Cases) {
     let (good_plan, bad_plan) = (list(&SET), list(&[6, 4, 1, 20, 2, 2]));
     let good_list = list(&[4, 0, 0, 12, 0]);
@@ -45,7 +45,7 @@ fn order(cases: &mut Cases) {
     push(&good_plan, &good_list, 11, 32);
 }
 
-/// "accepted" includes the size (reading 6.1), while a source may be as large as it likes.
+/// A value that would be too large is 34 (R8.10), while a source may be of any size (R9.7).
 fn bytes(cases: &mut Cases) {
     let src = vec![b'a'; 200_000];
     for format in [STR, BYTES] {

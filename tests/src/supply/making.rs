@@ -11,7 +11,7 @@ use crate::value::making::{plan_bytes, room};
 use crate::value::pairing::{good_pair, Known, Pair};
 use second::entry::Entry;
 
-/// "A supply is a list and source bytes."
+/// A list, and source bytes (R8.1).
 pub struct Supply {
     pub entries: Vec<Entry>,
     pub src: Vec<u8>,
@@ -82,7 +82,7 @@ fn value(kinds: &Kinds, supply: &Supply) -> Vec<u8> {
 }
 
 /// What the call must answer where this value has the supply: it may be too large to be accepted,
-/// or its list to cross. "Value writer: 33, 34, 32."
+/// or its list to cross. The order is that of R1.10.
 fn expected(value: Vec<u8>, list: usize, room: usize) -> Expected {
     if value.len() > 65_535 || list > MOST_LIST {
         Expected::Refused(34, 0)

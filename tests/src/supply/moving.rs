@@ -22,7 +22,7 @@ pub fn change(rng: &mut Rng, kinds: &Kinds, supply: &mut Supply) {
     }
 }
 
-/// "other starts and lengths count only as absent or not", so they may be anything.
+/// Starts and lengths that do not count may be anything (R8.2).
 fn scatter(rng: &mut Rng, kinds: &Kinds, supply: &mut Supply) {
     for entry in &mut supply.entries {
         if entry.is_absent() {

@@ -118,7 +118,7 @@ fn head(rng: &mut Rng, container: &mut Draft) {
     let word = &mut container.head[at..at + 4];
     let number = u32::from_be_bytes([word[0], word[1], word[2], word[3]]);
     word.copy_from_slice(&other(rng, number).to_be_bytes());
-    // Nothing after the number, or not all: "first whole, then its rule" decides between 20 and 22.
+    // Nothing after the number, or not all: that a field is first whole decides between 20 and 22.
     if rng.once_in(8) {
         let cut = rng.between(at + 4, container.head.len());
         container.head.truncate(cut);

@@ -105,7 +105,7 @@ impl Drafting<'_> {
         head
     }
 
-    /// "Reserved container fields .. are not looked at."
+    /// Anything, since nobody looks at it (R5.18).
     fn reserved(&mut self) -> u32 {
         match self.rng.below(4) {
             0 => self.rng.word(),

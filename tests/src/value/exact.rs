@@ -1,10 +1,10 @@
-//! Cases worked out by hand: those of 01, "Values at the edges", that have a value, and one of each
-//! kind of container.
+//! Cases worked out by hand: those of docs/RULES.md that have a value, and one of each kind of
+//! container.
 
 use super::fixed::Cases;
 use crate::crossed::hex;
 
-/// A set of int64: the plan of 01's descriptor A.
+/// A set of int64: the plan of descriptor A of docs/RULES.md.
 pub const SET: [u32; 6] = [6, 4, 1, 5, 2, 2];
 /// An input object of one int64, which is required.
 pub const INPUT: [u32; 8] = [8, 4, 1, 5, 6, 1, 2, 65];
@@ -19,7 +19,7 @@ pub fn add(cases: &mut Cases) {
     ranges(cases);
 }
 
-/// The cases 2 to 7, 10 and 11 of 01.
+/// The cases 2 to 7, 10 and 11 of docs/RULES.md.
 fn edges(cases: &mut Cases) {
     let two = hex("00000001 0000000000000000 00000002 00000001 \
          00000008 0000000000000007 00000008 ffffffffffffffff");
@@ -44,7 +44,7 @@ fn sets(cases: &mut Cases) {
     cases.good(&SET, &reserved, &[4, 0, 0, 12, 0]);
     let one = hex("00000001 0123456789abcdef 00000001 00000001 00000008 0000000000000007");
     cases.good(&SET, &one, &[4, 0, 0, 32, 1, 2, 0, 24, 8, 0]);
-    // "upper at least 1", and the elements run out.
+    // R5.4: the upper bound is 1 or more; and R5.3: the elements run out.
     for upper in ["ffffffff", "80000000"] {
         let head = format!("00000001 0000000000000000 {upper} 00000001");
         cases.bad(&SET, &hex(&head), 22, 0);
@@ -214,7 +214,7 @@ fn ranges(cases: &mut Cases) {
         let value = hex(&format!("{flags} {bound} {bound}"));
         cases.bad(&plan, &value, 22, 0);
     }
-    // A missing flags byte is 20 (reading 5.2).
+    // A missing flags byte is 20 (R5.12).
     cases.bad(&plan, &[], 20, 0);
     cases.bad(&plan, &hex("00 00000004 000000"), 20, 0);
     cases.bad(&plan, &hex("00 ffffffff"), 23, 0);

@@ -1,5 +1,6 @@
-//! Every example of source document 000: its bytes as they stand there, held against the value that
-//! they are said to have, and run by themselves and in each kind of container.
+//! Every example of a scalar in the protocol's description: its bytes as they stand there, held
+//! against the value that they are said to have, and run by themselves and in each kind of
+//! container.
 
 use super::fixed::Cases;
 use super::scalar::numeric;
@@ -7,9 +8,9 @@ use crate::crossed::hex;
 
 struct Example {
     format: u32,
-    /// As the document has them.
+    /// As the description has them.
     bytes: &'static str,
-    /// As the value that the document gives is written.
+    /// As the value that the description gives is written.
     built: Vec<u8>,
 }
 
@@ -45,7 +46,7 @@ fn examples() -> Vec<Example> {
     examples
 }
 
-/// uuid, str; bytes "as is" and json's "format is currently always 1", which have no bytes there.
+/// uuid, str; bytes and json, of which no bytes stand there.
 fn texts() -> Vec<Example> {
     let uuid = "b9545c35-1fe7-485f-a6ea-f8ead251abd3".replace('-', "");
     vec![
@@ -158,8 +159,7 @@ fn in_range(cases: &mut Cases, format: u32, bytes: &[u8]) {
     cases.good(&[6, 4, 1, format, 7, 2], &value, list.as_flattened());
 }
 
-/// "zero-length arrays (and sets) are represented as a 12-byte value where dims equal to zero
-/// regardless of the shape in type descriptor."
+/// A set or array without elements has 12 bytes, whatever its element's type (R5.4).
 fn empty_sets(cases: &mut Cases) {
     let plans: [&[u32]; 4] = [
         &[6, 4, 1, 5, 2, 2],

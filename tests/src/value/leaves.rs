@@ -39,7 +39,7 @@ fn texts(cases: &mut Cases) {
     cases.bad(&[3, 2, 8], &hex("eda080"), 24, 0);
 }
 
-/// "decimal exactly 8 + 2n bytes, sign 0 or 4000 hex, digits to 9,999".
+/// The size by the number of digits, the sign, and the greatest digit (R5.16).
 fn decimals(cases: &mut Cases) {
     good(cases, 8, "0000 8000 4000 ffff");
     good(cases, 8, "0001 0000 0000 0000 270f");
@@ -54,7 +54,7 @@ fn decimals(cases: &mut Cases) {
     bad(cases, 8, "0000 0000 0000 00");
 }
 
-/// "also reserved zero and, if n > 0, n at most weight + 1".
+/// Its last field is zero, and no digit is a fraction (R5.16).
 fn bigints(cases: &mut Cases) {
     good(cases, 16, "0000 8000 4000 0000");
     good(cases, 16, "0002 0001 0000 0000 0000 0000");
@@ -66,7 +66,7 @@ fn bigints(cases: &mut Cases) {
     bad(cases, 16, "0000 0000 0000 0001");
 }
 
-/// "duration's last 8 bytes zero", of the others any bytes.
+/// A duration's last eight bytes are zero; of the others any bytes pass (R5.15).
 fn durations(cases: &mut Cases) {
     good(cases, 14, "ffffffffffffffff 00000000 00000000");
     bad(cases, 14, "0000000000000000 00000000 00000001");

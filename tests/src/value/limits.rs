@@ -1,4 +1,4 @@
-//! Cases at and past each size that 01 limits.
+//! Cases at and past each largest size of R1.4.
 
 use super::case::RunCall;
 use super::drafting::{self, Size};

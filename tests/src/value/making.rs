@@ -65,7 +65,7 @@ pub fn plan_bytes(rng: &mut Rng, plan: &PlanDraft) -> (Vec<u8>, bool) {
     (bytes, whole)
 }
 
-/// What the call must answer: "room counts in whole words, 8,192 at most".
+/// What the call must answer: a room counts in whole words, at most 8,192 (R9.6).
 pub fn expected(known: Known, words: Vec<u32>, room: usize) -> Expected {
     match known {
         Known::Nothing => Expected::Unknown,

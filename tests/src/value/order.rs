@@ -1,4 +1,4 @@
-//! Two faults in one input, where the order of 01 says which is given.
+//! Two faults in one input, where the order of R1.9 and R5.2 says which is given.
 
 use super::exact::{INPUT, SET};
 use super::fixed::Cases;
@@ -12,7 +12,7 @@ pub fn add(cases: &mut Cases) {
     of_elements(cases);
 }
 
-/// "Run: 33, 28, value faults, 31." The last is seen wherever a refusal meets no room.
+/// 33, 28, the value's faults, 31 (R1.9). The last is seen wherever a refusal meets no room.
 fn of_calls(cases: &mut Cases) {
     let long = vec![0xff; 65_536];
     cases.bad(&[4, 2, 1, 20], &long, 33, 0);
@@ -21,7 +21,7 @@ fn of_calls(cases: &mut Cases) {
     cases.bad(&SET, &long[..65_535], 22, 0);
 }
 
-/// Field by field: ndims, its rule, reserved, upper, its rule, lower, its rule (reading 5.1).
+/// Field by field: ndims, its rule, reserved, upper, its rule, lower, its rule (R5.4).
 fn of_set_heads(cases: &mut Cases) {
     for (head, number) in [
         ("", 20),
@@ -45,8 +45,7 @@ fn of_set_heads(cases: &mut Cases) {
     }
 }
 
-/// "checked in the order whole, 1 (22), inner sign (23), envelope length = 12 + inner (22), fit
-/// (20)", and -1 as an envelope's length is 22 (reading 5.4).
+/// The checks of an envelope in the order of R5.6, by which -1 as its length is 22.
 fn of_envelopes(cases: &mut Cases) {
     let plan = [8, 6, 1, 9, 2, 2, 3, 4];
     for (envelope, number) in [
@@ -67,8 +66,7 @@ fn of_envelopes(cases: &mut Cases) {
     }
 }
 
-/// "head whole, 25, 26, 23 or 27, fit, then the element as a value. After the last: 21, then 27 for
-/// a required index not given."
+/// The checks of a sparse entry in the order of R5.10, and those after the last in that of R5.14.
 fn of_sparse_heads(cases: &mut Cases) {
     let one = "00000000 00000008 0000000000000001";
     for (value, number, place) in [
@@ -106,7 +104,7 @@ fn of_sparse_heads(cases: &mut Cases) {
 }
 
 /// Everything inside an element comes before the next one's head, and an element that does not fit
-/// is not looked into (reading 5.10). A tuple of two tuples of a bool: at 2, 4 and 7.
+/// is not looked into (R5.2). A tuple of two tuples of a bool: at 2, 4 and 7.
 fn of_elements(cases: &mut Cases) {
     let plan = [11, 7, 1, 9, 4, 1, 2, 4, 2, 4, 4];
     let good = "00000000 0000000d 00000001 00000000 00000001 01";

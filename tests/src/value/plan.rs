@@ -6,7 +6,7 @@ use super::scalar;
 /// The cardinalities none, at most one, one, many, and at least one.
 pub const CARDINALITIES: [u32; 5] = [0x6e, 0x6f, 0x41, 0x6d, 0x4d];
 
-/// "41 and 4d are required".
+/// One, and at least one (R5.11).
 pub fn is_required(cardinality: u32) -> bool {
     cardinality == 0x41 || cardinality == 0x4d
 }

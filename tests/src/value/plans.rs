@@ -8,7 +8,7 @@ pub fn add(cases: &mut Cases) {
     kinds(cases);
 }
 
-/// "it accepts only zero bytes, listing nothing (else 21, place 0)".
+/// No bytes, and an empty list; any other value is 21 at 0 (R4.6).
 fn no_type(cases: &mut Cases) {
     cases.good(&[2, 0], &[], &[]);
     cases.bad(&[2, 0], &[0], 21, 0);
@@ -17,8 +17,8 @@ fn no_type(cases: &mut Cases) {
     cases.bad(&[2, 0], &[0; 65_536], 28, 0);
 }
 
-/// Total, root, formats, and words left over or missing (reading 4.2). Where there is a leaf it
-/// would accept the value.
+/// Total, root, formats, and words left over or missing (R4.4). Where there is a leaf it would
+/// accept the value.
 fn short(cases: &mut Cases) {
     let refused: [&[u32]; 24] = [
         &[],
@@ -54,9 +54,8 @@ fn short(cases: &mut Cases) {
     cases.good(&[7, 2, 8, 6, 1, 2, 0x41], &[], &[2, 0, 0, 0, 0]);
 }
 
-/// "for 2 neither a 2 nor a 3, for 3 a 2, for 7 a 1, else any": a leaf at 2, a set at 4, a set of
-/// arrays at 6, an empty tuple at 8, a range at 10, an enumeration at 12, and a node over one of
-/// them.
+/// Which refs a kind may have (R4.3): a leaf at 2, a set at 4, a set of arrays at 6, an empty tuple
+/// at 8, a range at 10, an enumeration at 12, and a node over one of them.
 fn kinds(cases: &mut Cases) {
     let nodes = [1, 2, 2, 2, 3, 4, 4, 0, 7, 2, 8];
     for element in [2, 4, 6, 8, 10, 12] {

@@ -1,10 +1,9 @@
--- `find_number::double` meets its contract. Assumes nothing.
-use mathlib.Core.Path.{_≡_, refl, sym, _∙_, ap}
+-- `find_number::double` meets its contract.
+use mathlib.Core.Path.{refl}
 use native.Mathlib.Omega.{arith}
 use lib.Ieee.{binary64}
-use Rattle.find_number.specs.Number.{shown, Proper, Gives}
+use Rattle.find_number.specs.Number.{shown, Proper}
 use Rattle.find_number.proofs.Bits.{pattern-plain, pattern-nan, gives-double}
-use borrow.Author.Needs.{needs}
 use Rattle.find_number.proofs.double.Statement.{statement}
 use Rattle.find_number.proofs.double.Tie as tie
 

@@ -1,9 +1,8 @@
--- `find_number::extend` meets its contract. Assumes nothing.
-use mathlib.Core.Path.{_≡_, refl, sym, _∙_, ap}
+-- `find_number::extend` meets its contract.
+use mathlib.Core.Path.{refl}
 use native.Mathlib.Omega.{arith}
-use Prim.Native.Nat.{_^_, _<_, ℕ}
+use Prim.Native.Nat.{_^_, _<_}
 use Rattle.find_number.proofs.Bits.{extend-low, extend-high, extend-whole, last-width}
-use borrow.Author.Needs.{needs}
 use Rattle.find_number.proofs.extend.Statement.{statement}
 use Rattle.find_number.proofs.extend.Tie as tie
 

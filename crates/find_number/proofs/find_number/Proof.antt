@@ -1,24 +1,24 @@
--- `find_number::find_number` meets its contract. Assumes nothing.
-use mathlib.Core.Path.{_≡_, refl, sym, _∙_, ap}
-use Rattle.find_number.specs.Number.{numberOf}
+-- `find_number::find_number` meets its contract.
 use native.Mathlib.Omega.{arith}
-use Rattle.find.proofs.Calls.{find-accepts}
+use Rattle.find_path.proofs.Calls.{find-accepts}
 use Rattle.find_number.proofs.Numbers.{number-refused, number-node, number-found}
 use borrow.Author.Needs.{needs}
 use Rattle.find_number.proofs.find_number.Statement.{statement}
 use Rattle.find_number.proofs.find_number.Tie as tie
-
-find-requires : tie.Need-find-requires
-find-requires c κs = search needs
+use Rattle.protocol.specs.Finding.{numberOf}
 
 returns : tie.Need-returns
 unfolding numberOf
 returns c =
-    number-refused _ _ _ _ _ _ _ (find-accepts _ _ _ (λ j. omega (arith, c .before .before .before .before .before .before .before .before .shared-slice-known .given j))) (c .before .find .ensures) (c .if1 .taken)
+    number-refused _ _ _ _ _ _ _
+    (find-accepts _ _ _ (λ j. omega (arith, c .before .before .before .before .before .before .before .before .shared-slice-known .given j)))
+    (c .before .find .ensures) (c .if1 .taken)
 
 of-node-requires : tie.Need-of-node-requires
 of-node-requires c κs =
-    number-node _ _ _ _ _ _ (c .before .if1 .left) _ (find-accepts _ _ _ (λ j. omega (arith, c .before .before .before .before .before .before .before .before .before .shared-slice-known .given j))) (c .before .before .find .ensures)
+    number-node _ _ _ _ _ _ (c .before .if1 .left) _
+    (find-accepts _ _ _ (λ j. omega (arith, c .before .before .before .before .before .before .before .before .before .shared-slice-known .given j)))
+    (c .before .before .find .ensures)
 
 returns-2 : tie.Need-returns-2
 unfolding numberOf
@@ -26,4 +26,4 @@ returns-2 c =
     number-found _ _ _ _ _ _ (c .before .before .if1 .left) _ (c .before .before .before .find .ensures) _ (c .of-node .ensures)
 
 pub find-number-spec : {M : Type 1} → statement M
-find-number-spec = tie.close (tie.spec find-requires returns of-node-requires returns-2)
+find-number-spec = tie.close (tie.spec (λ c κs. search needs) returns of-node-requires returns-2)

@@ -1,11 +1,9 @@
--- `find_number::is_integer` meets its contract. Assumes nothing.
-use mathlib.Core.Path.{_≡_, refl, sym, _∙_, ap}
+-- `find_number::is_integer` meets its contract.
 use borrow.Author.Tests.{eq-eqb, ne-eqb}
-use Rattle.wire.specs.Choice.{pick}
-use Rattle.find_number.specs.Number.{integral}
-use borrow.Author.Needs.{needs}
 use Rattle.find_number.proofs.is_integer.Statement.{statement}
 use Rattle.find_number.proofs.is_integer.Tie as tie
+use Rattle.protocol.specs.Numbers.{pick}
+use Rattle.protocol.specs.Finding.{integral}
 
 returns : tie.Need-returns
 unfolding integral pick

@@ -1,10 +1,9 @@
--- `find_number::of_node` meets its contract. Assumes nothing.
-use mathlib.Core.Path.{_≡_, refl, sym, _∙_, ap}
+-- `find_number::of_node` meets its contract.
+use mathlib.Core.Path.{_≡_, sym, _∙_}
 use native.Mathlib.Omega.{arith}
-use Prim.Native.Nat.{_^_, _<_, _≤_, _+_, ℕ}
-use Rattle.plan.proofs.Nodes.{at-format}
+use Prim.Native.Nat.{ℕ}
+use Rattle.plan_nodes.proofs.Nodes.{at-format}
 use Rattle.find_number.proofs.Bits.{gives-leaf, gives-other}
-use borrow.Author.Needs.{needs}
 use Rattle.find_number.proofs.of_node.Statement.{statement}
 use Rattle.find_number.proofs.of_node.Tie as tie
 

@@ -1,10 +1,9 @@
--- `find_number::single` meets its contract. Assumes nothing.
-use mathlib.Core.Path.{_≡_, refl, sym, _∙_, ap}
+-- `find_number::single` meets its contract.
+use mathlib.Core.Path.{refl}
 use native.Mathlib.Omega.{arith}
 use lib.Ieee.{binary32}
-use Rattle.find_number.specs.Number.{shown, Proper, Gives}
+use Rattle.find_number.specs.Number.{shown, Proper}
 use Rattle.find_number.proofs.Bits.{pattern-plain, pattern-nan, gives-single}
-use borrow.Author.Needs.{needs}
 use Rattle.find_number.proofs.single.Statement.{statement}
 use Rattle.find_number.proofs.single.Tie as tie
 

@@ -1,32 +1,19 @@
 use native.Mathlib.Omega.{arith}
-use Rattle.layout.specs.Judged.{judgedAll}
+use Rattle.message_layout.specs.Judged.{judgedAll}
 use Rattle.message_read.specs.Scan.{Within}
 use Rattle.message_read.proofs.Ends.{body-refused, body-left, body-read}
 use borrow.Author.Needs.{needs}
 use Rattle.message_read.proofs.check_body.Statement.{statement}
 use Rattle.message_read.proofs.check_body.Tie as tie
 
-table-requires : tie.Need-table-requires
-table-requires c κs = search needs
-
-slice-aggregate-walk : tie.Need-slice-aggregate-walk
-slice-aggregate-walk c = search needs
-
 walk-requires : tie.Need-walk-requires
-walk-requires c κs =
-    (c .before .before .before .before .before .pre .0, c .before .before .before .before .before .pre .1, c .before .before .before .before .before .pre .2, omega arith, c .before .before .table .ensures)
-
-enum-known-step : tie.Need-enum-known-step
-enum-known-step c = search needs
-
-enum-known-step-2 : tie.Need-enum-known-step-2
-enum-known-step-2 c = search needs
-
-cast-t18 : tie.Need-cast-t18
-cast-t18 c = search needs
-
-same-length : tie.Need-same-length
-same-length c = search needs
+walk-requires c κs = (
+  c .before .before .before .before .before .pre .0,
+  c .before .before .before .before .before .pre .1,
+  c .before .before .before .before .before .pre .2,
+  omega arith,
+  c .before .before .table .ensures,
+)
 
 returns : tie.Need-returns
 unfolding judgedAll
@@ -36,23 +23,19 @@ returns c =
 cast-t19 : tie.Need-cast-t19
 unfolding Within
 cast-t19 c =
-    let h = rw (c .before .before .step2 .given .1) at (c .before .before .before .before .before .before .walk .ensures .1) in omega (arith, c .before .before .before .before .before .before .before .before .before .before .before .before .pre)
+    let h = rw (c .before .before .step2 .given .1) at (c .before .before .before .before .before .before .walk .ensures .1) in
+    omega (arith, c .before .before .before .before .before .before .before .before .before .before .before .before .pre)
 
 cast-t20 : tie.Need-cast-t20
 unfolding Within
 cast-t20 c =
-    let h = rw (c .before .before .step2 .given .1) at (c .before .before .before .before .before .before .walk .ensures .1) in omega (arith, c .before .before .before .before .before .before .before .before .before .before .before .before .pre)
-
-same-length-2 : tie.Need-same-length-2
-same-length-2 c = search needs
+    let h = rw (c .before .before .step2 .given .1) at (c .before .before .before .before .before .before .walk .ensures .1) in
+    omega (arith, c .before .before .before .before .before .before .before .before .before .before .before .before .pre)
 
 returns-2 : tie.Need-returns-2
 unfolding judgedAll
 returns-2 c =
     body-refused _ _ _ _ _ (c .before .before .before .before .before .walk .ensures .0) _ _ (c .before .step .given .1)
-
-same-length-3 : tie.Need-same-length-3
-same-length-3 c = search needs
 
 returns-3 : tie.Need-returns-3
 unfolding judgedAll
@@ -63,17 +46,17 @@ pub check-body-spec : {M : Type 1} → statement M
 check-body-spec =
     tie.close
     (tie.spec
-    table-requires
-    slice-aggregate-walk
+    (λ c κs. search needs)
+    (λ c. search needs)
     walk-requires
-    enum-known-step
-    enum-known-step-2
-    cast-t18
-    same-length
+    (λ c. search needs)
+    (λ c. search needs)
+    (λ c. search needs)
+    (λ c. search needs)
     returns
     cast-t19
     cast-t20
-    same-length-2
+    (λ c. search needs)
     returns-2
-    same-length-3
+    (λ c. search needs)
     returns-3)

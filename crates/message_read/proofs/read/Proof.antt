@@ -17,7 +17,9 @@ fill-requires c κs =
 
 returns-3 : tie.Need-returns-3
 returns-3 c =
-    gives-read _ _ _ _ _ (c .before .before .before .before .before .before .before .before .before .check .ensures) _ _ (c .before .before .before .before .before .before .answer .given .1) _ _ (c .before .before .before .before .if1 .left) (c .before .before .fill .ensures)
+    gives-read _ _ _ _ _ (c .before .before .before .before .before .before .before .before .before .check .ensures) _ _
+    (c .before .before .before .before .before .before .answer .given .1) _ _ (c .before .before .before .before .if1 .left)
+    (c .before .before .fill .ensures)
 
 pub read-spec : {M : Type 1} → statement M
 read-spec =

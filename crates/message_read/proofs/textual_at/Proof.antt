@@ -1,39 +1,21 @@
 use mathlib.Core.Path.{sym, ap}
 use native.Mathlib.Omega.{arith}
-use Rattle.message_read.specs.Reading.{textual}
 use Rattle.message_read.specs.Scan.{Inside}
 use Rattle.message_read.proofs.Fields.{text-good, text-bad}
 use borrow.Author.Needs.{needs}
 use Rattle.message_read.proofs.textual_at.Statement.{statement}
 use Rattle.message_read.proofs.textual_at.Tie as tie
-
-enum-told : tie.Need-enum-told
-enum-told c = search needs
-
-enum-told-2 : tie.Need-enum-told-2
-enum-told-2 c = search needs
-
-enum-known-found : tie.Need-enum-known-found
-enum-known-found c = search needs
+use Rattle.protocol.specs.Messages.{textual}
 
 add-e : tie.Need-add-e
 unfolding Inside
 add-e c =
     let h = rw (c .before .found .given .1) at (c .before .before .before .before .pre) in omega arith
 
-sub-is-utf8 : tie.Need-sub-is-utf8
-sub-is-utf8 c = search needs
-
-part-is-utf8-start : tie.Need-part-is-utf8-start
-part-is-utf8-start c = search needs
-
 part-is-utf8-end : tie.Need-part-is-utf8-end
 unfolding Inside
 part-is-utf8-end c =
     let h = rw (c .before .found .given .1) at (c .before .before .before .before .pre) in h .1
-
-is-utf8-requires : tie.Need-is-utf8-requires
-is-utf8-requires c κs = search needs
 
 returns : tie.Need-returns
 unfolding textual
@@ -55,14 +37,14 @@ pub textual-at-spec : {M : Type 1} → statement M
 textual-at-spec =
     tie.close
     (tie.spec
-    enum-told
-    enum-told-2
-    enum-known-found
+    (λ c. search needs)
+    (λ c. search needs)
+    (λ c. search needs)
     add-e
-    sub-is-utf8
-    part-is-utf8-start
+    (λ c. search needs)
+    (λ c. search needs)
     part-is-utf8-end
-    is-utf8-requires
+    (λ c κs. search needs)
     returns
     returns-2
     returns-3

@@ -3,17 +3,8 @@ use borrow.Author.Needs.{needs}
 use Rattle.message_write.proofs.content_fits.Statement.{statement}
 use Rattle.message_write.proofs.content_fits.Tie as tie
 
-number-fits-requires : tie.Need-number-fits-requires
-number-fits-requires c κs = search needs
-
-returns : tie.Need-returns
-returns c = search needs
-
 returns-2 : tie.Need-returns-2
 returns-2 c = bytes-fit _ _ _ (c .if2 .taken)
-
-is-utf8-requires : tie.Need-is-utf8-requires
-is-utf8-requires c κs = search needs
 
 returns-3 : tie.Need-returns-3
 returns-3 c =
@@ -26,4 +17,4 @@ returns-4 c =
 pub content-fits-spec : {M : Type 1} → statement M
 content-fits-spec =
     tie.close
-    (tie.spec number-fits-requires returns returns-2 is-utf8-requires returns-3 returns-4)
+    (tie.spec (λ c κs. search needs) (λ c. search needs) returns-2 (λ c κs. search needs) returns-3 returns-4)

@@ -3,19 +3,14 @@ use borrow.Author.Needs.{needs}
 use Rattle.message_write.proofs.number_fits.Statement.{statement}
 use Rattle.message_write.proofs.number_fits.Tie as tie
 
-width-of-requires : tie.Need-width-of-requires
-width-of-requires c κs = search needs
-
 returns : tie.Need-returns
 returns c =
     wrong-width _ _ _ _ (c .before .before .before .pre .0) (c .before .width-of .ensures .width) (c .if1 .taken)
 
-admits-requires : tie.Need-admits-requires
-admits-requires c κs = search needs
-
 returns-2 : tie.Need-returns-2
 returns-2 c =
-    right-value _ _ _ _ (c .before .before .before .before .before .pre .0) (c .before .before .before .width-of .ensures .width) (c .before .before .if1 .left) _ (c .before .if2 .taken) (c .admits .ensures)
+    right-value _ _ _ _ (c .before .before .before .before .before .pre .0) (c .before .before .before .width-of .ensures .width)
+    (c .before .before .if1 .left) _ (c .before .if2 .taken) (c .admits .ensures)
 
 returns-3 : tie.Need-returns-3
 returns-3 c =
@@ -23,4 +18,4 @@ returns-3 c =
 
 pub number-fits-spec : {M : Type 1} → statement M
 number-fits-spec =
-    tie.close (tie.spec width-of-requires returns admits-requires returns-2 returns-3)
+    tie.close (tie.spec (λ c κs. search needs) returns (λ c κs. search needs) returns-2 returns-3)

@@ -1,14 +1,14 @@
--- `wire::be::uint_at` meets its contract. The invariant: the number so far is that of the first `i` bytes, and below 256 to the `i`. Assumes nothing.
+-- `wire::be::uint_at` meets its contract. The invariant: the number so far is that of the first `i` bytes, and below 256 to the `i`.
 use mathlib.Core.Path.{_≡_, sym, ap, _∙_}
 use Prim.Native.Nat.{ℕ, _+_, _-_, _^_, _≤_, _<_}
 use native.Mathlib.Omega.{arith}
 use lib.Dec.{lit<}
 use lib.ListN.{length, getD, take, drop}
 use borrow.Author.Needs.{needs}
-use Rattle.wire.specs.Be.{be}
 use Rattle.wire.proofs.Numbers.{be-none, be-next, more-fits}
 use Rattle.wire.proofs.be.uint_at.Statement.{statement}
 use Rattle.wire.proofs.be.uint_at.Tie as tie
+use Rattle.protocol.specs.Numbers.{be}
 
 abbrev Inv-loop : tie.InvT-loop
 Inv-loop s at n v₀ i₀ v i = (i ≤ n) × (v ≡ be (take i (drop at s))) × (v < 256 ^ i)
@@ -23,12 +23,6 @@ mul-v : tie.Need-mul-v Inv-loop μ-loop
 mul-v c =
     omega (arith, more-fits (c .before .loop .v) 0 (c .before .loop .i) (omega arith) (c .before .loop .inv .2) (lit< tt) .1)
 
-add-v : tie.Need-add-v Inv-loop μ-loop
-add-v c = search needs
-
-shared-slice-read-v : tie.Need-shared-slice-read-v Inv-loop μ-loop
-shared-slice-read-v c = search needs
-
 cast-v : tie.Need-cast-v Inv-loop μ-loop
 cast-v c =
     omega (arith, c .shared-slice-known .given (c .before .before .before .args .at + c .before .before .loop .i))
@@ -38,12 +32,6 @@ add-v-2 c =
     let l = c .before .before .loop in
     let b = c .shared-slice-known .given (c .before .before .before .args .at + l .i) in
     omega (arith, more-fits (l .v) (getD (c .before .before .before .args .s .now) (c .before .before .before .args .at + l .i) 0) (l .i) (omega arith) (l .inv .2) (omega (arith, b)) .1)
-
-add-i : tie.Need-add-i Inv-loop μ-loop
-add-i c = search needs
-
-loop-less : tie.Need-loop-less Inv-loop μ-loop
-loop-less c = search needs
 
 loop-again : tie.Need-loop-again Inv-loop μ-loop
 loop-again c =
@@ -68,11 +56,11 @@ uint-at-spec =
     μ-loop
     loop-holds
     mul-v
-    add-v
-    shared-slice-read-v
+    (λ c. search needs)
+    (λ c. search needs)
     cast-v
     add-v-2
-    add-i
-    loop-less
+    (λ c. search needs)
+    (λ c. search needs)
     loop-again
     returns)

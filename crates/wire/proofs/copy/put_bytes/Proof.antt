@@ -1,4 +1,5 @@
--- `wire::copy::put_bytes` meets its contract. The invariant: the first `i` bytes of the part are stored, and `n` is as many as there are or as there is room for. Assumes nothing.
+-- `wire::copy::put_bytes` meets its contract. The invariant: the first `i` bytes of the part are stored, and `n` is as many as there are or as
+-- there is room for.
 use mathlib.Core.Path.{_≡_, refl, sym, ap, _∙_}
 use mathlib.Core.List.{List}
 use Prim.Native.Nat.{ℕ, _+_, _-_, _≤_, _<_, min}
@@ -21,36 +22,19 @@ returns : tie.Need-returns Inv-loop μ-loop
 returns c =
     sym (sets-out (c .before .before .before .args .out .now) (c .before .before .before .args .at) (c .before .before .before .args .part .now) (omega arith))
 
-sub-least : tie.Need-sub-least Inv-loop μ-loop
-sub-least c = search needs
-
-least-requires : tie.Need-least-requires Inv-loop μ-loop
-least-requires c κs = search needs
-
 loop-holds : tie.Need-loop-holds Inv-loop μ-loop
 loop-holds c = (omega arith, c .least .ensures, refl, refl)
-
-shared-slice-read-out : tie.Need-shared-slice-read-out Inv-loop μ-loop
-shared-slice-read-out c = search needs
-
-add-out : tie.Need-add-out Inv-loop μ-loop
-add-out c = search needs
-
-slice-write-out : tie.Need-slice-write-out Inv-loop μ-loop
-slice-write-out c = search needs
-
-add-i : tie.Need-add-i Inv-loop μ-loop
-add-i c = search needs
-
-loop-less : tie.Need-loop-less Inv-loop μ-loop
-loop-less c = search needs
 
 loop-again : tie.Need-loop-again Inv-loop μ-loop
 loop-again c =
     let l = c .before .before .loop in
     let a = c .before .before .before .before .before .before .before .args in
-    let h : l .i < length (a .part .now) = omega arith in
-    (omega arith, l .inv .1, ap (λ (o : List ℕ). set o (a .at + l .i) (getD (a .part .now) (l .i) 0)) (l .inv .2) ∙ copy-more (a .out .now) (a .part .now) (a .at) (l .i) h, simp length-set (l .inv .3))
+    let h : l .i < length (a .part .now) = omega arith in (
+      omega arith,
+      l .inv .1,
+      ap (λ (o : List ℕ). set o (a .at + l .i) (getD (a .part .now) (l .i) 0)) (l .inv .2) ∙ copy-more (a .out .now) (a .part .now) (a .at) (l .i) h,
+      simp length-set (l .inv .3),
+    )
 
 same-length : tie.Need-same-length Inv-loop μ-loop
 same-length c = c .before .loop .inv .3
@@ -69,14 +53,14 @@ put-bytes-spec =
     Inv-loop
     μ-loop
     returns
-    sub-least
-    least-requires
+    (λ c. search needs)
+    (λ c κs. search needs)
     loop-holds
-    shared-slice-read-out
-    add-out
-    slice-write-out
-    add-i
-    loop-less
+    (λ c. search needs)
+    (λ c. search needs)
+    (λ c. search needs)
+    (λ c. search needs)
+    (λ c. search needs)
     loop-again
     same-length
     returns-2)

@@ -1,14 +1,14 @@
--- `wire::text::is_utf8` meets its contract. The invariant: the text is well-formed where what is left of it is. Assumes nothing.
+-- `wire::text::is_utf8` meets its contract. The invariant: the text is well-formed where what is left of it is.
 use mathlib.Core.Path.{_≡_, refl, ap, sym, _∙_}
 use mathlib.Core.List.{[]}
 use Prim.Native.Nat.{ℕ, _-_, _≤_}
 use native.Mathlib.Omega.{arith}
 use lib.ListN.{length, drop}
 use borrow.Author.Needs.{needs}
-use Rattle.wire.specs.Utf8.{goesOn, wellFormed}
 use Rattle.wire.proofs.Sequences.{sequence-inside, sequence-none, sequence-on, ended, plain-next, plain-inside, plain-goes}
 use Rattle.wire.proofs.text.is_utf8.Statement.{statement}
 use Rattle.wire.proofs.text.is_utf8.Tie as tie
+use Rattle.protocol.specs.Text.{goesOn, wellFormed}
 
 abbrev Inv-loop : tie.InvT-loop
 Inv-loop s i₀ i = (i ≤ length s) × (wellFormed s ≡ goesOn [] (drop i s))
@@ -19,12 +19,6 @@ abbrev μ-loop : tie.MeasureT-loop
 loop-holds : tie.Need-loop-holds Inv-loop μ-loop
 unfolding wellFormed
 loop-holds c = (omega arith, refl)
-
-shared-slice-read-if1 : tie.Need-shared-slice-read-if1 Inv-loop μ-loop
-shared-slice-read-if1 c = search needs
-
-plain-end-requires : tie.Need-plain-end-requires Inv-loop μ-loop
-plain-end-requires c κs = search needs
 
 loop-less : tie.Need-loop-less Inv-loop μ-loop
 loop-less c =
@@ -39,9 +33,6 @@ loop-again c =
     let e = c .plain-end .ensures in
     (rw e (plain-inside s i (c .before .before .before .before .loop .inv .0)), c .before .before .before .before .loop .inv .1 ∙ plain-goes s i ∙ ap (λ (k : ℕ). goesOn [] (drop k s)) (sym e))
 
-sequence-at-requires : tie.Need-sequence-at-requires Inv-loop μ-loop
-sequence-at-requires c κs = search needs
-
 returns : tie.Need-returns Inv-loop μ-loop
 returns c =
     sym (c .before .before .before .before .before .loop .inv .1 ∙ sequence-none _ _ _ (c .before .before .before .before .loop-test .taken) (c .before .sequence-at .ensures) (c .if2 .taken))
@@ -53,8 +44,10 @@ loop-less-2 : tie.Need-loop-less-2 Inv-loop μ-loop
 loop-less-2 c = omega (arith, c .if2 .left)
 
 loop-again-2 : tie.Need-loop-again-2 Inv-loop μ-loop
-loop-again-2 c =
-    (sequence-inside _ _ _ (c .before .before .before .before .loop-test .taken) (c .before .sequence-at .ensures), c .before .before .before .before .before .loop .inv .1 ∙ sequence-on _ _ _ (c .before .before .before .before .loop-test .taken) (c .before .sequence-at .ensures) (c .if2 .left))
+loop-again-2 c = (
+  sequence-inside _ _ _ (c .before .before .before .before .loop-test .taken) (c .before .sequence-at .ensures),
+  c .before .before .before .before .before .loop .inv .1 ∙ sequence-on _ _ _ (c .before .before .before .before .loop-test .taken) (c .before .sequence-at .ensures) (c .if2 .left),
+)
 
 returns-2 : tie.Need-returns-2 Inv-loop μ-loop
 returns-2 c = sym (c .before .loop .inv .1 ∙ ended _ _ (c .loop-test .left))
@@ -66,11 +59,11 @@ is-utf8-spec =
     Inv-loop
     μ-loop
     loop-holds
-    shared-slice-read-if1
-    plain-end-requires
+    (λ c. search needs)
+    (λ c κs. search needs)
     loop-less
     loop-again
-    sequence-at-requires
+    (λ c κs. search needs)
     returns
     add-i
     loop-less-2

@@ -1,9 +1,9 @@
--- `wire::text::is_within` meets its contract, by its one test. Assumes nothing.
+-- `wire::text::is_within` meets its contract, by its one test.
 use borrow.Author.Tests.{lt-leb, le-leb}
-use Rattle.wire.specs.Choice.{pick}
-use Rattle.wire.specs.Utf8.{within}
 use Rattle.wire.proofs.text.is_within.Statement.{statement}
 use Rattle.wire.proofs.text.is_within.Tie as tie
+use Rattle.protocol.specs.Numbers.{pick}
+use Rattle.protocol.specs.Text.{within}
 
 returns : tie.Need-returns
 unfolding within pick

@@ -1,4 +1,4 @@
--- `wire::text::plain_block` meets its contract. The invariant: `high` is plain where each byte passed is. Assumes nothing.
+-- `wire::text::plain_block` meets its contract. The invariant: `high` is plain where each byte passed is.
 use mathlib.Core.Path.{_≡_, ap, sym, _∙_}
 use mathlib.Core.Logic.{⊎-elim}
 use Prim.Native.Nat.{ℕ, _+_, _-_, _≤_, _<_, zero-le}
@@ -7,10 +7,10 @@ use lib.Dec.{leb, ltb}
 use lib.ListN.{drop, getD}
 use borrow.Author.Tests.{le-leb}
 use borrow.Author.Needs.{needs}
-use Rattle.wire.specs.Utf8.{plainRun}
 use Rattle.wire.proofs.Sequences.{plain-more}
 use Rattle.wire.proofs.text.plain_block.Statement.{statement}
 use Rattle.wire.proofs.text.plain_block.Tie as tie
+use Rattle.wire.specs.Scan.{plainRun}
 
 abbrev Inv-loop : tie.InvT-loop
 Inv-loop s i n high₀ k₀ high k = (k ≤ n) × (ltb high 0x80 ≡ leb k (plainRun (drop i s)))
@@ -20,18 +20,6 @@ abbrev μ-loop : tie.MeasureT-loop
 
 loop-holds : tie.Need-loop-holds Inv-loop μ-loop
 loop-holds c = (omega arith, sym (le-leb 0 (plainRun (drop (c .args .i) (c .args .s .now))) zero-le))
-
-add-b : tie.Need-add-b Inv-loop μ-loop
-add-b c = search needs
-
-shared-slice-read-b : tie.Need-shared-slice-read-b Inv-loop μ-loop
-shared-slice-read-b c = search needs
-
-add-k : tie.Need-add-k Inv-loop μ-loop
-add-k c = search needs
-
-loop-less : tie.Need-loop-less Inv-loop μ-loop
-loop-less c = search needs
 
 loop-again : tie.Need-loop-again Inv-loop μ-loop
 loop-again c =
@@ -54,9 +42,9 @@ plain-block-spec =
     Inv-loop
     μ-loop
     loop-holds
-    add-b
-    shared-slice-read-b
-    add-k
-    loop-less
+    (λ c. search needs)
+    (λ c. search needs)
+    (λ c. search needs)
+    (λ c. search needs)
     loop-again
     returns)

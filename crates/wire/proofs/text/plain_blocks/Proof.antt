@@ -1,4 +1,4 @@
--- `wire::text::plain_blocks` meets its contract. The invariant: the blocks at `i` end where those at `from` do. Assumes nothing.
+-- `wire::text::plain_blocks` meets its contract. The invariant: the blocks at `i` end where those at `from` do.
 use mathlib.Core.Path.{_≡_, refl, sym, _∙_}
 use Prim.Native.Nat.{_-_, _≤_}
 use native.Mathlib.Omega.{arith}
@@ -19,24 +19,12 @@ abbrev μ-loop : tie.MeasureT-loop
 loop-holds : tie.Need-loop-holds Inv-loop μ-loop
 loop-holds c = (c .before .pre .0, refl)
 
-sub-loop : tie.Need-sub-loop Inv-loop μ-loop
-sub-loop c = search needs
-
-plain-block-requires : tie.Need-plain-block-requires Inv-loop μ-loop
-plain-block-requires c κs = search needs
-
 returns : tie.Need-returns Inv-loop μ-loop
 returns c =
     let a = c .before .before .before .before .before .args in
     let l = c .before .before .before .loop in
     let e = c .before .plain-block .ensures in
     sym (l .inv .1 ∙ blocks-stop (a .s .now) (l .i) (a .n) (c .before .before .before .before .before .pre .1) (leb-false _ _ (sym e ∙ not-true _ (c .if1 .taken))))
-
-add-i : tie.Need-add-i Inv-loop μ-loop
-add-i c = search needs
-
-loop-less : tie.Need-loop-less Inv-loop μ-loop
-loop-less c = search needs
 
 loop-again : tie.Need-loop-again Inv-loop μ-loop
 loop-again c =
@@ -59,10 +47,10 @@ plain-blocks-spec =
     Inv-loop
     μ-loop
     loop-holds
-    sub-loop
-    plain-block-requires
+    (λ c. search needs)
+    (λ c κs. search needs)
     returns
-    add-i
-    loop-less
+    (λ c. search needs)
+    (λ c. search needs)
     loop-again
     returns-2)

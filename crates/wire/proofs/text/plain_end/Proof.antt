@@ -1,4 +1,4 @@
--- `wire::text::plain_end` meets its contract: each part goes on where the one before it ended, and the last one ends where the plain bytes do. Assumes nothing.
+-- `wire::text::plain_end` meets its contract: each part goes on where the one before it ended, and the last one ends where the plain bytes do.
 use mathlib.Core.Path.{sym}
 use Prim.Native.Nat.{_+_}
 use native.Mathlib.Omega.{arith}
@@ -11,28 +11,13 @@ returns : tie.Need-returns
 returns c =
     sym (plain-over (c .before .before .args .s .now) (c .before .before .args .from) (c .if1 .taken))
 
-sub-if2 : tie.Need-sub-if2
-sub-if2 c = search needs
-
-plain-prefix-requires : tie.Need-plain-prefix-requires
-plain-prefix-requires c κs = search needs
-
 returns-2 : tie.Need-returns-2
 returns-2 c =
     let a = c .before .before .before .before .args in
     omega (arith, c .plain-prefix .ensures, plain-inside (a .s .now) (a .from) (omega arith))
 
-add-near : tie.Need-add-near
-add-near c = search needs
-
-plain-prefix-requires-2 : tie.Need-plain-prefix-requires-2
-plain-prefix-requires-2 c κs = search needs
-
 returns-3 : tie.Need-returns-3
 returns-3 c = omega (arith, c .before .plain-prefix2 .ensures, c .if3 .taken)
-
-plain-blocks-requires : tie.Need-plain-blocks-requires
-plain-blocks-requires c κs = search needs
 
 plain-blocks-requires-2 : tie.Need-plain-blocks-requires-2
 plain-blocks-requires-2 c κs =
@@ -62,13 +47,13 @@ plain-end-spec =
     tie.close
     (tie.spec
     returns
-    sub-if2
-    plain-prefix-requires
+    (λ c. search needs)
+    (λ c κs. search needs)
     returns-2
-    add-near
-    plain-prefix-requires-2
+    (λ c. search needs)
+    (λ c κs. search needs)
     returns-3
-    plain-blocks-requires
+    (λ c κs. search needs)
     plain-blocks-requires-2
     plain-prefix-requires-3
     returns-4)

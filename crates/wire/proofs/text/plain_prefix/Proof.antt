@@ -1,4 +1,4 @@
--- `wire::text::plain_prefix` meets its contract. The invariant: all bytes up to `i` are plain. Assumes nothing.
+-- `wire::text::plain_prefix` meets its contract. The invariant: all bytes up to `i` are plain.
 use mathlib.Core.Path.{refl, _∙_}
 use Prim.Native.Nat.{_-_, _≤_}
 use native.Mathlib.Omega.{arith}
@@ -16,25 +16,22 @@ abbrev μ-loop : tie.MeasureT-loop
 loop-holds : tie.Need-loop-holds Inv-loop μ-loop
 loop-holds c = (c .pre .0, record { onward = omega arith; inside = omega arith; same = refl })
 
-shared-slice-read-if1 : tie.Need-shared-slice-read-if1 Inv-loop μ-loop
-shared-slice-read-if1 c = search needs
-
 returns : tie.Need-returns Inv-loop μ-loop
 returns c =
     let l = c .before .before .before .loop in
     let e = plain-stop (c .before .before .before .before .args .s .now) (l .i) (omega arith) (c .if1 .taken) in
     omega (arith, l .inv .1 .same, e)
 
-add-i : tie.Need-add-i Inv-loop μ-loop
-add-i c = search needs
-
-loop-less : tie.Need-loop-less Inv-loop μ-loop
-loop-less c = search needs
-
 loop-again : tie.Need-loop-again Inv-loop μ-loop
 loop-again c =
-    let p = c .before .before .before .loop .inv .1 in
-    (omega arith, record { onward = omega arith; inside = omega arith; same = p .same ∙ plain-next (c .before .before .before .before .args .s .now) (c .before .before .before .loop .i) (omega arith) (c .if1 .left) })
+    let p = c .before .before .before .loop .inv .1 in (
+      omega arith,
+      record {
+        onward = omega arith;
+        inside = omega arith;
+        same = p .same ∙ plain-next (c .before .before .before .before .args .s .now) (c .before .before .before .loop .i) (omega arith) (c .if1 .left);
+      },
+    )
 
 returns-2 : tie.Need-returns-2 Inv-loop μ-loop
 returns-2 c = omega (arith, c .before .loop .inv .1 .same)
@@ -46,9 +43,9 @@ plain-prefix-spec =
     Inv-loop
     μ-loop
     loop-holds
-    shared-slice-read-if1
+    (λ c. search needs)
     returns
-    add-i
-    loop-less
+    (λ c. search needs)
+    (λ c. search needs)
     loop-again
     returns-2)

@@ -1,60 +1,49 @@
--- `wire::text::sequence_at` meets its contract: what the tests say of a first byte is what the table says, which is computed at each byte. Assumes nothing.
+-- `wire::text::sequence_at` meets its contract: what the tests say of a first byte is what the table says, which is computed at each byte.
 use mathlib.Core.Path.{refl}
 use native.Mathlib.Omega.{arith}
 use borrow.Author.Needs.{needs}
-use Rattle.wire.specs.Choice.{pick}
-use Rattle.wire.specs.Utf8.{within, table, after}
 use Rattle.wire.specs.Scan.{followers, ahead, second}
 use Rattle.wire.proofs.Sequences.{begins, stray}
 use Rattle.wire.proofs.text.sequence_at.Statement.{statement}
 use Rattle.wire.proofs.text.sequence_at.Tie as tie
-
-shared-slice-read-b : tie.Need-shared-slice-read-b
-shared-slice-read-b c = search needs
+use Rattle.protocol.specs.Numbers.{pick}
+use Rattle.protocol.specs.Text.{within, utf8Table, following}
 
 returns : tie.Need-returns
-unfolding pick within table after
+unfolding pick within utf8Table following
 returns c = stray _ _ 0x80 66 refl (c .before .before .before .pre .0) (omega arith) (omega arith)
 
 rest-at-requires : tie.Need-rest-at-requires
-unfolding pick within table after followers ahead second
+unfolding pick within utf8Table following followers ahead second
 rest-at-requires c κs =
     begins _ _ 0xc2 30 1 refl (c .before .before .before .before .pre .0) (omega arith) (omega arith) (omega arith) (omega arith)
 
-returns-2 : tie.Need-returns-2
-returns-2 c = search needs
-
 rest-at-requires-2 : tie.Need-rest-at-requires-2
-unfolding pick within table after followers ahead second
+unfolding pick within utf8Table following followers ahead second
 rest-at-requires-2 c κs =
     begins _ _ 0xe0 16 2 refl (c .before .before .before .before .before .pre .0) (omega arith) (omega arith) (omega arith) (omega arith)
 
-returns-3 : tie.Need-returns-3
-returns-3 c = search needs
-
 rest-at-requires-3 : tie.Need-rest-at-requires-3
-unfolding pick within table after followers ahead second
+unfolding pick within utf8Table following followers ahead second
 rest-at-requires-3 c κs =
     begins _ _ 0xf0 5 3 refl (c .before .before .before .before .before .before .pre .0) (omega arith) (omega arith) (omega arith) (omega arith)
 
-returns-4 : tie.Need-returns-4
-returns-4 c = search needs
-
 returns-5 : tie.Need-returns-5
-unfolding pick within table after
+unfolding pick within utf8Table following
 returns-5 c =
-    stray _ _ 0xf5 11 refl (c .before .before .before .before .before .before .pre .0) (omega arith) (omega (arith, c .before .before .before .before .before .shared-slice-known .given (c .before .before .before .before .before .before .args .i)))
+    stray _ _ 0xf5 11 refl (c .before .before .before .before .before .before .pre .0) (omega arith)
+    (omega (arith, c .before .before .before .before .before .shared-slice-known .given (c .before .before .before .before .before .before .args .i)))
 
 pub sequence-at-spec : {M : Type 1} → statement M
 sequence-at-spec =
     tie.close
     (tie.spec
-    shared-slice-read-b
+    (λ c. search needs)
     returns
     rest-at-requires
-    returns-2
+    (λ c. search needs)
     rest-at-requires-2
-    returns-3
+    (λ c. search needs)
     rest-at-requires-3
-    returns-4
+    (λ c. search needs)
     returns-5)

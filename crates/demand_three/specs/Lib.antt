@@ -1,3 +1,0 @@
-pub mod OffDescriptor
-pub mod Follows
-pub mod Cases

@@ -1,3 +1,0 @@
-pub mod Find
-pub mod Descent
-pub mod Lines

@@ -1,2 +1,0 @@
--- The laws of the check of a plan. Assumes nothing.
-pub mod Scans

@@ -1,7 +1,0 @@
--- The laws of plans, which this crate's proofs cite, and other crates' too. Assumes nothing.
-pub mod Looks
-pub mod Reading
-pub mod Nodes
-pub mod Refs
-pub mod Sizes
-pub mod Memos

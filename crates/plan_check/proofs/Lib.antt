@@ -1,0 +1,2 @@
+-- The laws of the check of a plan.
+pub mod Scans

@@ -1,0 +1,4 @@
+-- The laws of heights and of starts.
+pub mod Starts
+pub mod Heights
+pub mod Cases

@@ -1,0 +1,1 @@
+// The rules as definitions, in specs/: no code.

@@ -1,4 +1,0 @@
-pub mod Node
-pub mod Forest
-pub mod Values
-pub mod Renaming

@@ -1,6 +1,0 @@
--- The laws that this crate's proofs cite, and other crates' too. Assumes nothing.
-pub mod Matches
-pub mod Parts
-pub mod Formats
-pub mod Decimals
-pub mod Leaves

@@ -1,3 +1,0 @@
--- The definitions: Scalars is document 01's rules, Sizes what src/format.rt says of the formats of a fixed size. Assumes nothing.
-pub mod Scalars
-pub mod Sizes

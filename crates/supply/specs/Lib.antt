@@ -1,4 +1,0 @@
-pub mod Supply
-pub mod Build
-pub mod Write
-pub mod Emitting

@@ -1,0 +1,6 @@
+-- That what specs/Theorems states holds.
+pub mod Accepted
+pub mod Lists
+pub mod Bytes
+pub mod Cases
+pub mod Theorems

@@ -1,0 +1,1 @@
+// No code: what this repository promises stands in specs/, and that it holds in proofs/.

@@ -1,0 +1,40 @@
+-- `value_leaves::fixed_leaf` meets its contract: its tests are those of `fixedLeaf`, in its order.
+use borrow.Author.Tests.{eq-eqb, ne-eqb, lt-ltb, le-ltb}
+use Rattle.value_leaves.specs.Leaves.{fixedLeaf}
+use borrow.Author.Needs.{needs}
+use Rattle.value_leaves.proofs.fixed_leaf.Statement.{statement}
+use Rattle.value_leaves.proofs.fixed_leaf.Tie as tie
+use Rattle.protocol.specs.Numbers.{pick}
+use Rattle.protocol.specs.Heads.{word}
+
+returns : tie.Need-returns
+unfolding fixedLeaf pick
+returns c = rw (eq-eqb _ _ (c .if1 .taken))
+
+returns-2 : tie.Need-returns-2
+unfolding fixedLeaf pick
+returns-2 c = rw (ne-eqb _ _ (c .before .if1 .left), lt-ltb _ _ (c .if2 .taken))
+
+returns-3 : tie.Need-returns-3
+unfolding fixedLeaf pick word
+returns-3 c =
+    rw (ne-eqb _ _ (c .before .before .before .if1 .left), le-ltb _ _ (c .before .before .if2 .left), ← c .before .u32-at .ensures, eq-eqb _ _ (c .if3 .taken))
+
+returns-4 : tie.Need-returns-4
+unfolding fixedLeaf pick word
+returns-4 c =
+    rw (ne-eqb _ _ (c .before .before .before .if1 .left), le-ltb _ _ (c .before .before .if2 .left), ← c .before .u32-at .ensures, ne-eqb _ _ (c .if3 .left))
+
+pub fixed-leaf-spec : {M : Type 1} → statement M
+fixed-leaf-spec =
+    tie.close
+    (tie.spec
+    returns
+    (λ c. search needs)
+    (λ c. search needs)
+    returns-2
+    (λ c κs. search needs)
+    (λ c. search needs)
+    (λ c. search needs)
+    returns-3
+    returns-4)
