@@ -55,3 +55,26 @@ pub struct Number {
     pub format: u32,
     pub bits: u64,
 }
+
+// The state of an intake (R10.1): the length of its room, the side whose messages it joins, how many bytes wait in the room, and number and
+// place of the refusal that ended it, or 0.
+#[repr(C)]
+pub struct Intake {
+    pub room: u64,
+    pub side: u32,
+    pub held: u32,
+    pub number: u32,
+    pub place: u32,
+}
+
+// What an intake answers to a delivery (R10.4, R10.5): its next state, a refusal's number and place, how many bytes were taken, the size of the
+// message that is whole now, or 0, and how many bytes are lacking. The header calls the size `length`.
+#[repr(C)]
+pub struct Delivery {
+    pub intake: Intake,
+    pub number: u32,
+    pub place: u32,
+    pub taken: u32,
+    pub size: u32,
+    pub lacks: u32,
+}

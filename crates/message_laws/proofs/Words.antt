@@ -15,8 +15,8 @@ use Rattle.message_laws.proofs.RoundTrip.{LiesAt, lies-field}
 use Rattle.message_laws.proofs.Again.{made, used}
 use Rattle.protocol.specs.Numbers.{be}
 use Rattle.protocol.specs.Messages.{Field, Layout, done, one, run, u16, layoutOf, fieldAt, MessageRead, unread, read, readBefore, thenRead}
-use Rattle.protocol.specs.Messages.{fieldOutcome, timesRead, fieldsRead, messageEnd, bodyRead, messageOf, messageRoomed, messageCall}
-use Rattle.protocol.specs.Messages.{contents}
+use Rattle.protocol.specs.Messages.{fieldOutcome, timesRead, fieldsRead, messageEnd, bodyRead, MessageHead, headShort}
+use Rattle.protocol.specs.Messages.{badLength, bodyShort, bodyWhole, messageHead, messageBy, messageOf, messageRoomed, messageCall, contents}
 use mathlib.Core.Option.{Option, some, none}
 
 -- ---- pairs of start and length, which lie in n bytes
@@ -126,6 +126,13 @@ unfolding bodyRead
 numbered-body none m = lit< tt
 numbered-body (some l) m = numbered-end m (length m) (fieldsRead l m 5) (sound-fields m l 5)
 
+numbered-head : (side : ℕ) (s : List ℕ) (h : MessageHead) → Numbered (messageBy side s h)
+unfolding messageBy
+numbered-head side s (headShort k) = lit< tt
+numbered-head side s badLength = lit< tt
+numbered-head side s (bodyShort n k) = lit< tt
+numbered-head side s (bodyWhole n) = numbered-body (layoutOf side (getD s 0 0)) (take n s)
+
 numbered-room : (room : ℕ) (o : MessageRead) → Numbered o → Numbered (messageRoomed room o)
 unfolding messageRoomed
 numbered-room room (unread n p) h = h
@@ -133,11 +140,4 @@ numbered-room room (read u ws) h = pick-case Numbered (ltb room (length ws)) (un
 
 pub numbered : (side : ℕ) (s : List ℕ) (room : ℕ) → Numbered (messageCall side s room)
 unfolding messageCall messageOf
-numbered side s room =
-    let n = be (take 4 (drop 1 s)) in
-    numbered-room room (messageOf side s)
-    (pick-case Numbered (ltb (length s) 5) (unread 1 0) _ (λ _. lit< tt)
-    (λ _. pick-case Numbered (ltb n 4) (unread 2 0) _ (λ _. lit< tt)
-    (λ _. pick-case Numbered (ltb 65535 n) (unread 2 0) _ (λ _. lit< tt)
-    (λ _. pick-case Numbered (ltb (length s) (n + 1)) (unread 1 0) _ (λ _. lit< tt)
-    (λ _. numbered-body (layoutOf side (getD s 0 0)) (take (n + 1) s))))))
+numbered side s room = numbered-room room (messageOf side s) (numbered-head side s (messageHead s))
