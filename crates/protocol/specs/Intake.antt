@@ -9,28 +9,24 @@ use Rattle.protocol.specs.Constants.{MESSAGE-HEAD, BAD-LENGTH, OUTPUT-RO
 use Rattle.protocol.specs.Numbers.{pick}
 use Rattle.protocol.specs.Answers.{over}
 use Rattle.protocol.specs.Messages.{MessageHead, headShort, badLength, bodyShort, bodyWhole, messageHead, MessageRead, unread, read, messageOf}
+use Rattle.forms.specs.declared.AtHand.{AtHand}
+use Rattle.forms.specs.declared.AtHand.the-variants.{Lacking, Unfit, Whole}
 use Rattle.forms.specs.declared.Intake.{Intake}
 use Rattle.forms.specs.declared.Delivery.{Delivery}
 
 -- ---- the bytes at hand (R10.3)
 
--- so many bytes are lacking; the number of a refusal, whose place is 0; or a message of so many bytes is whole
-pub data AtHand : Type 0 where
-  awaiting : ℕ → AtHand
-  barred : ℕ → AtHand
-  arrived : ℕ → AtHand
-
 -- rows 3 to 6: a message must fit the room, which is asked as soon as its size is known
 unfoldable pub roomedHead : ℕ → MessageHead → AtHand
-roomedHead room (headShort k) = awaiting k
-roomedHead room badLength = barred BAD-LENGTH
-roomedHead room (bodyShort n k) = pick (ltb room n) (barred OUTPUT-ROOM) (awaiting k)
-roomedHead room (bodyWhole n) = pick (ltb room n) (barred OUTPUT-ROOM) (arrived n)
+roomedHead room (headShort k) = Lacking k
+roomedHead room badLength = Unfit BAD-LENGTH
+roomedHead room (bodyShort n k) = pick (ltb room n) (Unfit OUTPUT-ROOM) (Lacking k)
+roomedHead room (bodyWhole n) = pick (ltb room n) (Unfit OUTPUT-ROOM) (Whole n)
 
 -- rows 1 and 2, and then those
 unfoldable pub atHand : ℕ → List ℕ → AtHand
-atHand room [] = awaiting MESSAGE-HEAD
-atHand room (b ∷ s) = pick (ltb room MESSAGE-HEAD) (barred OUTPUT-ROOM) (roomedHead room (messageHead (b ∷ s)))
+atHand room [] = Lacking MESSAGE-HEAD
+atHand room (b ∷ s) = pick (ltb room MESSAGE-HEAD) (Unfit OUTPUT-ROOM) (roomedHead room (messageHead (b ∷ s)))
 
 -- ---- all bytes of a side, read message after message (R10.8)
 
@@ -52,9 +48,9 @@ withMessage m (unread n p) after = noMessage (brokenOff n p)
 withMessage m (read u ws) after = record { messages = m ∷ after .messages; end = after .end }
 
 unfoldable pub streamBy : ℕ → List ℕ → (List ℕ → Stream) → AtHand → Stream
-streamBy side s after (awaiting k) = noMessage (unfinished s)
-streamBy side s after (barred n) = noMessage (brokenOff n 0)
-streamBy side s after (arrived n) = withMessage (take n s) (messageOf side (take n s)) (after (drop n s))
+streamBy side s after (Lacking k) = noMessage (unfinished s)
+streamBy side s after (Unfit n) = noMessage (brokenOff n 0)
+streamBy side s after (Whole n) = withMessage (take n s) (messageOf side (take n s)) (after (drop n s))
 
 module _ (side room : ℕ) where
   -- a message has bytes, so that the steps, as many as there are bytes, never run out
@@ -99,10 +95,10 @@ judgedDelivery i t n (read u ws) = takenDelivery (intakeReset i) t n MESSAGE-HEA
 
 -- h is held, and l is the room
 unfoldable pub takeBy : Intake → List ℕ → List ℕ → List ℕ → AtHand → Taken
-takeBy i h src l (awaiting k) =
+takeBy i h src l (Lacking k) =
     record { answer = takenDelivery (holding (i .room) (i .side) (length (h ++ src))) (length src) 0 k; room = over (h ++ src) l }
-takeBy i h src l (barred n) = record { answer = refusedDelivery (intakeEnded i n 0) n 0; room = l }
-takeBy i h src l (arrived n) =
+takeBy i h src l (Unfit n) = record { answer = refusedDelivery (intakeEnded i n 0) n 0; room = l }
+takeBy i h src l (Whole n) =
     record { answer = judgedDelivery i (n - length h) n (messageOf (i .side) (take n (h ++ src))); room = over (take n (h ++ src)) l }
 
 -- what changes nothing: the state and the room stay
@@ -119,9 +115,12 @@ takeOf i src l =
     (unchanged i OUTPUT-ROOM 0 l)
 
 -- what the call settles: the answer, with the next state, and every byte of the room
-pub record TakesDelivery (i : Intake) (src : List ℕ) (r : Delivery) (l l′ : List ℕ) : Type 0 where
-  pub answer : r ≡ takeOf i src l .answer
-  pub room : l′ ≡ takeOf i src l .room
+pub record SettlesTaken (t : Taken) (r : Delivery) (l′ : List ℕ) : Type 0 where
+  pub answer : r ≡ t .answer
+  pub room : l′ ≡ t .room
+
+abbrev pub TakesDelivery : Intake → List ℕ → Delivery → List ℕ → List ℕ → Type 0
+TakesDelivery i src r l l′ = SettlesTaken (takeOf i src l) r l′
 
 -- ---- a host that hands in deliveries (R10.8)
 
@@ -154,3 +153,29 @@ handAll c (d ∷ ds) = handAll (handIn (suc (length d)) c d) ds
 
 abbrev pub conversation : ℕ → List ℕ → Conversation
 conversation side l = record { intake = intakeStart side (length l); room = l; given = [] }
+
+-- the bytes of all deliveries, and of none a cut
+unfoldable pub allBytes : List (List ℕ) → List ℕ
+allBytes [] = []
+allBytes (d ∷ ds) = d ++ allBytes ds
+
+-- the state in which an intake ends, and the bytes that it holds, by how the reading of all bytes ends
+unfoldable pub endState : ℕ → ℕ → StreamEnd → Intake
+endState side room (unfinished s) = holding room side (length s)
+endState side room (brokenOff n p) = record { room = room; side = side; held = 0; number = n; place = p }
+
+unfoldable pub endHeld : StreamEnd → List ℕ
+endHeld (unfinished s) = s
+endHeld (brokenOff n p) = []
+
+-- a conversation has come to what the reading of all bytes comes to: the messages in order, all of the state, and the bytes held in the room
+pub record ComesTo (side room : ℕ) (c : Conversation) (x : Stream) : Type 0 where
+  pub messages-are : c .given ≡ x .messages
+  pub state-is : c .intake ≡ endState side room (x .end)
+  pub held-are : take (c .intake .held) (c .room) ≡ endHeld (x .end)
+
+-- states and rooms to which a start, calls and resets lead (R10.10)
+pub data Reached (side room : ℕ) : Intake → List ℕ → Type 0 where
+  starts : (l : List ℕ) → length l ≡ room → Reached side room (intakeStart side room) l
+  takes : (i : Intake) (l : List ℕ) → Reached side room i l → (src : List ℕ) → Reached side room (takeOf i src l .answer .intake) (takeOf i src l .room)
+  resets : (i : Intake) (l : List ℕ) → Reached side room i l → Reached side room (intakeReset i) l

@@ -1,0 +1,4 @@
+pub mod Longer
+pub mod Streams
+pub mod Ends
+pub mod Conversations
