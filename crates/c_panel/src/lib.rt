@@ -17,10 +17,10 @@ pub extern "C" fn rembulfose_read_message(side: u32, src: &[u8], list: &mut [u8]
 
 // The state of an intake, for a side and the length of its room.
 #[no_mangle]
-pub extern "C" fn rembulfose_intake_start(side: u32, room_len: usize) -> Intake
-    ensures { λ r. ⌜ r ≡ intakeStart side room_len ⌝ }
+pub extern "C" fn rembulfose_intake_start(side: u32, room: usize) -> Intake
+    ensures { λ r. ⌜ r ≡ intakeStart side room ⌝ }
 {
-    Intake::start(side, room_len)
+    Intake::start(side, room)
 }
 
 // The state of an intake with what it holds and what was refused dropped.

@@ -1,7 +1,6 @@
 -- However the bytes of a side are cut into deliveries, the intake comes to what reading all of them message after message comes to (R10.8).
 use mathlib.Core.Path.{_≡_, refl, ap, sym, _∙_}
 use mathlib.Core.List.{List, [], _∷_, _++_, append-nil, append-assoc}
-use mathlib.Core.Logic.{_⊎_, inl, inr, ⊎-elim}
 use Prim.Native.Nat.{ℕ, zero, suc, _+_, _-_, _<_, _≤_}
 use native.Mathlib.Omega.{arith}
 use native.Mathlib.Decide.{decLt}
@@ -11,7 +10,7 @@ use borrow.Author.Tests.{eq-eqb, ne-eqb}
 use Rattle.message_intake.proofs.Hands.{Missing, Ready, Told, told}
 use Rattle.intake_laws.proofs.Longer.{whole-before}
 use Rattle.intake_laws.proofs.Streams.{after, onward, step, more}
-use Rattle.intake_laws.proofs.Ends.{Refusal, Ends, ends}
+use Rattle.intake_laws.proofs.Ends.{Refusal, refusal-some, Ends, ends}
 use Rattle.protocol.specs.Numbers.{pick}
 use Rattle.protocol.specs.Answers.{over}
 use Rattle.protocol.specs.Messages.{MessageRead, unread, read, messageOf}
@@ -36,15 +35,15 @@ module _ (side room : ℕ) where
   -- ---- one delivery, where bytes are held
 
   -- the bytes h wait in the room, and some are lacking
-  record Waits (c : Conversation) (h : List ℕ) : Type 0 where
-    state : c .intake ≡ holding room side (length h)
-    held : take (length h) (c .room) ≡ h
-    size : length (c .room) ≡ room
-    lacks : ℕ
-    waiting : atHand room h ≡ Lacking lacks
+  pub record Waits (c : Conversation) (h : List ℕ) : Type 0 where
+    pub state : c .intake ≡ holding room side (length h)
+    pub held : take (length h) (c .room) ≡ h
+    pub size : length (c .room) ≡ room
+    pub lacks : ℕ
+    pub waiting : atHand room h ≡ Lacking lacks
 
   module _ (c : Conversation) (h d : List ℕ) (w : Waits c h) where
-    call-is : takeOf (c .intake) d (c .room) ≡ takeBy (holding room side (length h)) h d (c .room) (atHand room (h ++ d))
+    pub call-is : takeOf (c .intake) d (c .room) ≡ takeBy (holding room side (length h)) h d (c .room) (atHand room (h ++ d))
     unfolding takeOf pick
     call-is = rw (w .state, w .size, eq-eqb room room refl, w .held)
 
@@ -76,7 +75,7 @@ module _ (side room : ℕ) where
       came-lacking k t =
           record {
             comes =
-              record { messages-are = sym (append-nil (c .given)); state-is = refl; held-are = take-append-seam (h ++ d) (drop (length (h ++ d)) (c .room)) };
+                record { messages-are = sym (append-nil (c .given)); state-is = refl; held-are = take-append-seam (h ++ d) (drop (length (h ++ d)) (c .room)) };
             size = stays (h ++ d) (t .fits);
           }
 
@@ -165,7 +164,7 @@ module _ (side room : ℕ) where
       → Stands c (record { messages = ms; end = brokenOff n p }) → Stands (handIn (suc f) c d) (record { messages = ms; end = brokenOff n p })
   unfolding handIn handOn takeOf endState endHeld pick
   refused-on f n p c d ms r s =
-      let z : n ≡ 0 → ⊥ = λ e. ⊎-elim (λ q. omega arith) (λ q. omega arith) r in
+      let z : n ≡ 0 → ⊥ = refusal-some n r in
       let i = s .comes .state-is in
       rw (i, s .size, eq-eqb room room refl, ne-eqb n 0 z)
       (record {

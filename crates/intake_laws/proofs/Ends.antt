@@ -1,7 +1,7 @@
 -- How the reading of a side's bytes ends: with bytes of a message that still lacks some, or with a refusal 2 to 6 or 32.
 use mathlib.Core.Path.{_≡_, refl, ap, sym, _∙_}
 use mathlib.Core.List.{List, [], _∷_}
-use mathlib.Core.Logic.{_⊎_, inl, inr}
+use mathlib.Core.Logic.{_⊎_, inl, inr, ⊎-elim}
 use Prim.Native.Nat.{ℕ, zero, suc, _+_, _-_, _<_, _≤_}
 use native.Mathlib.Omega.{arith}
 use lib.ListN.{length, take, drop, getD, length-drop}
@@ -46,21 +46,27 @@ abbrev pub Ends : ℕ → StreamEnd → Type 0
 Ends room (unfinished s) = (k : ℕ) × (atHand room s ≡ Lacking k)
 Ends room (brokenOff n p) = Refusal n
 
+pub unfit-refusal : (n : ℕ) → (n ≡ 2) ⊎ (n ≡ 32) → Refusal n
+unfit-refusal n (inl e) = inl (omega arith, omega arith)
+unfit-refusal n (inr e) = inr e
+
+pub judged-refusal : (n : ℕ) → (3 ≤ n) × (n ≤ 6) → Refusal n
+judged-refusal n h = inl (omega arith, h .1)
+
+pub refusal-some : (n : ℕ) → Refusal n → n ≡ 0 → ⊥
+refusal-some n r e = ⊎-elim (λ q. omega arith) (λ q. omega arith) r
+
 module _ (side room : ℕ) where
   ends-read : (m : List ℕ) (o : MessageRead) (x : Stream) → Judged o → Ends room (x .end) → Ends room (withMessage m o x .end)
   unfolding withMessage
-  ends-read m (unread n p) x j h = inl (omega arith, j .1)
+  ends-read m (unread n p) x j h = judged-refusal n j
   ends-read m (read u ws) x j h = h
-
-  ends-unfit : (n : ℕ) → (n ≡ 2) ⊎ (n ≡ 32) → Refusal n
-  ends-unfit n (inl e) = inl (omega arith, omega arith)
-  ends-unfit n (inr e) = inr e
 
   ends-by : (s : List ℕ) (a : AtHand) → atHand room s ≡ a → Told room s a → ((n : ℕ) → 5 ≤ n → n ≤ length s → Ends room (streamOf side room (drop n s) .end))
       → Ends room (streamBy side s (streamOf side room) a .end)
   unfolding streamBy
   ends-by s (Lacking k) e t h = (k, e)
-  ends-by s (Unfit n) e t h = ends-unfit n t
+  ends-by s (Unfit n) e t h = unfit-refusal n t
   ends-by s (Whole n) e t h =
       ends-read (take n s) (messageOf side (take n s)) (streamOf side room (drop n s)) (whole-judged side room s n t) (h n (t .low) (t .inside))
 
