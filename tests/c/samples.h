@@ -40,8 +40,8 @@ static const struct good good_messages[] = {
      "00000014 00000000 00000014 00000002 0000001a 00000001 0000001b 00000002"},
 };
 
-/* A message that is refused with this number and place: with 2 once its first five bytes are there, with the
- * others once it is whole. */
+/* A message that is refused with this number and place: with 2 once its first five bytes are there, with
+ * the others once it is whole. */
 struct bad {
     const char *name;
     uint32_t side;
@@ -75,7 +75,8 @@ enum {
     BAD_MESSAGES = sizeof bad_messages / sizeof bad_messages[0]
 };
 
-/* Puts a V with so many parameters, whose names and values are empty, into zeroed memory; its length is returned. */
+/* Puts a V with so many parameters, whose names and values are empty, into memory that is zero; its length
+ * is returned. */
 static inline uint32_t put_handshake(uint8_t *message, uint32_t parameters) {
     uint32_t length = 5 + 3 * 2 + 8 * parameters + 2;
     message[0] = 0x56;
