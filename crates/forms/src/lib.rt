@@ -123,20 +123,6 @@ impl Intake {
         self.holding(0)
     }
 
-    // A refusal answered with this state: nothing is taken, given or lacking (R10.5).
-    pub fn refusing(self, number: u32, place: u32) -> Delivery
-        ensures { λ r. ⌜ r ≡ record { intake = self; number = number; place = place; taken = 0; size = 0; lacks = 0 } ⌝ }
-    {
-        Delivery {
-            intake: self,
-            number,
-            place,
-            taken: 0,
-            size: 0,
-            lacks: 0,
-        }
-    }
-
     // Bytes taken answered with this state: with a message of this size, or with none (R10.4).
     pub fn taking(self, taken: u32, size: u32, lacks: u32) -> Delivery
         ensures { λ r. ⌜ r ≡ record { intake = self; number = 0; place = 0; taken = taken; size = size; lacks = lacks } ⌝ }
@@ -148,6 +134,21 @@ impl Intake {
             taken,
             size,
             lacks,
+        }
+    }
+
+    // A refusal answered with this state: nothing is taken, given or lacking (R10.5).
+    pub fn refusing(self, number: u32, place: u32) -> Delivery
+        ensures { λ r. ⌜ r ≡ record { intake = self; number = number; place = place; taken = 0; size = 0; lacks = 0 } ⌝ }
+    {
+        let intake = self;
+        Delivery {
+            intake,
+            number,
+            place,
+            taken: 0,
+            size: 0,
+            lacks: 0,
         }
     }
 }
