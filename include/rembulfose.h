@@ -224,9 +224,9 @@ rembulfose_intake rembulfose_intake_reset(rembulfose_intake intake);
  * intake: the state that the last call on this line returned. src: what has come, may be empty. room: the same bytes with the
  * same length from the start to the reset; in between it is the intake's own, also after a refusal. The message that is given
  * stands at its front until the next call.
- * Order (R1.14): 32 for a room of another length, with the state as it was (R10.6); the refusal that ended the intake, again; 32 at
- * the first byte if the room has fewer than 5; once 5 bytes are there 2, and 32 for a message larger than the room; once it
- * is whole 3, then 4 to 6 as in rembulfose_read_message. Number 1 is never given.
+ * Order (R1.14): 32 for a room of another length, with the state as it was (R10.6); the refusal that ended the intake, again;
+ * 32 at the first byte if the room has fewer than 5; once 5 bytes are there 2, and 32 for a message larger than the room; once
+ * it is whole 3, then 4 to 6 as in rembulfose_read_message. Number 1 is never given.
  * Of a state or a room that others have written to, only this is promised: the call ends and stays inside its buffers. */
 rembulfose_delivery rembulfose_intake_take(rembulfose_intake intake, const uint8_t *src, size_t src_len,
                                            uint8_t *room, size_t room_len);
