@@ -15,9 +15,8 @@ use Rattle.protocol.specs.Numbers.{pick}
 use Rattle.protocol.specs.Answers.{over}
 use Rattle.protocol.specs.Messages.{MessageRead, unread, read, messageOf}
 use Rattle.protocol.specs.Intake.{atHand, StreamEnd, unfinished, brokenOff, Stream, withMessage, streamBy, streamIn, streamOf, holding, intakeStart, Taken}
-use Rattle.protocol.specs.Intake.{judgedDelivery, takeBy, unchanged, takeOf, Conversation, afterCall, withGiven, handOn, handIn, handAll, conversation}
+use Rattle.protocol.specs.Intake.{judgedDelivery, takeBy, takeOf, Conversation, handOn, handIn, handAll, conversation}
 use Rattle.protocol.specs.Intake.{allBytes, endState, endHeld, ComesTo}
-use Rattle.forms.specs.declared.Intake.{Intake}
 use Rattle.forms.specs.declared.AtHand.{AtHand}
 use Rattle.forms.specs.declared.AtHand.the-variants.{Lacking, Unfit, Whole}
 

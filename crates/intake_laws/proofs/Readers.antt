@@ -1,10 +1,10 @@
 -- The intake and the reader accept the same messages (R10.9).
 use mathlib.Core.Path.{_≡_, refl, ap, sym, _∙_}
 use mathlib.Core.List.{List, _++_}
-use Prim.Native.Nat.{ℕ, _+_, _-_, _<_, _≤_}
+use Prim.Native.Nat.{ℕ, _+_, _-_, _≤_}
 use native.Mathlib.Omega.{arith}
 use native.Mathlib.Decide.{ℕ-discrete}
-use lib.ListN.{length, take, drop, getD}
+use lib.ListN.{length, take, drop}
 use lib.Seq.{take-take, take-append-seam, getD-take, length-take-le}
 use borrow.Author.Tests.{le-ltb}
 use Rattle.message_read.proofs.Whole.{whole, roomy}

@@ -1,19 +1,19 @@
 -- What holds of an intake's states: what a start, calls and resets lead to, what is then answered, and that a refusal stays (R10.4 to R10.6).
-use mathlib.Core.Path.{_≡_, refl, ap, sym, _∙_}
-use mathlib.Core.List.{List, [], _∷_, _++_}
-use Prim.Native.Nat.{ℕ, _+_, _-_, _<_, _≤_}
+use mathlib.Core.Path.{_≡_, refl, ap, _∙_}
+use mathlib.Core.List.{List, [], _++_}
+use Prim.Native.Nat.{ℕ, _+_, _-_}
 use native.Mathlib.Omega.{arith}
 use lib.ListN.{length, take, drop}
 use lib.Seq.{take-append-seam, length-take-le}
 use borrow.Author.Tests.{eq-eqb, ne-eqb}
-use Rattle.message_intake.proofs.Hands.{Missing, Ready, Told, told}
+use Rattle.message_intake.proofs.Hands.{Missing, Told, told}
 use Rattle.message_laws.proofs.Words.{Judged}
 use Rattle.intake_laws.proofs.Ends.{Refusal, refusal-some, unfit-refusal, judged-refusal, whole-judged}
 use Rattle.intake_laws.proofs.Conversations.{over-length, Waits, call-is}
 use Rattle.protocol.specs.Numbers.{pick}
 use Rattle.protocol.specs.Answers.{over}
 use Rattle.protocol.specs.Messages.{MessageRead, unread, read, messageOf}
-use Rattle.protocol.specs.Intake.{atHand, holding, intakeStart, intakeReset, Taken, refusedDelivery, judgedDelivery, takeBy, unchanged, takeOf, Reached, starts, takes, resets}
+use Rattle.protocol.specs.Intake.{atHand, holding, intakeStart, intakeReset, Taken, refusedDelivery, judgedDelivery, takeBy, takeOf, Reached, starts, takes, resets}
 use Rattle.forms.specs.declared.Intake.{Intake}
 use Rattle.forms.specs.declared.Delivery.{Delivery}
 use Rattle.forms.specs.declared.AtHand.{AtHand}

@@ -1,12 +1,11 @@
 -- Reading the bytes of a side message after message: the steps are enough, and more bytes at the end go on where the reading ended.
 use mathlib.Core.Path.{_≡_, refl, ap, sym, _∙_}
-use mathlib.Core.List.{List, [], _∷_, _++_, append-assoc}
-use mathlib.Core.Logic.{_⊎_, inl, inr}
-use Prim.Native.Nat.{ℕ, zero, suc, _+_, _-_, _<_, _≤_}
+use mathlib.Core.List.{List, [], _∷_, _++_}
+use Prim.Native.Nat.{ℕ, zero, suc, _+_, _-_, _≤_}
 use native.Mathlib.Omega.{arith}
-use lib.ListN.{length, take, drop, length-append, length-drop}
+use lib.ListN.{length, take, drop, length-drop}
 use lib.Seq.{take-append-le, drop-append-le}
-use Rattle.message_intake.proofs.Hands.{Ready, Told, told}
+use Rattle.message_intake.proofs.Hands.{Told, told}
 use Rattle.intake_laws.proofs.Longer.{settled}
 use Rattle.protocol.specs.Messages.{MessageRead, unread, read, messageOf}
 use Rattle.protocol.specs.Intake.{atHand, StreamEnd, unfinished, brokenOff, Stream, noMessage, withMessage, streamBy, streamIn, streamOf}

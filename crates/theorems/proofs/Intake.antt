@@ -1,10 +1,9 @@
 -- The intake's promises on the contracts of its calls.
-use mathlib.Core.Path.{_≡_, refl, ap, sym, _∙_}
+use mathlib.Core.Path.{_≡_, ap, sym, _∙_}
 use mathlib.Core.List.{List}
-use mathlib.Core.Logic.{_↔_}
 use Prim.Native.Nat.{ℕ, _≤_}
 use native.Mathlib.Omega.{arith}
-use lib.ListN.{length, take, drop}
+use lib.ListN.{length, take}
 use lib.Seq.{length-take-le, take-append-seam}
 use Rattle.message_intake.proofs.Hands.{Missing}
 use Rattle.intake_laws.proofs.Conversations.{cuts}
@@ -16,8 +15,8 @@ use Rattle.theorems.specs.Terms.{WholeMessage, IntakeNumber, Lacks, Same
 use Rattle.forms.specs.declared.Intake.{Intake}
 use Rattle.forms.specs.declared.Delivery.{Delivery}
 use Rattle.protocol.specs.Answers.{over}
-use Rattle.protocol.specs.Intake.{streamOf, endState, intakeStart, Taken, refusedDelivery, takenDelivery, takeOf, SettlesTaken, TakesDelivery, handAll, conversation}
-use Rattle.protocol.specs.Intake.{allBytes, ComesTo, Reached}
+use Rattle.protocol.specs.Intake.{streamOf, intakeStart, Taken, refusedDelivery, takenDelivery, takeOf, SettlesTaken, TakesDelivery, handAll, conversation}
+use Rattle.protocol.specs.Intake.{allBytes, Reached}
 
 -- two cuts come to one reading
 pub two-cuts : (side : ℕ) (l l′ : List ℕ) (ds ds′ : List (List ℕ)) → length l ≡ length l′ → allBytes ds ≡ allBytes ds′

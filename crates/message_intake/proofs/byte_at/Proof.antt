@@ -1,4 +1,3 @@
-use native.Mathlib.Omega.{arith}
 use mathlib.Core.Path.{sym}
 use lib.ListN.{List·getD-append}
 use Rattle.message_intake.proofs.Hands.{byte-after}

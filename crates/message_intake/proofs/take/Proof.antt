@@ -18,45 +18,69 @@ slice-aggregate-at-hand c = simp length-take (omega (arith, c .before .least .en
 
 cast-holding : tie.Need-cast-holding
 cast-holding c =
-    let a = c .before .before .before .before .before .before .before .before .before .before .before .before .before .before .before .before .before .args in omega (arith, lacking-few (a .intake .held) (a .room .now) (a .src .now) _ (c .before .before .before .before .before .before .before .before .before .least .ensures) _ (c .before .before .before .before .before .before .before .at-hand .ensures) _ (c .before .before .before .before .before .rest .given .1))
+    let a = c .before .before .before .before .before .before .before .before .before .before .before .before .before .before .before .before .before .args in
+    let m = c .before .before .before .before .before .before .before .before .before .least .ensures in
+    let h = c .before .before .before .before .before .before .before .at-hand .ensures in
+    omega (
+      arith,
+      lacking-few (a .intake .held) (a .room .now) (a .src .now) _ m _ h _
+          (c .before .before .before .before .before .rest .given .1),
+    )
 
 cast-taking : tie.Need-cast-taking
 cast-taking c =
-    let a = c .before .before .before .before .before .before .before .before .before .before .before .before .before .before .before .before .before .before .args in omega (arith, lacking-few (a .intake .held) (a .room .now) (a .src .now) _ (c .before .before .before .before .before .before .before .before .before .before .least .ensures) _ (c .before .before .before .before .before .before .before .before .at-hand .ensures) _ (c .before .before .before .before .before .before .rest .given .1))
+    let a = c .before .before .before .before .before .before .before .before .before .before .before .before .before .before .before .before .before .before .args in
+    let m = c .before .before .before .before .before .before .before .before .before .before .least .ensures in
+    let h = c .before .before .before .before .before .before .before .before .at-hand .ensures in
+    omega (
+      arith,
+      lacking-few (a .intake .held) (a .room .now) (a .src .now) _ m _ h _
+          (c .before .before .before .before .before .before .rest .given .1),
+    )
 
 cast-taking-2 : tie.Need-cast-taking-2
 cast-taking-2 c =
-    let a = c .before .before .before .before .before .before .before .before .before .before .before .before .before .before .before .before .before .before .args in omega (arith, lacking-few (a .intake .held) (a .room .now) (a .src .now) _ (c .before .before .before .before .before .before .before .before .before .before .least .ensures) _ (c .before .before .before .before .before .before .before .before .at-hand .ensures) _ (c .before .before .before .before .before .before .rest .given .1))
+    let a = c .before .before .before .before .before .before .before .before .before .before .before .before .before .before .before .before .before .before .args in
+    let m = c .before .before .before .before .before .before .before .before .before .before .least .ensures in
+    let h = c .before .before .before .before .before .before .before .before .at-hand .ensures in
+    omega (
+      arith,
+      lacking-few (a .intake .held) (a .room .now) (a .src .now) _ m _ h _
+          (c .before .before .before .before .before .before .rest .given .1),
+    )
 
 take-whole-requires : tie.Need-take-whole-requires
 take-whole-requires c κs =
-    let a = c .before .before .before .before .before .before .before .before .before .before .before .before .before .before .args in whole-fits
-    (a .intake .held) (a .room .now) (a .src .now) _ (c .before .before .before .before .before .before .least .ensures) _
-    (c .before .before .before .before .at-hand .ensures) _ (c .before .before .size .given .1)
+    let a = c .before .before .before .before .before .before .before .before .before .before .before .before .before .before .args in
+    let m = c .before .before .before .before .before .before .least .ensures in
+    let h = c .before .before .before .before .at-hand .ensures in
+    whole-fits (a .intake .held) (a .room .now) (a .src .now) _ m _ h _ (c .before .before .size .given .1)
 
 returns-3 : tie.Need-returns-3
 returns-3 c =
-    rw (c .taking .ensures, c .before .holding .ensures) (lacks _ _ _
-    (c .before .before .before .before .before .before .before .before .before .before .before .before .before .before .before .if1 .left)
-    (c .before .before .before .before .before .before .before .before .before .before .before .before .before .if2 .left) _
-    (c .before .before .before .before .before .before .before .before .before .before .before .least .ensures) _ _ (sym
-    (c .before .before .before .before .before .before .before .before .before .at-hand .ensures) ∙ c .before .before .before .before .before .before .before .rest .given .1) (c .before .before .before .before .put-bytes .ensures))
+    let r = c .before .before .before .before .before .before .before .before .before .before .before .before .before .before .before .if1 .left in
+    let z = c .before .before .before .before .before .before .before .before .before .before .before .before .before .if2 .left in
+    let m = c .before .before .before .before .before .before .before .before .before .before .before .least .ensures in
+    let h = sym
+    (c .before .before .before .before .before .before .before .before .before .at-hand .ensures) ∙ c .before .before .before .before .before .before .before .rest .given .1 in
+    rw (c .taking .ensures, c .before .holding .ensures) (lacks _ _ _ r z _ m _ _ h (c .before .before .before .before .put-bytes .ensures))
 
 returns-4 : tie.Need-returns-4
 returns-4 c =
-    rw (c .refusing3 .ensures, c .before .ended .ensures) (unfit _ _ _
-    (c .before .before .before .before .before .before .before .before .before .before .before .if1 .left)
-    (c .before .before .before .before .before .before .before .before .before .if2 .left) _
-    (c .before .before .before .before .before .before .before .least .ensures) _ (sym
-    (c .before .before .before .before .before .at-hand .ensures) ∙ c .before .before .before .no .given .1))
+    let r = c .before .before .before .before .before .before .before .before .before .before .before .if1 .left in
+    let z = c .before .before .before .before .before .before .before .before .before .if2 .left in
+    let m = c .before .before .before .before .before .before .before .least .ensures in
+    let h = sym (c .before .before .before .before .before .at-hand .ensures) ∙ c .before .before .before .no .given .1 in
+    rw (c .refusing3 .ensures, c .before .ended .ensures) (unfit _ _ _ r z _ m _ h)
 
 returns-5 : tie.Need-returns-5
 returns-5 c =
-    whole _ _ _ (c .before .before .before .before .before .before .before .before .before .before .before .before .before .if1 .left)
-    (c .before .before .before .before .before .before .before .before .before .before .before .if2 .left) _
-    (c .before .before .before .before .before .before .before .before .before .least .ensures) _ _ _ (sym
-    (c .before .before .before .before .before .before .before .at-hand .ensures) ∙ c .before .before .before .before .before .size .given .1)
-    (c .before .before .take-whole .ensures)
+    let r = c .before .before .before .before .before .before .before .before .before .before .before .before .before .if1 .left in
+    let z = c .before .before .before .before .before .before .before .before .before .before .before .if2 .left in
+    let m = c .before .before .before .before .before .before .before .before .before .least .ensures in
+    let h = sym
+    (c .before .before .before .before .before .before .before .at-hand .ensures) ∙ c .before .before .before .before .before .size .given .1 in
+    whole _ _ _ r z _ m _ _ _ h (c .before .before .take-whole .ensures)
 
 pub take-spec : {M : Type 1} → statement M
 take-spec =

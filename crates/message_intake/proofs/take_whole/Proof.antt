@@ -16,13 +16,23 @@ slice-aggregate-check c =
 
 returns : tie.Need-returns
 returns c =
-    rw (c .refusing .ensures, c .before .ended .ensures) (whole-refused _
-    (c .before .before .before .before .before .before .before .before .before .before .before .before .before .before .before .before .before .args .src .now) _ _ _ (c .before .before .before .before .before .before .before .before .before .before .before .before .before .before .before .before .before .pre .0) (c .before .before .before .before .before .before .before .before .before .before .before .before .before .before .before .before .before .pre .1) (c .before .before .before .before .before .before .before .before .before .before .before .before .before .before .before .before .before .pre .2) (c .before .before .before .before .before .before .before .before .before .before .before .before .before .before .least .ensures) _ _ (c .before .before .before .before .before .before .before .before .before .before .before .put-bytes .ensures) _ _ _ (c .before .before .before .before .before .before .check .ensures) _ _ (c .before .before .before .no .given .1))
+    let a = c .before .before .before .before .before .before .before .before .before .before .before .before .before .before .before .before .before .args in
+    let p = c .before .before .before .before .before .before .before .before .before .before .before .before .before .before .before .before .before .pre in
+    let m = c .before .before .before .before .before .before .before .before .before .before .before .before .before .before .least .ensures in
+    let s = c .before .before .before .before .before .before .before .before .before .before .before .put-bytes .ensures in
+    rw (c .refusing .ensures, c .before .ended .ensures)
+    (whole-refused _ (a .src .now) _ _ _ (p .0) (p .1) (p .2) m _ _ s _ _ _
+    (c .before .before .before .before .before .before .check .ensures) _ _ (c .before .before .before .no .given .1))
 
 returns-2 : tie.Need-returns-2
 returns-2 c =
-    rw (c .taking .ensures, c .before .reset .ensures) (whole-given _
-    (c .before .before .before .before .before .before .before .before .before .before .before .before .before .before .before .before .args .src .now) _ _ _ (c .before .before .before .before .before .before .before .before .before .before .before .before .before .before .before .before .pre .0) (c .before .before .before .before .before .before .before .before .before .before .before .before .before .before .before .before .pre .1) (c .before .before .before .before .before .before .before .before .before .before .before .before .before .before .before .before .pre .2) (c .before .before .before .before .before .before .before .before .before .before .before .before .before .least .ensures) _ _ (c .before .before .before .before .before .before .before .before .before .before .put-bytes .ensures) _ _ _ (c .before .before .before .before .before .check .ensures) _ _ (c .before .before .enum-told .given .1))
+    let a = c .before .before .before .before .before .before .before .before .before .before .before .before .before .before .before .before .args in
+    let p = c .before .before .before .before .before .before .before .before .before .before .before .before .before .before .before .before .pre in
+    let m = c .before .before .before .before .before .before .before .before .before .before .before .before .before .least .ensures in
+    let s = c .before .before .before .before .before .before .before .before .before .before .put-bytes .ensures in
+    rw (c .taking .ensures, c .before .reset .ensures)
+    (whole-given _ (a .src .now) _ _ _ (p .0) (p .1) (p .2) m _ _ s _ _ _ (c .before .before .before .before .before .check .ensures) _ _
+    (c .before .before .enum-told .given .1))
 
 pub take-whole-spec : {M : Type 1} → statement M
 take-whole-spec =
