@@ -34,7 +34,7 @@ fn length_field(held: &[u8], src: &[u8]) -> u32
 }
 
 // What the bytes at hand come to, for so much room (R10.3, rows 1 to 6).
-pub fn at_hand(held: &[u8], src: &[u8], room: usize) -> AtHand
+fn at_hand(held: &[u8], src: &[u8], room: usize) -> AtHand
     ensures { λ r. ⌜ r ≡ atHand room (now (held .entry) ++ now (src .entry)) ⌝ }
 {
     let all = held.len() + src.len();
