@@ -2,6 +2,7 @@
 //! for each. Nothing checks these declarations against the header: keep them side by side.
 
 use second::crossing::{Answer, NumberAnswer};
+use second::intake::{Delivery, Intake};
 
 /// `rembulfose_answer`.
 #[repr(C)]
@@ -21,6 +22,27 @@ struct RawNumber {
     bits: u64,
 }
 
+/// `rembulfose_intake`.
+#[repr(C)]
+struct RawIntake {
+    room: u64,
+    side: u32,
+    held: u32,
+    number: u32,
+    place: u32,
+}
+
+/// `rembulfose_delivery`.
+#[repr(C)]
+struct RawDelivery {
+    intake: RawIntake,
+    number: u32,
+    place: u32,
+    taken: u32,
+    length: u32,
+    lacks: u32,
+}
+
 extern "C" {
     fn rembulfose_read_message(
         side: u32,
@@ -29,6 +51,18 @@ extern "C" {
         list: *mut u8,
         list_len: usize,
     ) -> RawAnswer;
+
+    fn rembulfose_intake_start(side: u32, room_len: usize) -> RawIntake;
+
+    fn rembulfose_intake_reset(intake: RawIntake) -> RawIntake;
+
+    fn rembulfose_intake_take(
+        intake: RawIntake,
+        src: *const u8,
+        src_len: usize,
+        room: *mut u8,
+        room_len: usize,
+    ) -> RawDelivery;
 
     fn rembulfose_write_message(
         side: u32,
@@ -111,6 +145,43 @@ impl From<RawAnswer> for Answer {
     }
 }
 
+impl From<Intake> for RawIntake {
+    fn from(intake: Intake) -> RawIntake {
+        RawIntake {
+            room: intake.room,
+            side: intake.side,
+            held: intake.held,
+            number: intake.number,
+            place: intake.place,
+        }
+    }
+}
+
+impl From<RawIntake> for Intake {
+    fn from(raw: RawIntake) -> Intake {
+        Intake {
+            room: raw.room,
+            side: raw.side,
+            held: raw.held,
+            number: raw.number,
+            place: raw.place,
+        }
+    }
+}
+
+impl From<RawDelivery> for Delivery {
+    fn from(raw: RawDelivery) -> Delivery {
+        Delivery {
+            intake: raw.intake.into(),
+            number: raw.number,
+            place: raw.place,
+            taken: raw.taken,
+            length: raw.length,
+            lacks: raw.lacks,
+        }
+    }
+}
+
 /// Makes a C call: first its numbers, then each slice that it reads and the room that it writes, as
 /// pointer and length.
 macro_rules! call {
@@ -130,6 +201,21 @@ macro_rules! call {
 
 pub fn read_message(side: u32, src: &[u8], list: &mut [u8]) -> Answer {
     call!(rembulfose_read_message(side); reads src; writes list)
+}
+
+pub fn intake_start(side: u32, room: usize) -> Intake {
+    // SAFETY: numbers alone go in and come out.
+    unsafe { rembulfose_intake_start(side, room) }.into()
+}
+
+pub fn intake_reset(intake: Intake) -> Intake {
+    // SAFETY: numbers alone go in and come out.
+    unsafe { rembulfose_intake_reset(intake.into()) }.into()
+}
+
+pub fn intake_take(intake: Intake, src: &[u8], room: &mut [u8]) -> Delivery {
+    let intake = intake.into();
+    call!(rembulfose_intake_take(intake); reads src; writes room)
 }
 
 pub fn write_message(side: u32, type_byte: u8, list: &[u8], src: &[u8], out: &mut [u8]) -> Answer {

@@ -45,8 +45,18 @@ enum Size {
 impl Draft {
     /// A good message of some kind and of ordinary size.
     pub fn make(rng: &mut Rng) -> Draft {
+        Draft::make_among(rng, &KINDS)
+    }
+
+    /// One that this side may send, which is one of the two.
+    pub fn make_of(rng: &mut Rng, side: u32) -> Draft {
+        let of_side = KINDS.into_iter().filter(|kind| kind.0 == side);
+        Draft::make_among(rng, &of_side.collect::<Vec<_>>())
+    }
+
+    fn make_among(rng: &mut Rng, kinds: &[(u32, u8)]) -> Draft {
         let most = rng.pick(&[0, 3, 20, 20, 20, 150]);
-        let (side, type_byte) = rng.pick(&KINDS);
+        let (side, type_byte) = rng.pick(kinds);
         Draft::of(rng, side, type_byte, Size::Few(most))
     }
 
