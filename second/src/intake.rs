@@ -1,10 +1,11 @@
 //! The intake, which joins the deliveries of one side: docs/RULES.md, section 10. No words cross
-//! here, so this is what a C host sees.
+//! here, so this is what a C host sees, and both structs are laid out as the header's.
 
 use crate::message::{read_message, whole_length, HEAD};
 use crate::refusal::{self, Refusal};
 
 /// The state (R10.1).
+#[repr(C)]
 #[derive(Clone, Copy, Debug, Default, PartialEq, Eq)]
 pub struct Intake {
     /// Bytes of the room that was lent at the start.
@@ -18,6 +19,7 @@ pub struct Intake {
 }
 
 /// What a call answers (R10.4, R10.5).
+#[repr(C)]
 #[derive(Clone, Copy, Debug, Default, PartialEq, Eq)]
 pub struct Delivery {
     pub intake: Intake,

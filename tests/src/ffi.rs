@@ -1,5 +1,6 @@
 //! The C calls of the static library, as include/rembulfose.h declares them, and a safe function
-//! for each. Nothing checks these declarations against the header: keep them side by side.
+//! for each. Nothing checks these declarations against the header: keep them side by side. The structs
+//! of an intake are the second program's own, which are laid out as the header's.
 
 use second::crossing::{Answer, NumberAnswer};
 use second::intake::{Delivery, Intake};
@@ -22,27 +23,6 @@ struct RawNumber {
     bits: u64,
 }
 
-/// `rembulfose_intake`.
-#[repr(C)]
-struct RawIntake {
-    room: u64,
-    side: u32,
-    held: u32,
-    number: u32,
-    place: u32,
-}
-
-/// `rembulfose_delivery`.
-#[repr(C)]
-struct RawDelivery {
-    intake: RawIntake,
-    number: u32,
-    place: u32,
-    taken: u32,
-    length: u32,
-    lacks: u32,
-}
-
 extern "C" {
     fn rembulfose_read_message(
         side: u32,
@@ -52,17 +32,17 @@ extern "C" {
         list_len: usize,
     ) -> RawAnswer;
 
-    fn rembulfose_intake_start(side: u32, room_len: usize) -> RawIntake;
+    fn rembulfose_intake_start(side: u32, room_len: usize) -> Intake;
 
-    fn rembulfose_intake_reset(intake: RawIntake) -> RawIntake;
+    fn rembulfose_intake_reset(intake: Intake) -> Intake;
 
     fn rembulfose_intake_take(
-        intake: RawIntake,
+        intake: Intake,
         src: *const u8,
         src_len: usize,
         room: *mut u8,
         room_len: usize,
-    ) -> RawDelivery;
+    ) -> Delivery;
 
     fn rembulfose_write_message(
         side: u32,
@@ -145,43 +125,6 @@ impl From<RawAnswer> for Answer {
     }
 }
 
-impl From<Intake> for RawIntake {
-    fn from(intake: Intake) -> RawIntake {
-        RawIntake {
-            room: intake.room,
-            side: intake.side,
-            held: intake.held,
-            number: intake.number,
-            place: intake.place,
-        }
-    }
-}
-
-impl From<RawIntake> for Intake {
-    fn from(raw: RawIntake) -> Intake {
-        Intake {
-            room: raw.room,
-            side: raw.side,
-            held: raw.held,
-            number: raw.number,
-            place: raw.place,
-        }
-    }
-}
-
-impl From<RawDelivery> for Delivery {
-    fn from(raw: RawDelivery) -> Delivery {
-        Delivery {
-            intake: raw.intake.into(),
-            number: raw.number,
-            place: raw.place,
-            taken: raw.taken,
-            length: raw.length,
-            lacks: raw.lacks,
-        }
-    }
-}
-
 /// Makes a C call: first its numbers, then each slice that it reads and the room that it writes, as
 /// pointer and length.
 macro_rules! call {
@@ -205,16 +148,17 @@ pub fn read_message(side: u32, src: &[u8], list: &mut [u8]) -> Answer {
 
 pub fn intake_start(side: u32, room: usize) -> Intake {
     // SAFETY: numbers alone go in and come out.
-    unsafe { rembulfose_intake_start(side, room) }.into()
+    unsafe { rembulfose_intake_start(side, room) }
 }
 
 pub fn intake_reset(intake: Intake) -> Intake {
     // SAFETY: numbers alone go in and come out.
-    unsafe { rembulfose_intake_reset(intake.into()) }.into()
+    unsafe { rembulfose_intake_reset(intake) }
 }
 
+/// Inlined, so that the benchmark's calls of a few bytes are timed and not the copies of their structs.
+#[inline]
 pub fn intake_take(intake: Intake, src: &[u8], room: &mut [u8]) -> Delivery {
-    let intake = intake.into();
     call!(rembulfose_intake_take(intake); reads src; writes room)
 }
 

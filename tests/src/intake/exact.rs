@@ -215,6 +215,12 @@ impl Cases {
             let steps = [WriteRoom(sync.clone()), WriteState(state), Deliver(5)];
             self.talk(lent, &sync, &steps, open(2, 0, 5));
         }
+        let without_room = Intake {
+            held: 7,
+            ..intake::start(CLIENT, 0)
+        };
+        let steps = [WriteState(without_room), Deliver(0)];
+        self.talk((CLIENT, 0), &[], &steps, open(0, 0, 5));
         for (number, place) in [(1, 0), (77, 3), (u32::MAX, u32::MAX)] {
             let state = Intake {
                 number,
