@@ -11,6 +11,7 @@ use compare::ffi;
 use compare::panel::capture::FIRST_LINE;
 use second::intake::{self, Delivery, Intake};
 use second::message::SERVER;
+use std::hint::black_box;
 
 const CAPTURE: &[u8] = include_bytes!("../../demo/acid-batches.capture");
 
@@ -25,10 +26,14 @@ const LIST: usize = 32_768;
 pub fn print() {
     let stream = server_bytes(CAPTURE).repeat(TIMES);
     let name = format!("Intake, {} bytes of a server", stream.len());
-    table::head_of(&name, ["second", "copy,read"]);
-    for size in [1, 16, 1_448, 65_536] {
-        let name = format!("deliveries of {size} bytes");
-        table::row(&name, times(&stream, size));
+    table::head_of(&name, ["second", "copy+read"]);
+    for (name, size) in [
+        ("deliveries of one byte", 1),
+        ("deliveries of 16 bytes", 16),
+        ("deliveries of 1,448 bytes", 1_448),
+        ("deliveries of 65,536 bytes", 65_536),
+    ] {
+        table::row(name, times(&stream, size));
     }
 }
 
@@ -54,15 +59,15 @@ fn times(stream: &[u8], size: usize) -> [f64; 3] {
     let messages = copied_and_read(stream, &mut copy, &mut list);
     race([
         &mut || {
-            let given = taken(stream, size, &mut ours, ffi::intake_take);
+            let given = taken(black_box(stream), size, &mut ours, ffi::intake_take);
             assert_eq!(given, messages);
         },
         &mut || {
-            let given = taken(stream, size, &mut theirs, intake::take);
+            let given = taken(black_box(stream), size, &mut theirs, intake::take);
             assert_eq!(given, messages);
         },
         &mut || {
-            let read = copied_and_read(stream, &mut copy, &mut list);
+            let read = copied_and_read(black_box(stream), &mut copy, &mut list);
             assert_eq!(read, messages);
         },
     ])

@@ -5,7 +5,7 @@ use crate::fence::{Edge, Input};
 use crate::ffi;
 use crate::report::{compare, Hex};
 use second::intake::{self, Delivery, Intake};
-use std::fmt::{self, Debug, Display};
+use std::fmt::{self, Display};
 
 /// The names of both.
 const LIBRARY: &str = "library";
@@ -38,19 +38,24 @@ impl<'a> Rooms<'a> {
 }
 
 pub fn start(side: u32, room: usize) -> Result<Intake, String> {
-    let asked = format!("  start, side {side}, room {room} bytes");
-    let (library, second) = (ffi::intake_start(side, room), intake::start(side, room));
-    same_state(&asked, library, second)
+    same_state(
+        &format_args!("  start, side {side}, room {room} bytes"),
+        ffi::intake_start(side, room),
+        intake::start(side, room),
+    )
 }
 
 pub fn reset(intake: Intake) -> Result<Intake, String> {
-    let asked = format!("  reset of {intake:?}");
-    same_state(&asked, ffi::intake_reset(intake), intake::reset(intake))
+    same_state(
+        &format_args!("  reset of {intake:?}"),
+        ffi::intake_reset(intake),
+        intake::reset(intake),
+    )
 }
 
-/// A state that comes of no bytes.
-fn same_state<A: Copy + PartialEq + Debug>(asked: &str, one: A, other: A) -> Result<A, String> {
-    compare(&asked, (LIBRARY, (one, &[])), (SECOND, (other, &[])))
+/// A state that a call gives without any bytes.
+fn same_state(call: &impl Display, library: Intake, second: Intake) -> Result<Intake, String> {
+    compare(call, (LIBRARY, (library, &[])), (SECOND, (second, &[])))
 }
 
 /// A call that takes.

@@ -1,6 +1,6 @@
 //! What a run must have met often: a run in which little happens cannot pass.
 
-use crate::message::draft::KINDS;
+use crate::message::draft::{KINDS, SIDES};
 use crate::tally::{Counted, Tally};
 use second::intake::{Delivery, Intake};
 use second::message::HEAD;
@@ -28,6 +28,7 @@ pub enum Event {
     OtherRoomAfterRefusal,
     Again,
     Reset,
+    OtherSide,
     NoBytes,
     OneByte,
     Given,
@@ -44,6 +45,7 @@ const NAMES: [&str; Event::ForeignGiven as usize + 1] = [
     "32 for another room length after a refusal",
     "refusal given again",
     "reset",
+    "start for a side that knows no type",
     "empty delivery",
     "delivery of one byte",
     "message given",
@@ -65,6 +67,12 @@ pub struct Counts<'a>(pub &'a mut [Tally]);
 impl Counts<'_> {
     pub fn met(&mut self, event: Event) {
         self.0[EVENTS].count(event as u32);
+    }
+
+    pub fn started(&mut self, side: u32) {
+        if !SIDES.contains(&side) {
+            self.met(Event::OtherSide);
+        }
     }
 
     /// A message that was given, which is one of the ten.

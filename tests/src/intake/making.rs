@@ -3,10 +3,10 @@
 use super::case::{Case, Step};
 use super::{cutting, disturbing, foreign};
 use crate::lending::Lending;
-use crate::message::draft::Draft;
+use crate::message::draft::{Draft, SIDES};
 use crate::message::received;
 use crate::rng::Rng;
-use second::message::{CLIENT, HEAD, SERVER};
+use second::message::HEAD;
 
 pub fn make(rng: &mut Rng) -> Case {
     let (side, last) = received(rng);
@@ -48,7 +48,7 @@ impl Sent {
             bytes: Vec::new(),
             starts: Vec::new(),
         };
-        let known = [CLIENT, SERVER].contains(&side);
+        let known = SIDES.contains(&side);
         for _ in 0..rng.pick(&[0, 0, 1, 1, 2, 4]) * usize::from(known) {
             sent.put(&Draft::make_of(rng, side).message());
         }

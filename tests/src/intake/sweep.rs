@@ -6,7 +6,7 @@ use super::cutting;
 use crate::crossed::hex;
 use crate::fence::Edge;
 use crate::message::bytes::whole;
-use second::message::{CLIENT, SERVER};
+use second::message::{CLIENT, HEAD, SERVER};
 
 pub fn cases() -> Vec<Case> {
     Cases::of(&[
@@ -19,6 +19,9 @@ pub fn cases() -> Vec<Case> {
 }
 
 type Cases = crate::fixed::Cases<Case>;
+
+/// Every room up to this one is lent to short streams: under a head, just that, and one byte more.
+const MOST_SMALL: usize = HEAD + 1;
 
 impl Cases {
     /// Either end of the buffers in turn.
@@ -54,10 +57,9 @@ impl Cases {
             (SERVER, "5a00010000000049", 8),
             (7, "5300000004 5300", 5),
         ] {
-            let mut rooms = vec![0, 1, 4, 5, 6, largest - 1, largest, largest + 3];
-            rooms.sort_unstable();
-            rooms.dedup();
-            for room in rooms {
+            let about = [largest - 1, largest, largest + 3];
+            let larger = about.into_iter().filter(|room| *room > MOST_SMALL);
+            for room in (0..=MOST_SMALL).chain(larger) {
                 self.every_cut(side, room, &hex(stream));
             }
         }

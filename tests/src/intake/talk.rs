@@ -38,7 +38,8 @@ pub struct Talk<'a> {
 }
 
 impl<'a> Talk<'a> {
-    pub fn start(case: &'a Case, lent: Lent<'a>, counts: Counts<'a>) -> Result<Self, String> {
+    pub fn start(case: &'a Case, lent: Lent<'a>, mut counts: Counts<'a>) -> Result<Self, String> {
+        counts.started(case.side);
         Ok(Talk {
             case,
             lent,

@@ -20,6 +20,9 @@ pub const KINDS: [(u32, u8); 10] = [
 ];
 const WITH_RUN: usize = 6;
 
+/// The sides that have any.
+pub const SIDES: [u32; 2] = [CLIENT, SERVER];
+
 pub struct Draft {
     pub side: u32,
     pub type_byte: u8,
@@ -48,7 +51,7 @@ impl Draft {
         Draft::make_among(rng, &KINDS)
     }
 
-    /// One that this side may send, which is one of the two.
+    /// One of a side, which is one of the two.
     pub fn make_of(rng: &mut Rng, side: u32) -> Draft {
         let of_side = KINDS.into_iter().filter(|kind| kind.0 == side);
         Draft::make_among(rng, &of_side.collect::<Vec<_>>())
