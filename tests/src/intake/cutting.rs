@@ -44,14 +44,11 @@ fn anywhere(rng: &mut Rng, length: usize) -> Vec<usize> {
 
 /// At some starts of messages and just before them, in the head and just behind it.
 fn near(rng: &mut Rng, starts: &[usize], length: usize) -> Vec<usize> {
-    let mut places = Vec::new();
-    for start in starts {
-        for _ in 0..rng.below(3) {
-            let place = (start + rng.below(9)).saturating_sub(2);
-            places.push(place.min(length));
-        }
-    }
-    places
+    let mut place = || {
+        let start = rng.pick(starts);
+        (start + rng.below(9)).saturating_sub(2).min(length)
+    };
+    starts.iter().flat_map(|_| [place(), place()]).collect()
 }
 
 /// Empty deliveries: first, last, or between others.

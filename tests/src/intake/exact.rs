@@ -20,7 +20,8 @@ pub fn cases() -> Vec<Case> {
         Cases::longest_list,
         Cases::resets,
         Cases::other_rooms,
-        Cases::states_from_elsewhere,
+        Cases::held_from_elsewhere,
+        Cases::numbers_from_elsewhere,
     ])
 }
 
@@ -203,9 +204,8 @@ impl Cases {
         }
     }
 
-    /// The held bytes are no more than the room has; what is behind a message in the room is dropped;
-    /// any number is given again.
-    fn states_from_elsewhere(&mut self) {
+    /// The held bytes are no more than the room has; what is behind a message in the room is dropped.
+    fn held_from_elsewhere(&mut self) {
         use Step::{Deliver, WriteRoom, WriteState};
         let lent = (CLIENT, 9);
         let sync = hex("5300000004");
@@ -221,6 +221,12 @@ impl Cases {
         };
         let steps = [WriteState(without_room), Deliver(0)];
         self.talk((CLIENT, 0), &[], &steps, open(0, 0, 5));
+    }
+
+    /// Any number is given again.
+    fn numbers_from_elsewhere(&mut self) {
+        use Step::{Deliver, WriteState};
+        let (sync, start) = (hex("5300000004"), intake::start(CLIENT, 9));
         for (number, place) in [(1, 0), (77, 3), (u32::MAX, u32::MAX)] {
             let state = Intake {
                 number,
@@ -228,7 +234,7 @@ impl Cases {
                 ..start
             };
             let steps = [WriteState(state), Deliver(5)];
-            self.talk(lent, &sync, &steps, refused(0, number, place));
+            self.talk((CLIENT, 9), &sync, &steps, refused(0, number, place));
         }
     }
 }

@@ -57,11 +57,16 @@ impl Cases {
             (SERVER, "5a00010000000049", 8),
             (7, "5300000004 5300", 5),
         ] {
-            let about = [largest - 1, largest, largest + 3];
-            let larger = about.into_iter().filter(|room| *room > MOST_SMALL);
-            for room in (0..=MOST_SMALL).chain(larger) {
-                self.every_cut(side, room, &hex(stream));
-            }
+            self.in_every_room(side, &hex(stream), largest);
+        }
+    }
+
+    /// The small rooms, and those about the largest message.
+    fn in_every_room(&mut self, side: u32, stream: &[u8], largest: usize) {
+        let about = [largest - 1, largest, largest + 3];
+        let larger = about.into_iter().filter(|room| *room > MOST_SMALL);
+        for room in (0..=MOST_SMALL).chain(larger) {
+            self.every_cut(side, room, stream);
         }
     }
 
@@ -116,23 +121,21 @@ impl Cases {
 
     /// Each type byte, of each side and of one that knows none, with an empty body.
     fn type_bytes(&mut self) {
-        for kind in 0..=0xff {
-            for side in [CLIENT, SERVER, 2] {
-                self.cut(side, 5, &whole(kind, &[]), vec![Step::Deliver(5)]);
-            }
+        let of_side = |side| (0..=0xff).map(move |kind| (side, kind));
+        for (side, kind) in [CLIENT, SERVER, 2].into_iter().flat_map(of_side) {
+            self.cut(side, 5, &whole(kind, &[]), vec![Step::Deliver(5)]);
         }
     }
 
     /// Lengths about the least and the greatest, with just that room and about it.
     fn length_fields(&mut self) {
-        let small = 0..10;
-        let large = 65_533..65_539;
+        let (small, large) = (0..10, 65_533..65_539);
         let signed = [0x7fff_ffff, 0x8000_0000, 0x8000_0004, 0xffff_ffff];
-        for length in small.chain(large).chain(signed) {
-            let head = [&[0x53][..], &u32::to_be_bytes(length)].concat();
-            for room in [4, 5, 9, 10, 65_535, 65_536, 65_537] {
-                self.cut(CLIENT, room, &head, vec![Step::Deliver(5)]);
-            }
+        let rooms = [4, 5, 9, 10, 65_535, 65_536, 65_537];
+        let in_rooms = |length: u32| rooms.map(|room| (length, room));
+        for (length, room) in small.chain(large).chain(signed).flat_map(in_rooms) {
+            let head = [&[0x53][..], &length.to_be_bytes()].concat();
+            self.cut(CLIENT, room, &head, vec![Step::Deliver(5)]);
         }
     }
 }
