@@ -1,5 +1,5 @@
 # make run: builds everything and shows the demo's capture. make panel: the panel program alone, build/panel.
-# make test: the gate. make bench: the benchmark's ratios. make soak: 10,000,000 cases against the second program, not in the gate.
+# make test: the gate. make bench: the benchmark's ratios. make soak: 12,000,000 cases against the second program, not in the gate.
 # make install PREFIX=.. DESTDIR=..: header, archive, pkg-config file and panel program. make uninstall, with the same: removes them.
 # CC and AR: the C compiler and the archiver, cc and ar if they are not given.
 .PHONY: run panel demo panel-tests test bench soak install uninstall clean compiler
