@@ -27,7 +27,7 @@ void print_message_head(const struct screen *screen, const struct message *messa
     const struct sent *sent = &message->sent;
     print(screen, STRONG, "message %lu: ", message->number);
     print_title(screen, STRONG, sent->side, sent->bytes[0]);
-    print(screen, FAINT, ", ");
+    print(screen, FAINT, message->answer.number == REMBULFOSE_BAD_LENGTH ? ", a head of " : ", ");
     print_size(screen, FAINT, sent->length);
     print(screen, FAINT, " at %" PRIu64, sent->at);
     if (message->row > 0)
