@@ -57,7 +57,7 @@ static const char help[] =
     "  2  the command was not understood, or the capture could not be read\n";
 
 struct arguments {
-    const char *words[3]; /* FILE ROW PATH */
+    const char *words[3]; /* FILE ROW PATH; null and empty where they are not given */
     int count;
     uint32_t side;
 };
@@ -83,7 +83,7 @@ static int misused(const char *why) {
  * option. */
 static bool sort_arguments(int count, char **words, struct arguments *arguments) {
     bool options = true;
-    *arguments = (struct arguments){.side = SERVER};
+    *arguments = (struct arguments){.words = {NULL, "", ""}, .side = SERVER};
     for (int i = 2; i < count; i++) {
         bool dashed = options && words[i][0] == '-' && words[i][1] != 0;
         if (dashed && strcmp(words[i], "--") == 0)
@@ -158,7 +158,7 @@ static int find_in_capture(const struct arguments *arguments, uint32_t row, cons
  * for standard input to end. */
 static int run_find(const struct arguments *arguments) {
     const char *row_text = arguments->words[1];
-    const char *path_text = arguments->count > 2 ? arguments->words[2] : "";
+    const char *path_text = arguments->words[2];
     uint8_t *path = malloc(4 * (strlen(path_text) / 2 + 1));
     uint32_t row;
     size_t path_words;

@@ -8,7 +8,6 @@
 #include "../../host/bytes.h"
 #include "joined.h"
 
-#include <stdlib.h>
 #include <string.h>
 
 enum { HEAD = RECORD_HEAD };

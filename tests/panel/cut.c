@@ -6,9 +6,6 @@
  * whose bytes a one-sided capture holds; what is made of it is side-marked. */
 #include "records.h"
 
-#include <stdio.h>
-#include <stdlib.h>
-
 int main(int count, char **words) {
     must(count == 4, "usage: cut SIZE SIDE CAPTURE");
     struct bytes capture = load(words[3]);

@@ -1,6 +1,5 @@
 #include "joined.h"
 
-#include <stdlib.h>
 #include <string.h>
 
 /* Bytes of a record, from one up to, and not with, another, as a record of their own. */

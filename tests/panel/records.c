@@ -2,25 +2,16 @@
 
 #include "../../host/bytes.h"
 
-#include <errno.h>
-#include <stdio.h>
-#include <stdlib.h>
 #include <string.h>
 
 enum { FIRST_ROOM = 1 << 16, MOST_AT_RANDOM = 60, EMPTY_ONCE_IN = 6 };
 
-void must(int good, const char *what) {
-    if (good)
-        return;
-    fprintf(stderr, "panel tests: %s: %s\n", what, strerror(errno));
-    exit(2);
-}
-
 void append(struct bytes *bytes, const uint8_t *from, size_t length) {
     while (bytes->room - bytes->length < length) {
         bytes->room = bytes->room == 0 ? FIRST_ROOM : 2 * bytes->room;
-        bytes->at = realloc(bytes->at, bytes->room);
-        must(bytes->at != NULL, "memory");
+        uint8_t *more = realloc(bytes->at, bytes->room);
+        must(more != NULL, "memory");
+        bytes->at = more;
     }
     if (length > 0)
         memcpy(bytes->at + bytes->length, from, length);

@@ -5,6 +5,9 @@
 
 #include "../../host/capture.h"
 
+#include <stdio.h>
+#include <stdlib.h>
+
 /* Bytes that grow. */
 struct bytes {
     uint8_t *at;
@@ -12,7 +15,12 @@ struct bytes {
 };
 
 /* Ends the program, and says why, if something is not so. */
-void must(int good, const char *what);
+static inline void must(int good, const char *what) {
+    if (good)
+        return;
+    perror(what);
+    exit(2);
+}
 
 void append(struct bytes *bytes, const uint8_t *from, size_t length);
 
