@@ -165,11 +165,16 @@ static void save_parts(const char *folder, const struct copy *copy) {
     save(folder, "server-side-length", out, server);
     save(folder, "client-side", out, one_side(copy, 0, CLIENT, out));
     save(folder, "no-description", out, one_side(copy, ROW_1, SERVER, out));
+    save(folder, "short-first", out, one_side(copy, READY, SERVER, out));
     save(folder, "good", copy->bytes, copy->records[TWICE]);
     save(folder, "cut-in-record", copy->bytes, copy->records[ROW_2] + 300);
     save(folder, "cut-in-head", copy->bytes, copy->records[ROW_2] + 3);
     save(folder, "empty", copy->bytes, 0);
     save(folder, "magic-alone", copy->bytes, strlen(CAPTURE_MAGIC));
+    save(folder, "magic-cut", copy->bytes, strlen(CAPTURE_MAGIC) - 1);
+    memcpy(out, copy->bytes, copy->length);
+    out[strlen(CAPTURE_MAGIC) - 2] = '2';
+    save(folder, "magic-other", out, copy->length);
     free(out);
 }
 
