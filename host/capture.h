@@ -60,8 +60,7 @@ struct piece {
  * capture cannot be read on. */
 bool capture_next(struct capture *capture, struct piece *piece);
 
-/* Whether the capture ends inside of a record or of its head, and how many bytes that should have. To be
- * asked at the end. */
+/* Whether the capture ends inside a record, or inside the head of one. To be asked at the end. */
 enum cut { NOT_CUT, CUT_IN_HEAD, CUT_IN_RECORD };
 enum cut capture_cut(const struct capture *capture);
 

@@ -1,7 +1,5 @@
 #include "hexview.h"
 
-#include "side.h"
-
 #include <inttypes.h>
 
 enum { MOST_PER_LINE = 16, GAP_AFTER = 8, LINES_AROUND = 2 };

@@ -2,17 +2,7 @@
 #ifndef HEXVIEW_H
 #define HEXVIEW_H
 
-#include "../include/rembulfose.h"
-#include "screen.h"
-
-/* Bytes that one side sent: a message, or a part of one. */
-struct sent {
-    const char *name; /* "message", "row", .. */
-    const uint8_t *bytes;
-    size_t length;
-    uint32_t side;
-    uint64_t at;      /* how many bytes that side sent before them */
-};
+#include "side.h"
 
 /* Prints the lines of bytes around a place, 16 to a line or as many as the terminal is wide enough
  * for, with that byte marked. A place just past the last byte is marked as the end. */

@@ -3,8 +3,6 @@
 #ifndef SESSION_H
 #define SESSION_H
 
-#include "capture.h"
-#include "hexview.h"
 #include "plan.h"
 #include "side.h"
 

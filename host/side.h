@@ -1,4 +1,4 @@
-/* One side of the line: its bytes, which the library's intake joins to messages. */
+/* One side of the line: its bytes, which an intake of the library joins to messages. */
 #ifndef SIDE_H
 #define SIDE_H
 
@@ -32,6 +32,15 @@ bool side_take(struct side *side, struct piece *piece, rembulfose_answer *answer
 
 /* Passes over the message at hand: the next one starts behind it. */
 void side_pass(struct side *side);
+
+/* Bytes that a side has sent: a message, or a part of one. */
+struct sent {
+    const char *name; /* "message", "row", .. */
+    const uint8_t *bytes;
+    size_t length;
+    uint32_t side;
+    uint64_t at;      /* how many bytes the side sent before them */
+};
 
 /* Prints who sends: "client", "server", "unknown side 7". */
 void print_side(const struct screen *screen, enum ink ink, uint32_t side);
