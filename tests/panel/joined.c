@@ -31,8 +31,8 @@ static const struct slice in_bodies[] = {
 };
 
 /* Bytes of sides that are neither the client's nor the server's. Each is joined apart: a row of side 2 that is
- * cut by one of side 7, a length that is not permitted in side 9's, and unfinished ends, the last of a
- * side first. */
+ * cut by one of side 7, a length that is not permitted in side 9's, and unfinished ends, which come in
+ * another order than they are said in. */
 static const struct slice other_sides[] = {
     {DESCRIPTION, 0, REST, OWN}, {ROW_1, 0, 200, 2},      {ROW_2, 0, REST, 7},
     {ROW_1, 0, REST, OWN},       {ROW_1, 200, REST, 2},   {ROW_1, 5, 30, 9},
