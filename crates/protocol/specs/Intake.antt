@@ -162,7 +162,7 @@ allBytes (d ∷ ds) = d ++ allBytes ds
 -- the state in which an intake ends, and the bytes that it holds, by how the reading of all bytes ends
 unfoldable pub endState : ℕ → ℕ → StreamEnd → Intake
 endState side room (unfinished s) = holding room side (length s)
-endState side room (brokenOff n p) = record { room = room; side = side; held = 0; number = n; place = p }
+endState side room (brokenOff n p) = intakeEnded (intakeStart side room) n p
 
 unfoldable pub endHeld : StreamEnd → List ℕ
 endHeld (unfinished s) = s
