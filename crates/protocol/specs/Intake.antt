@@ -154,7 +154,7 @@ handAll c (d ∷ ds) = handAll (handIn (suc (length d)) c d) ds
 abbrev pub conversation : ℕ → List ℕ → Conversation
 conversation side l = record { intake = intakeStart side (length l); room = l; given = [] }
 
--- the bytes of all deliveries, and of none a cut
+-- the bytes of all deliveries, joined
 unfoldable pub allBytes : List (List ℕ) → List ℕ
 allBytes [] = []
 allBytes (d ∷ ds) = d ++ allBytes ds
