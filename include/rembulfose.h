@@ -106,7 +106,7 @@ enum {
     REMBULFOSE_VALUE_SIZE = 28,    /* a value of more than 65,535 bytes; 0 */
     REMBULFOSE_PLAN_ROOM = 30,     /* the plan has more words than its room; 0 */
     REMBULFOSE_LIST_ROOM = 31,     /* the list has more words than its room; 0 */
-    REMBULFOSE_OUTPUT_ROOM = 32,   /* the output, or a message in an intake, has more bytes than its room; 0 */
+    REMBULFOSE_OUTPUT_ROOM = 32,   /* the output, or an intake's message, is larger than its room, or that has changed; 0 */
     REMBULFOSE_BAD_PLAN = 33,      /* what was lent as a plan is none; 0 */
     REMBULFOSE_NO_VALUE = 34,      /* the supply belongs to no value that the plan accepts; 0 */
     REMBULFOSE_NO_ENTRY = 35,      /* the path leads to no entry; 0 */

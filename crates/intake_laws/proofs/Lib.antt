@@ -5,3 +5,4 @@ pub mod Conversations
 pub mod States
 pub mod Refusals
 pub mod Readers
+pub mod Rooms

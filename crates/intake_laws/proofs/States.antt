@@ -1,4 +1,4 @@
--- What holds of an intake's states: what a start, calls and resets lead to, what is then answered, and that a refusal stays (R10.4 to R10.6).
+-- What holds of an intake's states: what a start, calls and resets lead to, and what is then answered (R10.2, R10.4).
 use mathlib.Core.Path.{_≡_, refl, ap, _∙_}
 use mathlib.Core.List.{List, [], _++_}
 use Prim.Native.Nat.{ℕ, _+_, _-_}
@@ -30,6 +30,8 @@ module _ (side room : ℕ) where
   -- what is answered with it: what is lacking to the bytes held, which are in the room, or a refusal
   pub record Answers (r : Delivery) (l : List ℕ) : Type 0 where
     pub held : length (take (r .intake .held) l) ≡ r .intake .held
+    pub number : r .intake .number ≡ r .number
+    pub place : r .intake .place ≡ r .place
     pub lacking : r .number ≡ 0 → Missing room (take (r .intake .held) l) (r .lacks)
     pub refusal : (r .number ≡ 0 → ⊥) → Refusal (r .number)
 
@@ -43,7 +45,7 @@ module _ (side room : ℕ) where
   refuses n p l r e =
       record {
         state = over-with n p refl r;
-        answers = record { held = refl; lacking = λ z. absurd (refusal-some n r z); refusal = λ _. r };
+        answers = record { held = refl; number = refl; place = refl; lacking = λ z. absurd (refusal-some n r z); refusal = λ _. r };
         size = e;
       }
 
@@ -57,7 +59,7 @@ module _ (side room : ℕ) where
     called-read n s (read u ws) j =
         record {
           state = waits [] 5 refl refl refl;
-          answers = record { held = refl; lacking = λ _. told room []; refusal = λ z. absurd (z refl) };
+          answers = record { held = refl; number = refl; place = refl; lacking = λ _. told room []; refusal = λ z. absurd (z refl) };
           size = s;
         }
 
@@ -67,7 +69,7 @@ module _ (side room : ℕ) where
         let f : take (length (h ++ src)) (over (h ++ src) l) ≡ h ++ src = take-append-seam (h ++ src) (drop (length (h ++ src)) l) in
         record {
           state = waits (h ++ src) k refl f q;
-          answers = record { held = ap length f; lacking = λ _. rw f t; refusal = λ z. absurd (z refl) };
+          answers = record { held = ap length f; number = refl; place = refl; lacking = λ _. rw f t; refusal = λ z. absurd (z refl) };
           size = over-length (h ++ src) l (omega (arith, t .fits)) ∙ e;
         }
     called-by (Unfit n) q t = refuses n 0 l (unfit-refusal n t) e

@@ -9,9 +9,10 @@ use Rattle.message_intake.proofs.Hands.{Missing}
 use Rattle.intake_laws.proofs.Conversations.{cuts}
 use Rattle.intake_laws.proofs.States.{answered}
 use Rattle.intake_laws.proofs.Refusals.{stays, other-room}
+use Rattle.intake_laws.proofs.Rooms.{kept}
 use Rattle.intake_laws.proofs.Readers.{roomed, given, read-given}
 use Rattle.theorems.proofs.Accepted.{message-exact}
-use Rattle.theorems.specs.Terms.{WholeMessage, IntakeNumber, Lacks, SameEnd}
+use Rattle.theorems.specs.Terms.{KeepsBehind, WholeMessage, IntakeNumber, Lacks, SameEnd}
 use Rattle.forms.specs.declared.Intake.{Intake}
 use Rattle.forms.specs.declared.Delivery.{Delivery}
 use Rattle.protocol.specs.Answers.{over}
@@ -49,15 +50,22 @@ other-room-kept i src r l l′ c z =
     (c .answer ∙ ap (λ (t : Taken). t .answer) g, c .room ∙ ap (λ (t : Taken). t .room) g)
 
 lacks-of : (room : ℕ) (s : List ℕ) (k : ℕ) → Missing room s k → Lacks s k
-lacks-of room s k m = record { of-head = m .head; of-message = m .message }
+lacks-of room s k m = record { some = m .more; of-head = m .head; of-message = m .message }
 
 pub intake-answers : (side room : ℕ) (i : Intake) (l : List ℕ) → Reached side room i l → (src : List ℕ) (r : Delivery) (l′ : List ℕ) → TakesDelivery i src r l l′
     → (length (take (r .intake .held) l′) ≡ r .intake .held)
+    × (r .intake .number ≡ r .number)
+    × (r .intake .place ≡ r .place)
     × (r .number ≡ 0 → Lacks (take (r .intake .held) l′) (r .lacks))
     × ((r .number ≡ 0 → ⊥) → IntakeNumber (r .number))
 intake-answers side room i l x src r l′ c =
     let a = rw (settled (takeOf i src l) r l′ c) at (answered side room i l x src) in
-    (a .held, λ z. lacks-of room (take (r .intake .held) l′) (r .lacks) (a .lacking z), a .refusal)
+    (a .held, a .number, a .place, λ z. lacks-of room (take (r .intake .held) l′) (r .lacks) (a .lacking z), a .refusal)
+
+pub intake-keeps : (i : Intake) (src : List ℕ) (r : Delivery) (l l′ : List ℕ) → TakesDelivery i src r l l′ → KeepsBehind r l l′
+intake-keeps i src r l l′ c =
+    let k = rw (settled (takeOf i src l) r l′ c) at (kept i src l) in
+    record { long = k .long; behind = k .behind }
 
 -- ---- with the reader
 

@@ -34,14 +34,14 @@ use Rattle.theorems.proofs.Accepted.{message-exact, descriptor-exact, n
 use Rattle.theorems.proofs.Accepted.{refused-own, value-exact}
 use Rattle.theorems.proofs.Lists.{run-number, rules-number, never-33, run-entries, call-entries, indexes-apart, found-part}
 use Rattle.theorems.proofs.Bytes.{read-keeps, write-keeps, compile-keeps, run-keeps, value-keeps, runs-rules, call-runs-rules, written-bytes}
-use Rattle.theorems.proofs.Intake.{two-cuts, refusal-stays, other-room-kept, intake-answers, intake-gives, intake-takes}
+use Rattle.theorems.proofs.Intake.{two-cuts, refusal-stays, other-room-kept, intake-answers, intake-keeps, intake-gives, intake-takes}
 use Rattle.theorems.proofs.Cases.{case-table}
 use Rattle.protocol.specs.Finding.{foundIn, findOf}
 
 -- ---- R1: refusals and success
 
 pub rooms-kept-holds : RoomsKept
-rooms-kept-holds = (read-keeps, write-keeps, compile-keeps, run-keeps, value-keeps)
+rooms-kept-holds = (read-keeps, write-keeps, compile-keeps, run-keeps, value-keeps, intake-keeps)
 
 -- ---- R2: messages
 

@@ -17,6 +17,7 @@ use denote.Triple.Entry.{Args, Res}
 use denote.Triple.Spec.{Meets}
 use denote.Triple.Clauses.{Ended, AtExit, closing}
 use Rattle.forms.specs.declared.Answer.{Answer}
+use Rattle.forms.specs.declared.Delivery.{Delivery}
 use Rattle.protocol.specs.Constants.{MOST-LENGTH, MESSAGE-HEAD, MOST-DESCRIPTOR, VALUE-SIZE, LIST-ROOM, OUTPUT-ROOM, ENTRY-WORDS}
 use Rattle.protocol.specs.Numbers.{be}
 use Rattle.protocol.specs.Answers.{accepted}
@@ -40,6 +41,11 @@ pub record Keeps (r : Answer) (n : ℕ) (l l′ : List ℕ) : Type 0 where
   pub on-refusal : (r .number ≡ 0 → ⊥) → (r ≡ refusal (r .number) (r .place)) × (l′ ≡ l)
   pub inside : n ≤ length l
   pub beyond : drop n l′ ≡ drop n l
+
+-- an intake's room stays as long as it was; where nothing is refused, what is behind the bytes held or the message given is as it was (R10.7)
+pub record KeepsBehind (r : Delivery) (l l′ : List ℕ) : Type 0 where
+  pub long : length l′ ≡ length l
+  pub behind : r .number ≡ 0 → drop (r .intake .held + r .size) l′ ≡ drop (r .intake .held + r .size) l
 
 -- u bytes at the start of s: a length field in its limits, a type known for that side, and fields that end where the message does (R2.2 to R2.13)
 pub record WholeMessage (side : ℕ) (s : List ℕ) (u : ℕ) (ws : List ℕ) : Type 0 where
@@ -86,8 +92,9 @@ NoneHas p ws src = (s : List ℕ) → Bytes s → HasSupply p s ws src → ⊥
 abbrev pub IntakeNumber : ℕ → Type 0
 IntakeNumber n = ((2 ≤ n) × (n ≤ 6)) ⊎ (n ≡ OUTPUT-ROOM)
 
--- k bytes are lacking to those held, of a head while they are fewer, and then of the message (R10.4)
+-- k bytes are lacking to those held, and at least one: of a head while they are fewer, and then of the message (R10.4)
 pub record Lacks (held : List ℕ) (k : ℕ) : Type 0 where
+  pub some : 0 < k
   pub of-head : length held < MESSAGE-HEAD → length held + k ≡ MESSAGE-HEAD
   pub of-message : MESSAGE-HEAD ≤ length held → length held + k ≡ be (take 4 (drop 1 held)) + 1
 

@@ -44,12 +44,13 @@ use Rattle.protocol.specs.Crossing.{runFrom, SettlesRun, RunsValue, findFrom, f
 use Rattle.protocol.specs.Intake.{streamOf, intakeStart, intakeReset, refusedDelivery, takenDelivery, TakesDelivery, handAll, conversation, allBytes}
 use Rattle.protocol.specs.Intake.{ComesTo, Reached}
 use Rattle.theorems.specs.Terms.{Bytes, Words, Keeps, WholeMessage, TypedDescriptor, RunNumber, PathEntry, IndexesApart, NoneHas}
-use Rattle.theorems.specs.Terms.{IntakeNumber, Lacks, SameEnd, Does}
+use Rattle.theorems.specs.Terms.{KeepsBehind, IntakeNumber, Lacks, SameEnd, Does}
 use Rattle.theorems.specs.Cases.{Case, cases}
 
 -- ---- R1: refusals and success
 
--- Each C call that has a room writes no more of it than it answers, and leaves it as it was where it refuses (R1.1, R1.2, R9.6, R9.7).
+-- Each C call that has a room writes no more of it than it answers, and leaves it as it was where it refuses (R1.1, R1.2, R9.6, R9.7). Of an intake's
+-- room, which is its own, only what is behind the bytes held or the message given is left as it was, and a refusal may have changed it (R10.7).
 abbrev pub RoomsKept : Type 0
 RoomsKept =
     ((side : ℕ) (s : List ℕ) (r : Answer) (l l′ : List ℕ) → ReadsMessage side s r l l′ → Keeps r (4 * r .second) l l′)
@@ -57,6 +58,7 @@ RoomsKept =
     × ((d root : List ℕ) (r : Answer) (l l′ : List ℕ) → CompilesPlan d root r l l′ → Keeps r (4 * r .first) l l′)
     × ((plan s : List ℕ) (r : Answer) (l l′ : List ℕ) → RunsValue plan s r l l′ → Keeps r (4 * r .first) l l′)
     × ((plan list src : List ℕ) (r : Answer) (l l′ : List ℕ) → WritesValue plan list src r l l′ → Keeps r (r .first) l l′)
+    × ((i : Intake) (src : List ℕ) (r : Delivery) (l l′ : List ℕ) → TakesDelivery i src r l l′ → KeepsBehind r l l′)
 
 -- ---- R2: messages
 
@@ -237,8 +239,8 @@ RoundTrip =
 
 -- ---- R9: the calls
 
--- Each C call's answer, and every byte of its room, is what its definition computes from the bytes that were lent (R9.1 to R9.8). The room's bytes
--- are l before the call, and l′ after it.
+-- Each C call's answer, and every byte of its room, is what its definition computes from the bytes that were lent, and an intake's state (R9.1 to
+-- R9.8). The room's bytes are l before the call, and l′ after it.
 pub record EveryCall : Type 2 where
   pub read-message-does : Does read-message.ended read-message.Symbol.routine
       (λ κs (side, (s, (l, _))) r (_, (_, (l′, _))). ReadsMessage side (now s) r (now l) (now l′))
@@ -283,11 +285,14 @@ IntakeEnds =
     → (r ≡ refusedDelivery i OUTPUT-ROOM 0) × (l′ ≡ l))
     × ((side room : ℕ) (i : Intake) (l : List ℕ) → Reached side room i l → intakeReset i ≡ intakeStart side room)
 
--- From a start on a call answers with the bytes held in the room and what is lacking to them, or with a refusal 2 to 6 or 32, and never with 1 (R10.4).
+-- From a start on a call answers with the bytes held in the room and what is lacking to them, or with a refusal 2 to 6 or 32, and never with 1; the
+-- state that it returns has the same number and place (R10.4, R10.5).
 abbrev pub IntakeAnswers : Type 0
 IntakeAnswers =
     (side room : ℕ) (i : Intake) (l : List ℕ) → Reached side room i l → (src : List ℕ) (r : Delivery) (l′ : List ℕ) → TakesDelivery i src r l l′
     → (length (take (r .intake .held) l′) ≡ r .intake .held)
+    × (r .intake .number ≡ r .number)
+    × (r .intake .place ≡ r .place)
     × (r .number ≡ 0 → Lacks (take (r .intake .held) l′) (r .lacks))
     × ((r .number ≡ 0 → ⊥) → IntakeNumber (r .number))
 
