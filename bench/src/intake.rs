@@ -8,7 +8,7 @@
 use crate::race::race;
 use crate::table;
 use compare::ffi;
-use compare::panel::capture::FIRST_LINE;
+use compare::panel::joined::FIRST_LINE;
 use second::intake::{self, Delivery, Intake};
 use second::message::SERVER;
 use std::hint::black_box;
