@@ -1,5 +1,5 @@
 # make run: builds everything and shows the demo's capture. make panel: the panel program alone, build/panel.
-# make test: the gate. make bench: the benchmark's ratios. make soak: 10,000,000 cases against the second program, not in the gate.
+# make test: the gate. make bench: the benchmark's ratios. make soak: 12,000,000 cases against the second program, not in the gate.
 # make install PREFIX=.. DESTDIR=..: header, archive, pkg-config file and panel program. make uninstall, with the same: removes them.
 # CC and AR: the C compiler and the archiver, cc and ar if they are not given.
 .PHONY: run panel demo panel-tests test bench soak install uninstall clean compiler
@@ -33,11 +33,18 @@ build/make-capture: $(MAKER) $(HEADERS) $(LIBRARY) | compiler
 	$(CC) $(CFLAGS) $(MAKER) $(LIBRARY) -o $@
 
 # What tests/panel/run needs besides.
-panel-tests: build/panel-captures build/panel-formats build/panel-long-row
+panel-tests: build/panel-captures build/panel-cut build/panel-feed build/panel-formats build/panel-long-row
 
-build/panel-captures: tests/panel/captures.c host/capture.c $(HEADERS) | compiler
+RECORDS = tests/panel/records.c
+RECORDS_OF = $(RECORDS) $(wildcard tests/panel/*.h) $(HEADERS)
+
+build/panel-captures: tests/panel/captures.c tests/panel/joined.c $(RECORDS_OF) | compiler
 	mkdir -p build
-	$(CC) $(CFLAGS) tests/panel/captures.c host/capture.c -o $@
+	$(CC) $(CFLAGS) tests/panel/captures.c tests/panel/joined.c $(RECORDS) -o $@
+
+build/panel-cut build/panel-feed: build/panel-%: tests/panel/%.c $(RECORDS_OF) | compiler
+	mkdir -p build
+	$(CC) $(CFLAGS) $< $(RECORDS) -o $@
 
 build/panel-%: tests/panel/%.c tests/hex.h $(BUILDER) $(HEADERS) $(LIBRARY) | compiler
 	mkdir -p build

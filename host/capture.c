@@ -1,104 +1,111 @@
+#define _POSIX_C_SOURCE 200809L
 #include "capture.h"
 
 #include "bytes.h"
 
 #include <errno.h>
-#include <stdio.h>
-#include <stdlib.h>
+#include <fcntl.h>
 #include <string.h>
+#include <sys/stat.h>
+#include <unistd.h>
 
-enum { HEAD = 5, FIRST_ROOM = 65536 };
-
-/* Makes room for more bytes; false if there is no memory. */
-static bool grow(struct capture *capture, size_t *room) {
-    size_t more = *room == 0 ? FIRST_ROOM : *room * 2;
-    uint8_t *bytes = more > *room ? realloc(capture->bytes, more) : NULL;
-    if (bytes == NULL) {
-        errno = ENOMEM;
-        return false;
+/* Reads what has come, behind what is in the buffer; false at the end. read(2) waits for the first byte
+ * only, and fread would wait until the buffer is full. */
+static bool fill(struct capture *capture) {
+    ssize_t got = 0;
+    while (!capture->ended && got <= 0) {
+        got = read(capture->file, capture->buffer + capture->end,
+                   sizeof capture->buffer - capture->end);
+        capture->ended = got == 0 || (got < 0 && errno != EINTR);
+        capture->error = got < 0 && capture->ended ? errno : 0;
     }
-    capture->bytes = bytes;
-    *room = more;
-    return true;
+    capture->end += got > 0 ? (size_t)got : 0;
+    return got > 0;
 }
 
-/* Gives back the room that is not needed, so that whatever reads past the capture's end leaves the
- * memory that it was given, and is found by a sanitizer or valgrind. */
-static void shrink(struct capture *capture) {
-    uint8_t *bytes = realloc(capture->bytes, capture->length > 0 ? capture->length : 1);
-    if (bytes != NULL)
-        capture->bytes = bytes;
-}
-
-static bool read_all(struct capture *capture, FILE *file) {
-    size_t room = 0;
-    for (;;) {
-        if (capture->length == room && !grow(capture, &room))
+/* Whether so many bytes are there to be taken; waits for them. They are few beside the buffer. */
+static bool await(struct capture *capture, size_t count) {
+    if (capture->end - capture->start >= count)
+        return true;
+    memmove(capture->buffer, capture->buffer + capture->start, capture->end - capture->start);
+    capture->end -= capture->start;
+    capture->start = 0;
+    while (capture->end < count)
+        if (!fill(capture))
             return false;
-        size_t got = fread(capture->bytes + capture->length, 1, room - capture->length, file);
-        capture->length += got;
-        if (got == 0)
-            break;
-    }
-    shrink(capture);
-    return !ferror(file);
-}
-
-static bool starts_with_magic(const struct capture *capture) {
-    size_t length = strlen(CAPTURE_MAGIC);
-    return capture->length >= length && memcmp(capture->bytes, CAPTURE_MAGIC, length) == 0;
-}
-
-bool capture_load(struct capture *capture, const char *name, uint32_t side) {
-    bool standard = name == NULL || strcmp(name, "-") == 0;
-    FILE *file = standard ? stdin : fopen(name, "rb");
-    *capture = (struct capture){NULL, 0, false, side};
-    if (file == NULL)
-        return false;
-    bool whole = read_all(capture, file);
-    int why = errno;
-    if (!standard)
-        fclose(file);
-    if (!whole)
-        capture_free(capture);
-    errno = why;
-    capture->marked = whole && starts_with_magic(capture);
-    return whole;
-}
-
-void capture_free(struct capture *capture) {
-    free(capture->bytes);
-    capture->bytes = NULL;
-    capture->length = 0;
-}
-
-/* The whole of a one-sided capture. */
-static void only_record(const struct capture *capture, struct record *record) {
-    *record = (struct record){capture->side, 0, capture->length, capture->length, false};
-}
-
-static void marked_record(const struct capture *capture, size_t at, struct record *record) {
-    size_t left = capture->length - at;
-    if (left < HEAD) {
-        *record = (struct record){capture->bytes[at], at, 0, 0, true};
-        return;
-    }
-    size_t promised = get_32(capture->bytes + at + 1);
-    bool cut = promised > left - HEAD;
-    *record = (struct record){capture->bytes[at], at + HEAD, cut ? left - HEAD : promised, promised,
-                              cut};
-}
-
-bool capture_record(const struct capture *capture, size_t *position, struct record *record) {
-    if (capture->marked && *position == 0)
-        *position = strlen(CAPTURE_MAGIC);
-    if (*position >= capture->length)
-        return false;
-    if (capture->marked)
-        marked_record(capture, *position, record);
-    else
-        only_record(capture, record);
-    bool no_head = record->cut && record->promised == 0;
-    *position = no_head ? capture->length : record->at + record->length;
     return true;
+}
+
+/* Takes so many bytes, which are there. */
+static const uint8_t *take(struct capture *capture, size_t count) {
+    const uint8_t *bytes = capture->buffer + capture->start;
+    capture->start += count;
+    capture->position += count;
+    return bytes;
+}
+
+/* Tells which kind of capture it is as soon as its bytes do, and takes the first line of a side-marked
+ * one. */
+static void decide(struct capture *capture) {
+    const char *magic = CAPTURE_MAGIC;
+    size_t length = strlen(magic), same = 0;
+    while (same < length && await(capture, same + 1) &&
+           capture->buffer[same] == (uint8_t)magic[same])
+        same++;
+    capture->marked = same == length;
+    if (capture->marked)
+        take(capture, length);
+}
+
+bool capture_open(struct capture *capture, const char *name, uint32_t side) {
+    bool standard = name == NULL || strcmp(name, "-") == 0;
+    struct stat about;
+    capture->name = standard ? "standard input" : name;
+    capture->file = standard ? STDIN_FILENO : open(name, O_RDONLY);
+    capture->ended = capture->file < 0;
+    capture->error = capture->ended ? errno : 0;
+    capture->side = side;
+    capture->whole = capture->position = 0;
+    capture->record = (struct record){0, 0, 0};
+    capture->start = capture->end = 0;
+    if (fstat(capture->file, &about) == 0 && S_ISREG(about.st_mode))
+        capture->whole = (uint64_t)about.st_size;
+    decide(capture);
+    return capture->error == 0;
+}
+
+void capture_close(struct capture *capture) {
+    if (capture->file > STDIN_FILENO)
+        close(capture->file);
+    capture->file = -1;
+}
+
+/* Moves to the next record that has bytes, unless the last one has some left; false at the end. */
+static bool enter_record(struct capture *capture) {
+    struct record *record = &capture->record;
+    while (record->given == record->promised) {
+        if (!await(capture, RECORD_HEAD))
+            return false;
+        const uint8_t *head = take(capture, RECORD_HEAD);
+        *record = (struct record){head[0], get_32(head + 1), 0};
+    }
+    return true;
+}
+
+bool capture_next(struct capture *capture, struct piece *piece) {
+    struct record *record = &capture->record;
+    if ((capture->marked && !enter_record(capture)) || !await(capture, 1))
+        return false;
+    size_t there = capture->end - capture->start, left = record->promised - record->given;
+    size_t length = capture->marked && left < there ? left : there;
+    uint32_t side = capture->marked ? record->side : capture->side;
+    *piece = (struct piece){side, take(capture, length), length};
+    record->given += capture->marked ? length : 0;
+    return true;
+}
+
+enum cut capture_cut(const struct capture *capture) {
+    if (capture->record.given < capture->record.promised)
+        return CUT_IN_RECORD;
+    return capture->end > capture->start ? CUT_IN_HEAD : NOT_CUT;
 }

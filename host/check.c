@@ -2,19 +2,12 @@
 #include "messages.h"
 #include "progress.h"
 
-#include <stdlib.h>
-
-/* Whether the current message is refused, or the capture ends inside its record. */
-static bool refused(const struct session *session) {
-    const struct part *part;
-    return session->message.event == CUT_RECORD || session_refusal(session, &part) != NULL;
-}
-
+/* Of a message its head and the first refusal in it. */
 static void print_refused(const struct screen *screen, const struct session *session) {
     const struct message *message = &session->message;
     const struct part *part;
-    if (message->event == CUT_RECORD) {
-        print_cut_record(screen, 0, &message->record);
+    if (session->event != MESSAGE) {
+        print_event(screen, session);
         return;
     }
     print_message_head(screen, message);
@@ -27,13 +20,14 @@ static void print_refused(const struct screen *screen, const struct session *ses
 /* Whether the current message holds a value that is not described. */
 static bool unread(const struct session *session) {
     const struct message *message = &session->message;
-    return message->part_count > 0 && message->parts[0].kind == UNREAD_PART;
+    return session->event == MESSAGE && message->part_count > 0 &&
+           message->parts[0].kind == UNREAD_PART;
 }
 
 /* The closing lines where nothing was refused. A capture without a message has not been found good. */
 static int print_outcome(const struct screen *screen, const struct session *session,
                          unsigned long unread_values) {
-    print_sum(screen, session, 0);
+    print_sum(screen, session);
     if (session->messages > 0 && unread_values == 0)
         return DONE;
     if (session->messages == 0)
@@ -45,24 +39,24 @@ static int print_outcome(const struct screen *screen, const struct session *sess
     return REFUSED;
 }
 
-int command_check(const struct capture *capture) {
+int command_check(struct capture *capture) {
     struct screen screen = screen_on(stdout, MOST_TEXT);
-    struct progress progress = progress_for(capture->length, false);
+    struct progress progress = progress_for(capture->whole, false);
     struct session *session = session_new(capture);
     unsigned long unread_values = 0;
     int status = DONE;
     if (session == NULL)
         return no_memory();
     while (status == DONE && session_next(session)) {
-        progress_at(&progress, session->record.at + session->used);
+        progress_at(&progress, capture->position);
         unread_values += unread(session);
-        status = refused(session) ? REFUSED : DONE;
+        status = session->refused + session->unfinished > 0 ? REFUSED : DONE;
     }
     progress_end(&progress);
     if (status == REFUSED)
         print_refused(&screen, session);
-    else
+    else if (capture->error == 0)
         status = print_outcome(&screen, session, unread_values);
-    free(session);
+    session_free(session);
     return finished(status);
 }

@@ -5,15 +5,14 @@
 #include "tree.h"
 
 #include <inttypes.h>
-#include <stdlib.h>
 
 /* Moves to the message with a row; false if there is none. */
 static bool go_to_row(struct session *session, unsigned long row) {
-    struct progress progress = progress_for(session->capture->length, false);
+    struct progress progress = progress_for(session->capture->whole, false);
     bool found = false;
     while (!found && session_next(session)) {
-        progress_at(&progress, session->record.at + session->used);
-        found = session->message.event == MESSAGE && session->message.row == row;
+        progress_at(&progress, session->capture->position);
+        found = session->event == MESSAGE && session->message.row == row;
     }
     progress_end(&progress);
     return found;
@@ -31,17 +30,18 @@ static void print_one_number(const struct screen *screen, rembulfose_number numb
 static void print_found(const struct screen *screen, const struct message *message,
                         rembulfose_answer found, const uint8_t *path, size_t path_words) {
     const struct part *part = &message->parts[0];
-    struct listed listed = {part->plan, part->bytes, message->list,
+    struct listed listed = {part->plan, part->sent.bytes, message->list,
                             part->answer.first / REMBULFOSE_ENTRY_WORDS};
     size_t entry;
     uint32_t parent;
     print_size(screen, PLAIN, found.second);
-    fprintf(screen->out, " at %u of row %lu (byte %zu of the capture)\n", (unsigned)found.first,
-            message->row, part->at + found.first);
+    fprintf(screen->out, " at %u of row %lu ", (unsigned)found.first, message->row);
+    print_place(screen, part->sent.side, part->sent.at + found.first);
+    fputc('\n', screen->out);
     if (part->answer.number == 0 && tree_entry(&listed, path, path_words, &entry, &parent)) {
         print_tree(screen, 0, &listed, entry, parent);
     } else {
-        print_bytes(screen, part->bytes + found.first, found.second);
+        print_bytes(screen, part->sent.bytes + found.first, found.second);
         fputc('\n', screen->out);
     }
 }
@@ -68,17 +68,18 @@ static int find_in_row(const struct screen *screen, const struct message *messag
         return REFUSED;
     }
     const struct plan *plan = part->plan;
-    rembulfose_answer found = rembulfose_find(plan->words, plan->length, part->bytes, part->length,
+    const struct sent *row = &part->sent;
+    rembulfose_answer found = rembulfose_find(plan->words, plan->length, row->bytes, row->length,
                                               path, 4 * path_words);
     if (found.number != 0)
         return print_not_found(screen, part, found);
     print_found(screen, message, found, path, path_words);
-    print_one_number(screen, rembulfose_find_number(plan->words, plan->length, part->bytes,
-                                                    part->length, path, 4 * path_words));
+    print_one_number(screen, rembulfose_find_number(plan->words, plan->length, row->bytes,
+                                                    row->length, path, 4 * path_words));
     return DONE;
 }
 
-int command_find(const struct capture *capture, unsigned long row, const uint8_t *path,
+int command_find(struct capture *capture, unsigned long row, const uint8_t *path,
                  size_t path_words) {
     struct screen screen = screen_on(stdout, SIZE_MAX);
     struct session *session = session_new(capture);
@@ -87,8 +88,8 @@ int command_find(const struct capture *capture, unsigned long row, const uint8_t
         return no_memory();
     if (go_to_row(session, row))
         status = find_in_row(&screen, &session->message, path, path_words);
-    else
+    else if (capture->error == 0)
         print(&screen, BAD, "there is no row %lu: the capture has %lu\n", row, session->rows);
-    free(session);
+    session_free(session);
     return finished(status);
 }

@@ -1,6 +1,6 @@
 #include "hexview.h"
 
-#include "../include/rembulfose.h"
+#include <inttypes.h>
 
 enum { MOST_PER_LINE = 16, GAP_AFTER = 8, LINES_AROUND = 2 };
 
@@ -79,13 +79,21 @@ void hexview(const struct screen *screen, unsigned depth, const uint8_t *bytes, 
             hex_line(screen, &view, line * view.per_line);
 }
 
-void print_refusal(const struct screen *screen, unsigned depth, uint32_t number, uint32_t place,
-                   const char *what, const uint8_t *bytes, size_t length, size_t at) {
+void print_place(const struct screen *screen, uint32_t side, uint64_t at) {
+    fprintf(screen->out, "(byte %" PRIu64 " from the ", at);
+    print_side(screen, PLAIN, side);
+    fputc(')', screen->out);
+}
+
+void print_refusal(const struct screen *screen, unsigned depth, rembulfose_answer answer,
+                   const struct sent *sent) {
     print_indent(screen, depth);
-    print(screen, BAD, "refused with %u: %s", (unsigned)number, rembulfose_refusal_text(number));
+    print(screen, BAD, "refused with %u: %s", (unsigned)answer.number,
+          rembulfose_refusal_text(answer.number));
     fputc('\n', screen->out);
     print_indent(screen, depth);
-    fprintf(screen->out, "at byte %u of the %s (byte %zu of the capture)\n", (unsigned)place, what,
-            at + place);
-    hexview(screen, depth, bytes, length, place);
+    fprintf(screen->out, "at byte %u of the %s ", (unsigned)answer.place, sent->name);
+    print_place(screen, sent->side, sent->at + answer.place);
+    fputc('\n', screen->out);
+    hexview(screen, depth, sent->bytes, sent->length, answer.place);
 }

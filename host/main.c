@@ -13,14 +13,16 @@ static const char help[] =
     "panel - decodes a capture of the wire between a panel and its batch tracker\n"
     "\n"
     "usage:\n"
-    "  panel show  [--client] [FILE]           print every message\n"
-    "  panel check [--client] [FILE]           read every message, stop at the first refusal\n"
-    "  panel find  [--client] FILE ROW [PATH]  print one element of a row\n"
-    "  panel --help                            print this\n"
-    "  panel --version                         print the version\n"
+    "  panel show   [--client] [FILE]           print every message\n"
+    "  panel follow [--client]                  the same, as standard input comes in\n"
+    "  panel check  [--client] [FILE]           read every message, stop at the first refusal\n"
+    "  panel find   [--client] FILE ROW [PATH]  print one element of a row\n"
+    "  panel --help                             print this\n"
+    "  panel --version                          print the version\n"
     "\n"
     "FILE is a capture; without one, or with -, standard input is read. After -- a\n"
-    "word that starts with a dash is no option.\n"
+    "word that starts with a dash is no option. `follow` reads standard input alone:\n"
+    "a pipe from a live line, of which each message is printed once it is whole.\n"
     "ROW counts the capture's D messages from 1, as `panel show` does.\n"
     "PATH is the indexes that lead to the element from the top, with dots between\n"
     "them, as `panel show` prints them: 2 is the third element, 2.0 the first one\n"
@@ -32,28 +34,30 @@ static const char help[] =
     "message that is refused and may have been a newer description they are not\n"
     "described: `show` gives their bytes, `find` refuses, `check` ends with 1.\n"
     "Whatever the library refuses is printed with the number, its meaning, and the\n"
-    "bytes around the place. `show` goes on after a refusal where it can.\n"
+    "bytes around the place. `show` goes on after a refusal; only behind a length that\n"
+    "is not permitted (2) the rest of that side is not read, and this is said at the\n"
+    "end, as is what lacks of a message that is not whole.\n"
     "\n"
     "captures:\n"
     "  side-marked   The line \"rembulfose-capture 1\", then records: a byte for the\n"
     "                side (0 client, 1 server), a length of 4 bytes, big-endian, and\n"
-    "                so many bytes, which are whole messages of that side.\n"
+    "                so many bytes of that side. Records may cut messages anywhere.\n"
     "  one-sided     Any other file: the bytes that the server sent, as they went\n"
     "                over the wire; with --client, those that the client sent.\n"
     "                --client with a side-marked capture is an error.\n"
+    "Where a message starts is counted in the bytes of its side.\n"
     "\n"
     "Colour and the bar for long captures appear on a terminal only. If NO_COLOR is\n"
     "set there is no colour.\n"
     "\n"
     "exit status:\n"
     "  0  all was printed; check: nothing was refused; find: the element was found\n"
-    "  1  check: something was refused or could not be checked, or there was nothing\n"
-    "     to check; find: not found\n"
+    "  1  check: something was refused, is unfinished or could not be checked, or\n"
+    "     there was nothing to check; find: not found\n"
     "  2  the command was not understood, or the capture could not be read\n";
 
 struct arguments {
-    const char *command;
-    const char *words[3]; /* FILE ROW PATH */
+    const char *words[3]; /* FILE ROW PATH; null and empty where they are not given */
     int count;
     uint32_t side;
 };
@@ -79,7 +83,7 @@ static int misused(const char *why) {
  * option. */
 static bool sort_arguments(int count, char **words, struct arguments *arguments) {
     bool options = true;
-    *arguments = (struct arguments){.command = words[1], .side = SERVER};
+    *arguments = (struct arguments){.words = {NULL, "", ""}, .side = SERVER};
     for (int i = 2; i < count; i++) {
         bool dashed = options && words[i][0] == '-' && words[i][1] != 0;
         if (dashed && strcmp(words[i], "--") == 0)
@@ -122,38 +126,39 @@ static bool take_path(const char *text, uint8_t *path, size_t *count) {
     return false;
 }
 
-/* Reads the capture that is named; if it cannot be read, says so. One that says itself who sent what is
- * not taken as the client's. */
-static bool load(const struct arguments *arguments, struct capture *capture) {
-    const char *name = arguments->words[0];
-    if (!capture_load(capture, name, arguments->side)) {
-        fprintf(stderr, "panel: cannot read %s: %s\n", name == NULL ? "standard input" : name,
-                strerror(errno));
+/* Opens the capture that is named. One that says itself who sent what is not taken as the client's. */
+static bool open_capture(const struct arguments *arguments, struct capture *capture) {
+    if (!capture_open(capture, arguments->words[0], arguments->side))
         return false;
-    }
-    if (capture->marked && arguments->side == CLIENT) {
-        misused("--client is for one side's bytes, and this capture is side-marked");
-        capture_free(capture);
-        return false;
-    }
-    return true;
+    if (!capture->marked || arguments->side != CLIENT)
+        return true;
+    misused("--client is for one side's bytes, and this capture is side-marked");
+    return false;
+}
+
+/* The status of a command that has ended; if the capture could not be read, says so. */
+static int close_capture(struct capture *capture, int status) {
+    capture_close(capture);
+    if (capture->error == 0)
+        return status;
+    fprintf(stderr, "panel: cannot read %s: %s\n", capture->name, strerror(capture->error));
+    return TROUBLE;
 }
 
 static int find_in_capture(const struct arguments *arguments, uint32_t row, const uint8_t *path,
                            size_t path_words) {
     struct capture capture;
-    if (!load(arguments, &capture))
-        return TROUBLE;
-    int status = command_find(&capture, row, path, path_words);
-    capture_free(&capture);
-    return status;
+    int status = TROUBLE;
+    if (open_capture(arguments, &capture))
+        status = command_find(&capture, row, path, path_words);
+    return close_capture(&capture, status);
 }
 
 /* Row and path are understood before anything is read: whoever mistypes them should not have to wait
  * for standard input to end. */
 static int run_find(const struct arguments *arguments) {
     const char *row_text = arguments->words[1];
-    const char *path_text = arguments->count > 2 ? arguments->words[2] : "";
+    const char *path_text = arguments->words[2];
     uint8_t *path = malloc(4 * (strlen(path_text) / 2 + 1));
     uint32_t row;
     size_t path_words;
@@ -170,14 +175,30 @@ static int run_find(const struct arguments *arguments) {
     return status;
 }
 
-static int run_whole(const struct arguments *arguments) {
+static int run_whole(const struct arguments *arguments, int (*command)(struct capture *)) {
     struct capture capture;
-    if (!load(arguments, &capture))
-        return TROUBLE;
-    bool show = strcmp(arguments->command, "show") == 0;
-    int status = show ? command_show(&capture) : command_check(&capture);
-    capture_free(&capture);
-    return status;
+    int status = TROUBLE;
+    if (open_capture(arguments, &capture))
+        status = command(&capture);
+    return close_capture(&capture, status);
+}
+
+struct command {
+    const char *name;
+    int least, most;                  /* how many of FILE ROW PATH it takes */
+    int (*whole)(struct capture *);   /* of those that are about a capture as a whole */
+};
+
+/* The command of a name; null if there is none. */
+static const struct command *command_of(const char *name) {
+    static const struct command commands[] = {{"show", 0, 1, command_show},
+                                              {"follow", 0, 0, command_follow},
+                                              {"check", 0, 1, command_check},
+                                              {"find", 2, 3, NULL}};
+    for (size_t i = 0; i < sizeof commands / sizeof commands[0]; i++)
+        if (strcmp(commands[i].name, name) == 0)
+            return &commands[i];
+    return NULL;
 }
 
 /* Whether an option stands before or after the command, and not after --. */
@@ -200,14 +221,14 @@ int main(int count, char **words) {
         puts("panel " REMBULFOSE_VERSION);
         return finished(DONE);
     }
-    bool find = strcmp(words[1], "find") == 0;
-    if (!find && strcmp(words[1], "show") != 0 && strcmp(words[1], "check") != 0)
+    const struct command *command = command_of(words[1]);
+    if (command == NULL)
         return misused("no such command");
     if (!sort_arguments(count, words, &arguments))
         return misused("an argument is not understood");
-    if (find && arguments.count < 2)
+    if (arguments.count < command->least)
         return misused("find needs FILE and ROW");
-    if (!find && arguments.count > 1)
+    if (arguments.count > command->most)
         return misused("too many arguments");
-    return find ? run_find(&arguments) : run_whole(&arguments);
+    return command->whole == NULL ? run_find(&arguments) : run_whole(&arguments, command->whole);
 }

@@ -14,22 +14,22 @@ struct fields {
     size_t next; /* a word of the list */
 };
 
-static const char *side_name(uint32_t side) {
-    return side == CLIENT ? "client" : side == SERVER ? "server" : "unknown side";
+/* "server D Data": who sent it, its type byte, and its name. */
+static void print_title(const struct screen *screen, enum ink ink, uint32_t side, uint8_t type) {
+    const struct layout *layout = layout_of(side, type);
+    bool letter = type > 0x20 && type < 0x7f;
+    print_side(screen, ink, side);
+    print(screen, ink, letter ? " %c" : " %02x", type);
+    print(screen, ink, " %s", layout == NULL ? "(unknown)" : layout->name);
 }
 
 void print_message_head(const struct screen *screen, const struct message *message) {
-    uint8_t type = message->bytes[0];
-    const struct layout *layout = layout_of(message->record.side, type);
-    print(screen, STRONG, "message %lu: %s ", message->number, side_name(message->record.side));
-    if (type > 0x20 && type < 0x7f)
-        print(screen, STRONG, "%c", type);
-    else
-        print(screen, STRONG, "%02x", type);
-    print(screen, STRONG, " %s", layout == NULL ? "(unknown)" : layout->name);
-    print(screen, FAINT, ", ");
-    print_size(screen, FAINT, message->length);
-    print(screen, FAINT, " at %zu", message->at);
+    const struct sent *sent = &message->sent;
+    print(screen, STRONG, "message %lu: ", message->number);
+    print_title(screen, STRONG, sent->side, sent->bytes[0]);
+    print(screen, FAINT, message->answer.number == REMBULFOSE_BAD_LENGTH ? ", a head of " : ", ");
+    print_size(screen, FAINT, sent->length);
+    print(screen, FAINT, " at %" PRIu64, sent->at);
     if (message->row > 0)
         print(screen, GOOD, ", row %lu", message->row);
     fputc('\n', screen->out);
@@ -90,7 +90,7 @@ static void print_fields(const struct screen *screen, unsigned depth, const stru
                          struct fields *fields) {
     const struct message *message = fields->message;
     for (; field->name != NULL && fields->next + 2 <= message->answer.second; field++) {
-        const uint8_t *bytes = message->bytes + rembulfose_word(message->fields, fields->next);
+        const uint8_t *bytes = message->sent.bytes + rembulfose_word(message->fields, fields->next);
         size_t length = rembulfose_word(message->fields, fields->next + 1);
         fields->next += 2;
         print_indent(screen, depth);
@@ -103,29 +103,17 @@ static void print_fields(const struct screen *screen, unsigned depth, const stru
 
 void print_message_refusal(const struct screen *screen, unsigned depth,
                            const struct message *message) {
-    print_refusal(screen, depth, message->answer.number, message->answer.place, "message",
-                  message->bytes, message->length, message->at);
+    print_refusal(screen, depth, message->answer, &message->sent);
 }
 
 void print_part_refusal(const struct screen *screen, unsigned depth, const struct part *part) {
-    print_refusal(screen, depth, part->answer.number, part->answer.place, part->name, part->bytes,
-                  part->length, part->at);
-}
-
-void print_cut_record(const struct screen *screen, unsigned depth, const struct record *record) {
-    print_indent(screen, depth);
-    if (record->promised == 0)
-        print(screen, BAD, "the capture ends inside the head of a record, at byte %zu", record->at);
-    else
-        print(screen, BAD, "the capture ends inside a record: of its %zu bytes %zu are there",
-              record->promised, record->length);
-    fputc('\n', screen->out);
+    print_refusal(screen, depth, part->answer, &part->sent);
 }
 
 static void print_descriptor(const struct screen *screen, const struct part *part) {
     print_indent(screen, 1);
-    fprintf(screen->out, "%s: ", part->name);
-    print_size(screen, PLAIN, part->length);
+    fprintf(screen->out, "%s: ", part->sent.name);
+    print_size(screen, PLAIN, part->sent.length);
     if (plan_root(part->plan) == 0)
         fputs(", no type\n", screen->out);
     else
@@ -135,11 +123,11 @@ static void print_descriptor(const struct screen *screen, const struct part *par
 
 static void print_value(const struct screen *screen, const struct message *message,
                         const struct part *part) {
-    struct listed listed = {part->plan, part->bytes, message->list,
+    struct listed listed = {part->plan, part->sent.bytes, message->list,
                             part->answer.first / REMBULFOSE_ENTRY_WORDS};
     print_indent(screen, 1);
-    fprintf(screen->out, "%s: ", part->name);
-    print_size(screen, PLAIN, part->length);
+    fprintf(screen->out, "%s: ", part->sent.name);
+    print_size(screen, PLAIN, part->sent.length);
     fputs(listed.entries == 0 ? ", no type\n" : "\n", screen->out);
     print_tree(screen, 2, &listed, 0, 0);
 }
@@ -155,10 +143,10 @@ void print_undescribed(const struct screen *screen, const struct part *part) {
 /* The bytes of a value that is not described. */
 static void print_unread(const struct screen *screen, const struct part *part) {
     print_indent(screen, 1);
-    print(screen, BAD, "%s: ", part->name);
+    print(screen, BAD, "%s: ", part->sent.name);
     print_undescribed(screen, part);
     print_indent(screen, 2);
-    print_bytes(screen, part->bytes, part->length);
+    print_bytes(screen, part->sent.bytes, part->sent.length);
     fputc('\n', screen->out);
 }
 
@@ -174,27 +162,71 @@ static void print_part(const struct screen *screen, const struct message *messag
         print_unread(screen, part);
 }
 
-void print_message(const struct screen *screen, const struct session *session) {
-    const struct message *message = &session->message;
-    if (message->event == CUT_RECORD) {
-        print_cut_record(screen, 0, &message->record);
-        return;
-    }
+static void print_message(const struct screen *screen, const struct message *message) {
+    const struct sent *sent = &message->sent;
     print_message_head(screen, message);
     if (message->answer.number != 0) {
         print_message_refusal(screen, 2, message);
         return;
     }
     struct fields fields = {message, 0};
-    print_fields(screen, 1, layout_of(message->record.side, message->bytes[0])->fields, &fields);
+    print_fields(screen, 1, layout_of(sent->side, sent->bytes[0])->fields, &fields);
     for (unsigned i = 0; i < message->part_count; i++)
         print_part(screen, message, &message->parts[i]);
 }
 
-void print_sum(const struct screen *screen, const struct session *session,
-                      unsigned long refusals) {
+static void print_cut_record(const struct screen *screen, const struct capture *capture) {
+    bool in_head = capture_cut(capture) == CUT_IN_HEAD;
+    size_t whole = in_head ? RECORD_HEAD : capture->record.promised;
+    size_t there = in_head ? capture->end - capture->start : capture->record.given;
+    print(screen, BAD, "the capture ends inside %s: of its %zu bytes %zu are there",
+          in_head ? "the head of a record" : "a record", whole, there);
+    fputc('\n', screen->out);
+}
+
+/* A side's last message, which is not whole: what is there of it, and what lacks, of the head as long as
+ * that is not whole. */
+static void print_unfinished(const struct screen *screen, const struct side *side) {
+    print(screen, BAD, "unfinished: ");
+    print_title(screen, BAD, side->number, side->bytes[0]);
+    print(screen, BAD, ", ");
+    print_size(screen, BAD, side->held);
+    print(screen, BAD, " held at %" PRIu64 ", ", side->at);
+    print_size(screen, BAD, side->lacks);
+    print(screen, BAD, side->held < MESSAGE_HEAD ? " of its head lacking" : " lacking");
+    fputc('\n', screen->out);
+}
+
+static void print_unread_rest(const struct screen *screen, const struct side *side) {
+    print(screen, BAD, "not read: %" PRIu64 " byte%s from the ", side->unread,
+          side->unread == 1 ? "" : "s");
+    print_side(screen, BAD, side->number);
+    print(screen, BAD, ", behind message %lu", side->ended);
+    fputc('\n', screen->out);
+}
+
+void print_event(const struct screen *screen, const struct session *session) {
+    switch (session->event) {
+    case MESSAGE:
+        print_message(screen, &session->message);
+        return;
+    case CUT_RECORD:
+        print_cut_record(screen, session->capture);
+        return;
+    case UNFINISHED:
+        print_unfinished(screen, session->side);
+        return;
+    case UNREAD_REST:
+        print_unread_rest(screen, session->side);
+        return;
+    }
+}
+
+void print_sum(const struct screen *screen, const struct session *session) {
     print(screen, STRONG, "%lu message%s, %lu row%s, ", session->messages,
           session->messages == 1 ? "" : "s", session->rows, session->rows == 1 ? "" : "s");
-    print(screen, refusals > 0 ? BAD : GOOD, "%lu refused", refusals);
+    print(screen, session->refused > 0 ? BAD : GOOD, "%lu refused", session->refused);
+    if (session->unfinished > 0)
+        print(screen, BAD, ", %lu unfinished", session->unfinished);
     fputc('\n', screen->out);
 }

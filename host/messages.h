@@ -5,17 +5,15 @@
 #include "screen.h"
 #include "session.h"
 
-/* Prints the current message of a session with all that is in it. */
-void print_message(const struct screen *screen, const struct session *session);
+/* Prints what a session has come to: a message with all that is in it, or what is wrong at the end. */
+void print_event(const struct screen *screen, const struct session *session);
 
 /* The line that says which message it is. */
 void print_message_head(const struct screen *screen, const struct message *message);
 
-/* The closing line: how many messages and rows were read, and how many messages were refused. */
-void print_sum(const struct screen *screen, const struct session *session, unsigned long refusals);
-
-/* Prints what is wrong with a record that is cut. */
-void print_cut_record(const struct screen *screen, unsigned depth, const struct record *record);
+/* The closing line: how many messages and rows were read, how many messages were refused, and how much is
+ * unfinished, if anything is. */
+void print_sum(const struct screen *screen, const struct session *session);
 
 /* Prints a refusal of the message itself. */
 void print_message_refusal(const struct screen *screen, unsigned depth,

@@ -11,8 +11,10 @@ rembulfose_answer plan_compile(struct plan *plan, const uint8_t *id, const uint8
     memcpy(plan->id, id, 16);
     memset(plan->names, 0, sizeof plan->names);
     memset(plan->tags, 0, sizeof plan->tags);
-    if (plan->known)
-        plan_take_names(plan, descriptor, length);
+    if (plan->known && length > 0) {
+        memcpy(plan->descriptor, descriptor, length); /* it is no longer than a descriptor may be */
+        plan_take_names(plan, plan->descriptor, length);
+    }
     return answer;
 }
 

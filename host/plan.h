@@ -19,10 +19,11 @@ struct plan {
     size_t length;                /* bytes of words */
     struct name names[REMBULFOSE_MOST_WORDS]; /* at the word that refers to the element */
     uint8_t tags[REMBULFOSE_MOST_WORDS];      /* at a node's first word, its block's tag */
+    uint8_t descriptor[REMBULFOSE_MOST_DESCRIPTOR]; /* a copy, which the names point into */
 };
 
 /* Compiles a descriptor for the id of 16 bytes. The answer is the library's; a plan that was known
- * before is forgotten either way. The names point into the descriptor. */
+ * before is forgotten either way. */
 rembulfose_answer plan_compile(struct plan *plan, const uint8_t *id, const uint8_t *descriptor,
                                size_t length);
 

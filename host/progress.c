@@ -6,13 +6,13 @@
 
 enum { LONG_CAPTURE = 1 << 20, WIDTH = 40 };
 
-struct progress progress_for(size_t whole, bool busy) {
+struct progress progress_for(uint64_t whole, bool busy) {
     bool same_terminal = busy && isatty(STDOUT_FILENO);
     bool shown = whole >= LONG_CAPTURE && isatty(STDERR_FILENO) && !same_terminal;
     return (struct progress){shown, whole, 101};
 }
 
-void progress_at(struct progress *progress, size_t done) {
+void progress_at(struct progress *progress, uint64_t done) {
     if (!progress->shown)
         return;
     unsigned percent = (unsigned)(done / (progress->whole / 100));

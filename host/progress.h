@@ -3,19 +3,19 @@
 #define PROGRESS_H
 
 #include <stdbool.h>
-#include <stddef.h>
+#include <stdint.h>
 
 struct progress {
     bool shown;
-    size_t whole;
+    uint64_t whole;
     unsigned percent; /* last drawn */
 };
 
 /* A bar for so many bytes. It is drawn on standard error, only if that is a terminal, the capture
  * is long, and standard output does not fill the same terminal (`busy`: the command prints much). */
-struct progress progress_for(size_t whole, bool busy);
+struct progress progress_for(uint64_t whole, bool busy);
 
-void progress_at(struct progress *progress, size_t done);
+void progress_at(struct progress *progress, uint64_t done);
 
 /* Clears the bar's line. */
 void progress_end(struct progress *progress);

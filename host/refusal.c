@@ -33,7 +33,7 @@ static const struct meaning meanings[] = {
     {REMBULFOSE_VALUE_SIZE, "the value has over 65,535 bytes"},
     {REMBULFOSE_PLAN_ROOM, "the room for the plan is too small"},
     {REMBULFOSE_LIST_ROOM, "the room for the list is too small"},
-    {REMBULFOSE_OUTPUT_ROOM, "the room for the output is too small"},
+    {REMBULFOSE_OUTPUT_ROOM, "the room for a message or value is too small, or not as at the start"},
     {REMBULFOSE_BAD_PLAN, "the plan is not well formed"},
     {REMBULFOSE_NO_VALUE, "no accepted value has this supply"},
     {REMBULFOSE_NO_ENTRY, "the path leads to no element"},

@@ -1,11 +1,10 @@
 #include "session.h"
 
-#include "bytes.h"
-
+#include <errno.h>
 #include <stdlib.h>
 #include <string.h>
 
-struct session *session_new(const struct capture *capture) {
+struct session *session_new(struct capture *capture) {
     static const uint8_t zero[16] = {0};
     struct session *session = calloc(1, sizeof *session);
     if (session == NULL)
@@ -13,6 +12,12 @@ struct session *session_new(const struct capture *capture) {
     session->capture = capture;
     plan_compile(&session->none, zero, NULL, 0);
     return session;
+}
+
+void session_free(struct session *session) {
+    for (unsigned i = 0; i < SIDES; i++)
+        free(session->sides[i]);
+    free(session);
 }
 
 /* The last fields of the message, counted back from the end: 1 is the last. */
@@ -27,12 +32,11 @@ static size_t field_length(const struct message *message, size_t back) {
 /* A new part that lies in the field so far back from the message's end. */
 static struct part *add_part(struct message *message, const char *name, size_t back) {
     struct part *part = &message->parts[message->part_count++];
+    const struct sent *sent = &message->sent;
     size_t start = field_start(message, back);
     *part = (struct part){.kind = UNREAD_PART,
-                          .name = name,
-                          .bytes = message->bytes + start,
-                          .length = field_length(message, back),
-                          .at = message->at + start};
+                          .sent = {name, sent->bytes + start, field_length(message, back), sent->side,
+                                   sent->at + start}};
     return part;
 }
 
@@ -42,22 +46,22 @@ static bool compile_part(struct message *message, const char *name, size_t back,
     struct part *part = add_part(message, name, back);
     part->kind = DESCRIPTOR_PART;
     part->plan = plan;
-    part->answer = plan_compile(plan, message->bytes + field_start(message, back + 1), part->bytes,
-                                part->length);
+    part->answer = plan_compile(plan, message->sent.bytes + field_start(message, back + 1),
+                                part->sent.bytes, part->sent.length);
     return part->answer.number == 0;
 }
 
-/* From the current message on it is not certain what values are read by. If it was not before, the
- * first message that left it open counts. */
+/* Since this message it is not certain what values are read by. If it was not before, the first message
+ * that left it open counts. */
 static void lose(struct description *description, unsigned long message) {
     description->plan.known = false;
     if (description->lost == 0)
         description->lost = message;
 }
 
-static void lose_both(struct session *session) {
-    lose(&session->output, session->message.number);
-    lose(&session->state, session->message.number);
+static void lose_both(struct session *session, unsigned long message) {
+    lose(&session->output, message);
+    lose(&session->state, message);
 }
 
 /* A T or s that was read. If a descriptor in it is refused it describes nothing, and what was described
@@ -66,23 +70,17 @@ static void settle(struct session *session, struct description *description, boo
     if (accepted)
         description->lost = 0;
     else
-        lose_both(session);
-}
-
-/* Whether the rest of a message's record is not read: it is not whole, or its length is not permitted,
- * so that nobody knows where the next one starts. */
-static bool ends_record(const struct message *message) {
-    uint32_t number = message->answer.number;
-    return number == REMBULFOSE_NOT_WHOLE || number == REMBULFOSE_BAD_LENGTH;
+        lose_both(session, session->message.number);
 }
 
 /* Whether a message that is refused may have been a newer description, or hide one: a T or an s, whoever
  * is said to have sent it; one whose type is not known, unless it is the client's, who sends many that
- * are none of the ten; and one that leaves the rest of its record unread. */
+ * are none of the ten; and one behind which the rest of its side is not read. */
 static bool may_describe(const struct message *message) {
+    bool describes = message->sent.bytes[0] == 'T' || message->sent.bytes[0] == 's';
     bool unknown = message->answer.number == REMBULFOSE_UNKNOWN_TYPE;
-    bool describes = message->bytes[0] == 'T' || message->bytes[0] == 's';
-    return describes || (unknown && message->record.side != CLIENT) || ends_record(message);
+    bool ends_side = message->answer.number == REMBULFOSE_BAD_LENGTH;
+    return describes || (unknown && message->sent.side != CLIENT) || ends_side;
 }
 
 /* A value in the last field, by a plan; without one it is not described, since a message or at all. */
@@ -95,7 +93,7 @@ static void run_part(struct message *message, const char *name, struct plan *pla
     }
     part->kind = VALUE_PART;
     part->plan = plan;
-    part->answer = rembulfose_run(plan->words, plan->length, part->bytes, part->length,
+    part->answer = rembulfose_run(plan->words, plan->length, part->sent.bytes, part->sent.length,
                                   message->list, sizeof message->list);
 }
 
@@ -110,7 +108,7 @@ static struct plan *state_plan(struct session *session, const uint8_t *id) {
 /* Looks into a message of the server that was read. */
 static void take_parts(struct session *session, struct message *message) {
     bool good;
-    switch (message->bytes[0]) {
+    switch (message->sent.bytes[0]) {
     case 'T':
         good = compile_part(message, "input descriptor", 3, &session->input);
         good = compile_part(message, "output descriptor", 1, &session->output.plan) && good;
@@ -122,7 +120,7 @@ static void take_parts(struct session *session, struct message *message) {
         return;
     case 'C':
         run_part(message, "state data",
-                 state_plan(session, message->bytes + field_start(message, 2)),
+                 state_plan(session, message->sent.bytes + field_start(message, 2)),
                  session->state.lost);
         return;
     case 'D':
@@ -134,45 +132,87 @@ static void take_parts(struct session *session, struct message *message) {
     }
 }
 
-/* How many bytes of the record a message takes, of those that are left. */
-static size_t message_length(const struct message *message, size_t left) {
-    return ends_record(message) ? left : 1 + (size_t)get_32(message->bytes + 1);
-}
-
-static void take_message(struct session *session) {
+/* The message that a side has at hand, whole or refused. The intake lists no fields, so one that it
+ * accepted is read once more. */
+static void take_message(struct session *session, const struct side *side,
+                         rembulfose_answer answer) {
     struct message *message = &session->message;
-    struct record *record = &session->record;
-    size_t left = record->length - session->used;
-    message->event = MESSAGE;
-    message->record = *record;
+    const struct part *part;
     message->number = ++session->messages;
-    message->at = record->at + session->used;
-    message->bytes = session->capture->bytes + message->at;
+    message->sent = (struct sent){"message", side->bytes, side->held, side->number, side->at};
     message->part_count = 0;
     message->row = 0;
-    message->answer = rembulfose_read_message(record->side, message->bytes, left, message->fields,
-                                              sizeof message->fields);
-    message->length = message_length(message, left);
-    session->used += message->length;
-    if (message->answer.number == 0 && record->side == SERVER)
+    if (answer.number == 0)
+        answer = rembulfose_read_message(side->number, side->bytes, side->held, message->fields,
+                                         sizeof message->fields);
+    message->answer = answer;
+    if (answer.number == 0 && side->number == SERVER)
         take_parts(session, message);
-    else if (message->answer.number != 0 && may_describe(message))
-        lose_both(session);
+    else if (answer.number != 0 && may_describe(message))
+        lose_both(session, message->number);
+    session->refused += session_refusal(session, &part) != NULL;
+}
+
+/* Bytes behind a length that is not permitted. They may hide a newer description, whenever they come. */
+static void leave_unread(struct session *session, struct side *side) {
+    lose_both(session, side->ended);
+    side->unread += session->piece.length;
+    session->piece.length = 0;
+}
+
+/* Takes bytes of the piece; whether a message is whole with them, or refused. */
+static bool take_bytes(struct session *session, struct side *side) {
+    rembulfose_answer answer;
+    if (side->ended != 0) {
+        leave_unread(session, side);
+        return false;
+    }
+    if (!side_take(side, &session->piece, &answer))
+        return false;
+    take_message(session, side, answer);
+    if (answer.number == REMBULFOSE_BAD_LENGTH)
+        side->ended = session->messages;
+    side_pass(side);
+    return true;
+}
+
+/* The side whose bytes are in the piece; null if there are none any more, or no memory. */
+static struct side *next_side(struct session *session) {
+    struct capture *capture = session->capture;
+    if (session->piece.length == 0 && !capture_next(capture, &session->piece))
+        return NULL;
+    struct side **side = &session->sides[session->piece.side % SIDES];
+    if (*side == NULL && (*side = side_new(session->piece.side)) == NULL)
+        capture->error = ENOMEM;
+    return *side;
+}
+
+/* What is to be said at the end: a cut record, then of each side that it is unfinished or was not read to
+ * its end, client and server first. */
+static bool next_end(struct session *session) {
+    if (session->event == MESSAGE && capture_cut(session->capture) != NOT_CUT) {
+        session->event = CUT_RECORD;
+        session->unfinished++;
+        return true;
+    }
+    while (session->sides_ended < SIDES) {
+        const struct side *side = session->sides[session->sides_ended++];
+        if (side != NULL && (side->held > 0 || side->unread > 0)) {
+            session->event = side->held > 0 ? UNFINISHED : UNREAD_REST;
+            session->unfinished += side->held > 0;
+            session->side = side;
+            return true;
+        }
+    }
+    return false;
 }
 
 bool session_next(struct session *session) {
-    while (session->used >= session->record.length) {
-        if (session->record.cut && !session->said_cut) {
-            session->said_cut = true;
-            session->message = (struct message){.event = CUT_RECORD, .record = session->record};
+    struct side *side;
+    while ((side = next_side(session)) != NULL)
+        if (take_bytes(session, side))
             return true;
-        }
-        if (!capture_record(session->capture, &session->position, &session->record))
-            return false;
-        session->used = 0;
-    }
-    take_message(session);
-    return true;
+    return session->capture->error == 0 && next_end(session);
 }
 
 const rembulfose_answer *session_refusal(const struct session *session, const struct part **part) {

@@ -1,33 +1,26 @@
-/* The messages of a capture one after the other, and what is carried from one to the next: the plans
- * of the descriptors met, and the count of rows. */
+/* The messages of a capture one after the other, and what is carried from one to the next: the sides,
+ * the plans of the descriptors met, and the counts. */
 #ifndef SESSION_H
 #define SESSION_H
 
-#include "capture.h"
 #include "plan.h"
+#include "side.h"
 
 /* A descriptor or value inside a message. */
 enum part_kind { DESCRIPTOR_PART, VALUE_PART, UNREAD_PART };
 
 struct part {
     enum part_kind kind;
-    const char *name;       /* "input descriptor", "row", ... */
-    const uint8_t *bytes;
-    size_t length, at;      /* at: where they start in the capture */
+    struct sent sent;       /* its bytes, and what it is: "input descriptor", "row", .. */
     struct plan *plan;      /* that was compiled, or that the value was run by */
     rembulfose_answer answer; /* the library's; of UNREAD_PART (not described) zero */
     unsigned long lost;     /* of UNREAD_PART: the message since which its description is lost; 0 if
                              * none was met */
 };
 
-enum event { MESSAGE, CUT_RECORD };
-
 struct message {
-    enum event event;         /* CUT_RECORD: the capture ends inside the record; only `record` counts */
-    struct record record;
     unsigned long number;     /* messages are counted from 1 */
-    const uint8_t *bytes;
-    size_t length, at;        /* if it is refused with 1 or 2, all that is left of the record */
+    struct sent sent;         /* of one whose length is not permitted, the head alone */
     rembulfose_answer answer; /* of reading it */
     uint8_t fields[REMBULFOSE_ROOM]; /* the list of its fields */
     struct part parts[2];
@@ -44,22 +37,36 @@ struct description {
                                * if no description was met */
 };
 
+/* What a session has come to. Messages come first, the others at the capture's end. */
+enum event {
+    MESSAGE,     /* a message that is whole, or refused */
+    CUT_RECORD,  /* the capture ends inside a record */
+    UNFINISHED,  /* a side's last message is not whole */
+    UNREAD_REST  /* bytes of a side were not read, behind a length that is not permitted */
+};
+
+enum { SIDES = 256 };
+
 struct session {
-    const struct capture *capture;
-    size_t position;          /* in the capture: the next record */
-    struct record record;
-    size_t used;              /* bytes of the record */
-    bool said_cut;            /* whether it was said that the record is cut */
+    struct capture *capture;
+    struct piece piece;       /* what has come and is not taken yet */
+    struct side *sides[SIDES]; /* by the byte that stands for them; null if nothing came from one */
+    enum event event;
+    const struct side *side;  /* of UNFINISHED and UNREAD_REST */
+    unsigned sides_ended;     /* at the end: how many sides were looked at */
     unsigned long messages, rows;
+    unsigned long refused, unfinished; /* messages that were refused; CUT_RECORD and UNFINISHED */
     struct description output, state; /* of rows and of state data */
     struct plan input, none;  /* of the last T's arguments, only shown; and of "no type" */
     struct message message;   /* the current one */
 };
 
-/* A session at the capture's start; null if there is no memory. To be freed. */
-struct session *session_new(const struct capture *capture);
+/* A session at the capture's start; null if there is no memory. */
+struct session *session_new(struct capture *capture);
 
-/* Moves to the next message; false at the end. */
+void session_free(struct session *session);
+
+/* Moves to the next event; false at the end, and if the capture could not be read on. */
 bool session_next(struct session *session);
 
 /* The first refusal in the current message: of reading it, or of a part; null if there is none. A part

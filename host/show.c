@@ -2,23 +2,25 @@
 #include "messages.h"
 #include "progress.h"
 
-#include <stdlib.h>
-
-int command_show(const struct capture *capture) {
+int print_capture(struct capture *capture, bool live) {
     struct screen screen = screen_on(stdout, MOST_TEXT);
-    struct progress progress = progress_for(capture->length, true);
+    struct progress progress = progress_for(live ? 0 : capture->whole, true);
     struct session *session = session_new(capture);
-    const struct part *part;
-    unsigned long refusals = 0;
+    bool printed = true;
     if (session == NULL)
         return no_memory();
-    while (session_next(session)) {
-        print_message(&screen, session);
-        refusals += session->message.event == CUT_RECORD || session_refusal(session, &part) != NULL;
-        progress_at(&progress, session->record.at + session->used);
+    while (printed && session_next(session)) {
+        print_event(&screen, session);
+        progress_at(&progress, capture->position);
+        printed = !live || fflush(stdout) == 0;
     }
     progress_end(&progress);
-    print_sum(&screen, session, refusals);
-    free(session);
+    if (capture->error == 0)
+        print_sum(&screen, session);
+    session_free(session);
     return finished(DONE);
+}
+
+int command_show(struct capture *capture) {
+    return print_capture(capture, false);
 }

@@ -3,17 +3,17 @@
  * What is accepted, answered and refused stands in docs/RULES.md, rule by rule; a number such as R5.3 is a rule there.
  *
  * Every call ends, stays inside its buffers, and answers for any bytes and any lengths (R1.13). A refusal returns a number
- * and a place, and 0 in every other field; all that was lent is as it was before (R1.1). On success number and place are 0,
- * and of a room only the bytes that the result needs are written (R1.2). No call keeps a pointer, allocates memory or has a
- * state: calls may be made from several threads at once.
+ * and a place, and 0 in every other field but an intake's state; all that was lent is as it was before (R1.1), but for an
+ * intake's room (R10.7). On success number and place are 0, and of a room only the bytes that the result needs are written
+ * (R1.2). No call keeps a pointer, allocates memory or has a state of its own: calls may be made from several threads at once.
  *
  * Arguments. A run of bytes is a pointer and a length. What is const is only read. A room is what a call may write to:
  * if the result needs less, the rest is not touched; if it needs more, that is a refusal (30, 31, 32) and nothing is
  * written. Lengths are always in bytes. A null pointer is good where its length is 0 (R9.2).
  *
  * The words of a plan, list or path are passed as bytes, four each, the highest first: REMBULFOSE_MOST_WORDS words at most
- * (R9.3, R9.4). A room for such words counts as its length / 4, and never as more than that (R9.6). Input messages, sources
- * and output rooms may be of any size (R9.7).
+ * (R9.3, R9.4). A room for such words counts as its length / 4, and never as more than that (R9.6). Input messages, sources,
+ * deliveries, and rooms for output or an intake may be of any size (R9.7).
  *
  * Largest sizes (R1.4): 65,535 bytes of a descriptor (17) and of a value (28); and in a descriptor (17) height 32, 1,024
  * blocks that have an index, and 512 as each count of a block.
@@ -61,6 +61,23 @@ typedef struct {
     uint64_t bits;
 } rembulfose_number;
 
+/* The state of an intake, which joins the deliveries of one side (section 10): a struct that the host keeps and hands in
+ * again. room: the length of the room that was lent at the start. side: who sends. held: bytes that wait at the room's front.
+ * number and place: of the refusal that ended it, or 0. Only rembulfose_intake_start, _reset and _take make one. */
+typedef struct {
+    uint64_t room;
+    uint32_t side, held, number, place;
+} rembulfose_intake;
+
+/* What an intake answers to a delivery. intake: the state for the next call. number: 0, or the refusal; then place says where,
+ * and the numbers after it are 0. taken: bytes taken from the front of the delivery. length: of the message that is whole now
+ * and stands at the front of the room, or 0. lacks: how many bytes that state lacks, of a head of 5 while it holds fewer, then
+ * of the message. */
+typedef struct {
+    rembulfose_intake intake;
+    uint32_t number, place, taken, length, lacks;
+} rembulfose_delivery;
+
 /* Refusal numbers (R1.3). Behind the semicolon stands the place. The order in which they are given is said at each call. */
 enum {
     REMBULFOSE_NOT_WHOLE = 1,      /* the message needs more bytes than are there yet; 0 */
@@ -89,7 +106,7 @@ enum {
     REMBULFOSE_VALUE_SIZE = 28,    /* a value of more than 65,535 bytes; 0 */
     REMBULFOSE_PLAN_ROOM = 30,     /* the plan has more words than its room; 0 */
     REMBULFOSE_LIST_ROOM = 31,     /* the list has more words than its room; 0 */
-    REMBULFOSE_OUTPUT_ROOM = 32,   /* the output has more bytes than its room; 0 */
+    REMBULFOSE_OUTPUT_ROOM = 32,   /* the output, or an intake's message, is larger than its room, or that has changed; 0 */
     REMBULFOSE_BAD_PLAN = 33,      /* what was lent as a plan is none; 0 */
     REMBULFOSE_NO_VALUE = 34,      /* the supply belongs to no value that the plan accepts; 0 */
     REMBULFOSE_NO_ENTRY = 35,      /* the path leads to no entry; 0 */
@@ -180,6 +197,39 @@ static inline uint32_t rembulfose_word(const uint8_t *words, size_t index) {
  * 31. */
 rembulfose_answer rembulfose_read_message(uint32_t side, const uint8_t *src, size_t src_len,
                                           uint8_t *list, size_t list_len);
+
+/* The intake: bytes as they come off a line go in, in deliveries that are cut anywhere; whole messages come out (section 10).
+ * A host that was handed `length` bytes at `delivery` drains them so, with REMBULFOSE_MOST_MESSAGE bytes of room for any
+ * message, and handle and at_end its own:
+ *
+ *     rembulfose_delivery got;
+ *     do {
+ *         got = rembulfose_intake_take(intake, delivery, length, room, sizeof room);
+ *         intake = got.intake, delivery += got.taken, length -= got.taken;
+ *         if (got.length > 0)
+ *             handle(room, got.length);
+ *     } while (got.length > 0);
+ *     at_end(got.number, got.place, got.lacks);
+ *
+ * The loop ends when the delivery is taken whole and no message with it, or when the intake refuses. However the same bytes are
+ * cut, the messages, the refusal and the state at the end are the same (R10.8). */
+
+/* The state of an intake for a side (any other than REMBULFOSE_CLIENT and _SERVER knows no type) and a room of room_len bytes. */
+rembulfose_intake rembulfose_intake_start(uint32_t side, size_t room_len);
+
+/* The state as after a start with the same side and room: an unfinished message and a refusal are dropped. */
+rembulfose_intake rembulfose_intake_reset(rembulfose_intake intake);
+
+/* Takes bytes from the front of src until a message is whole or src ends (R10.3, R10.4).
+ * intake: the state that the last call on this line returned. src: what has come, may be empty. room: the same bytes with the
+ * same length from the start to the reset; in between it is the intake's own, also after a refusal. The message that is given
+ * stands at its front until the next call.
+ * Order (R1.14): 32 for a room of another length, with the state as it was (R10.6); the refusal that ended the intake, again;
+ * 32 at the first byte if the room has fewer than 5; once 5 bytes are there 2, and 32 for a message larger than the room; once
+ * it is whole 3, then 4 to 6 as in rembulfose_read_message. Number 1 is never given.
+ * Of a state or a room that others have written to, only this is promised: the call ends and stays inside its buffers. */
+rembulfose_delivery rembulfose_intake_take(rembulfose_intake intake, const uint8_t *src, size_t src_len,
+                                           uint8_t *room, size_t room_len);
 
 /* Writes the message of a side and a type byte whose fields hold the bytes of src that the list's pairs name (R2.14).
  * side: who sends it. type: the type byte. list: a pair for each field, start in src and length, as rembulfose_read_message

@@ -3,6 +3,7 @@
 
 mod descriptors;
 mod finding;
+mod intake;
 mod messages;
 mod race;
 mod shapes;
@@ -21,6 +22,8 @@ fn main() {
     texts::print();
     println!();
     messages::print();
+    println!();
+    intake::print();
     println!();
     values::print();
     println!();

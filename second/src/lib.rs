@@ -3,6 +3,8 @@
 //! inputs, a mistake would have to have been made twice.
 //!
 //! * [`message`] reads and writes the ten messages on words and bytes.
+//! * [`intake`] joins the deliveries of one side, as a C host sees it; [`joined`] reads the same bytes
+//!   when all of them are there.
 //! * [`plan`] reads a plan, [`scalar`] has the twenty formats, and [`value`] checks and lists a
 //!   value.
 //! * [`find`] and [`number`] find an element and its number; [`supply`] writes a value; [`entry`]
@@ -18,6 +20,8 @@ pub mod crossing;
 pub mod descriptor;
 pub mod entry;
 pub mod find;
+pub mod intake;
+pub mod joined;
 pub mod message;
 pub mod number;
 pub mod off_descriptor;

@@ -1,5 +1,6 @@
 /* The header's constants and its word reader: each is compared with the number of docs/RULES.md, written out
- * here, and with what the library gives. A constant that is wrong, or two that are exchanged, cannot pass.
+ * here, and with what the library gives. A constant that is wrong, or two that are exchanged, cannot pass. And
+ * how the intake's two structs lie in memory.
  *
  *     cc -std=c11 -Wall -Wextra -pthread tests/c/header.c target/staticlib/libc_panel.a \
  *         -o target/c-header
@@ -167,6 +168,24 @@ static void words(void) {
     count("word 2", rembulfose_word(bytes, 2) == 2147483775);
 }
 
+/* The structs of the intake, which go to the library and back as they lie in memory: eight bytes for the
+ * room, four for each other number, and four that fill up the second. */
+static void layouts(void) {
+    count("bytes of a state", sizeof(rembulfose_intake) == 24);
+    count("a state's room", offsetof(rembulfose_intake, room) == 0);
+    count("a state's side", offsetof(rembulfose_intake, side) == 8);
+    count("a state's held", offsetof(rembulfose_intake, held) == 12);
+    count("a state's number", offsetof(rembulfose_intake, number) == 16);
+    count("a state's place", offsetof(rembulfose_intake, place) == 20);
+    count("bytes of a delivery's answer", sizeof(rembulfose_delivery) == 48);
+    count("a delivery's intake", offsetof(rembulfose_delivery, intake) == 0);
+    count("a delivery's number", offsetof(rembulfose_delivery, number) == 24);
+    count("a delivery's place", offsetof(rembulfose_delivery, place) == 28);
+    count("a delivery's taken", offsetof(rembulfose_delivery, taken) == 32);
+    count("a delivery's length", offsetof(rembulfose_delivery, length) == 36);
+    count("a delivery's lacks", offsetof(rembulfose_delivery, lacks) == 40);
+}
+
 static void sizes(void) {
     const uint8_t handshake[13] = {0x56, 0, 0, 0, 12};
     uint8_t list[32];
@@ -191,6 +210,7 @@ int main(void) {
     each_cardinality();
     entries();
     words();
+    layouts();
     sizes();
     return finish();
 }

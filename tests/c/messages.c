@@ -8,9 +8,7 @@
  * small stack.
  */
 #define _DEFAULT_SOURCE
-#include "cases.h"
-
-enum { CLIENT = REMBULFOSE_CLIENT, SERVER = REMBULFOSE_SERVER };
+#include "samples.h"
 
 /* Reads `source`; the room of so many bytes must then start with `list`. */
 static void reading(const char *name, uint32_t side, const char *source, size_t room,
@@ -37,7 +35,7 @@ static void writing(const char *name, uint32_t side, uint8_t type, const char *l
 
 /* A good message and its list: read with a byte after it, and written again. */
 static void good(const char *name, uint32_t side, const char *message, const char *list) {
-    uint8_t bytes[MOST], words[MOST];
+    uint8_t bytes[MOST] = {0}, words[MOST];
     char followed[2 * MOST];
     uint32_t length = (uint32_t)bytes_of(message, bytes);
     uint32_t words_length = (uint32_t)bytes_of(list, words);
@@ -46,53 +44,19 @@ static void good(const char *name, uint32_t side, const char *message, const cha
     writing(name, side, bytes[0], list, message, length, answered(length, 0), message);
 }
 
-#define UUID "00112233 44556677 8899aabb ccddeeff"
-
-static void good_messages(void) {
-    good("E", SERVER, "45 00000018 78 00000001 00000002 6162 0001 0001 00000001 7f",
-         "00000005 00000001 00000006 00000004 0000000e 00000002"
-         "00000010 00000002 00000012 00000002 00000018 00000001");
-    good("L", SERVER, "4c 00000019 14 00000000 00000000 0001 00000001 6b 00000001 76",
-         "00000005 00000001 00000006 00000004 0000000e 00000000"
-         "0000000e 00000002 00000014 00000001 00000019 00000001");
-    good("Z", SERVER, "5a 00000007 0000 49", "00000005 00000002 00000007 00000001");
-    good("C", SERVER, "43 00000028 0000 0000000000000001 00000002 4f4b" UUID "00000000",
-         "00000005 00000002 00000007 00000008 00000013 00000002"
-         "00000015 00000010 00000029 00000000");
-    good("T", SERVER,
-         "54 00000038 0000 ffffffffffffffff 41" UUID "00000001 80" UUID "00000000",
-         "00000005 00000002 00000007 00000008 0000000f 00000001 00000010 00000010"
-         "00000024 00000001 00000025 00000010 00000039 00000000");
-    good("s", SERVER, "73 0000001a" UUID "00000002 c328", "00000005 00000010 00000019 00000002");
-    good("D", SERVER, "44 0000000d 0001 00000003 010203", "00000005 00000002 0000000b 00000003");
-    good("S of the server", SERVER, "53 0000000d 00000001 ff 00000000",
-         "00000009 00000001 0000000e 00000000");
-    good("S of the client", CLIENT, "53 00000004", "");
-    good("V", CLIENT, "56 0000001c 0001 0000 0001 00000001 61 00000000 0001 00000001 78 0000",
-         "00000005 00000002 00000007 00000002 00000009 00000002 0000000f 00000001"
-         "00000014 00000000 00000014 00000002 0000001a 00000001 0000001b 00000002");
+static void each_sample(void) {
+    for (size_t i = 0; i < GOOD_MESSAGES; i++)
+        good(good_messages[i].name, good_messages[i].side, good_messages[i].message,
+             good_messages[i].list);
 }
 
 static void reader_refusals(void) {
+    for (size_t i = 0; i < BAD_MESSAGES; i++)
+        reading(bad_messages[i].name, bad_messages[i].side, bad_messages[i].message, 64,
+                refused(bad_messages[i].number, bad_messages[i].place), "");
     reading("no bytes", CLIENT, "", 8, refused(1, 0), "");
     reading("four bytes", CLIENT, "53 000000", 8, refused(1, 0), "");
-    reading("length 3, type unknown", CLIENT, "00 00000003", 8, refused(2, 0), "");
-    reading("length 65,536", CLIENT, "53 00010000", 8, refused(2, 0), "");
-    reading("length of 2^31", CLIENT, "53 80000004", 8, refused(2, 0), "");
     reading("not whole, type unknown", CLIENT, "00 00000005", 8, refused(1, 0), "");
-    reading("V from the server", SERVER, "56 00000004", 8, refused(3, 0), "");
-    reading("side 2", 2, "53 00000004", 8, refused(3, 0), "");
-    reading("S of the server without fields", SERVER, "53 00000004", 8, refused(4, 5), "");
-    reading("bytes past the end", SERVER, "53 0000000d 00000001 ff 00000001", 16, refused(4, 10),
-            "");
-    reading("length of bytes that wraps", SERVER, "53 0000000d 00000001 ff ffffffff", 16,
-            refused(4, 10), "");
-    reading("count without items", SERVER, "5a 00000006 ffff", 16, refused(4, 7), "");
-    reading("bytes left over", SERVER, "5a 00000009 0000 49 0000", 16, refused(5, 8), "");
-    reading("unknown state", SERVER, "5a 00000007 0000 48", 16, refused(6, 7), "");
-    reading("D's number 2", SERVER, "44 00000006 0002", 16, refused(6, 5), "");
-    reading("second text of an annotation not UTF-8", SERVER,
-            "5a 00000012 0001 00000001 6b 00000002 c080 49", 64, refused(6, 12), "");
     reading("room a byte short", SERVER, "5a 00000007 0000 49", 15, refused(31, 0), "");
     reading("odd room", SERVER, "5a 00000007 0000 49", 19, answered(8, 4),
             "00000005 00000002 00000007 00000001");
@@ -134,19 +98,15 @@ static rembulfose_answer write_data(uint32_t length, uint8_t *out, size_t room) 
 /* A V whose list has 8,192 words, the most that cross: 2,046 pairs of empty texts. It is read, and written
  * again from its list. */
 static void most_fields(void) {
-    enum { PAIRS = 2046, LENGTH = 5 + 3 * 2 + 8 * PAIRS + 2 };
-    static uint8_t message[LENGTH], list[4 * MOST_WORDS], out[LENGTH];
-    message[0] = 0x56;
-    put_word(message + 1, LENGTH - 1);
-    message[9] = PAIRS >> 8;
-    message[10] = PAIRS & 0xff;
+    static uint8_t message[MOST_MESSAGE], list[4 * MOST_WORDS], out[MOST_MESSAGE];
+    uint32_t length = put_handshake(message, 2046);
     count("8,192 words, read",
-          same_answer(rembulfose_read_message(CLIENT, message, LENGTH, list, sizeof list),
-                      answered(LENGTH, MOST_WORDS)));
+          same_answer(rembulfose_read_message(CLIENT, message, length, list, sizeof list),
+                      answered(length, MOST_WORDS)));
     count("8,192 words, written",
-          same_answer(rembulfose_write_message(CLIENT, 0x56, list, sizeof list, message, LENGTH, out,
-                                               LENGTH),
-                      answered(LENGTH, 0)) && memcmp(out, message, LENGTH) == 0);
+          same_answer(rembulfose_write_message(CLIENT, 0x56, list, sizeof list, message, length, out,
+                                               length),
+                      answered(length, 0)) && memcmp(out, message, length) == 0);
 }
 
 static void large(void) {
@@ -182,7 +142,7 @@ static void null_pointers(void) {
 }
 
 int main(void) {
-    good_messages();
+    each_sample();
     reader_refusals();
     writer_refusals();
     small_stack(large);

@@ -87,8 +87,11 @@ function links(text,   target, folder) {
   if (!sub(/\/[^\/]*$/, "/", folder)) folder = ""
   while (match(text, /\]\([^)]*\)/)) {
     target = substr(text, RSTART + 2, RLENGTH - 3)
-    if (target !~ /^https?:/) say("file", folder target)
     text = substr(text, 1, RSTART - 1) " " substr(text, RSTART + RLENGTH)
+    if (target ~ /^https?:/) continue
+    target = folder target
+    while (sub(/[^\/]+\/[.][.]\//, "", target));
+    say("file", target)
   }
   return text
 }

@@ -1,52 +1,33 @@
-/* Makes the captures of the panel tests from the demo's: some parts of it, and damaged ones.
+/* Makes the captures of the panel tests from the demo's: some parts of it, damaged ones, and such whose
+ * records cut messages.
  *
  *     captures DEMO FOLDER DESCRIBED
  *
  * Most start from a short form of the demo, with two of its twenty rows. In those that go to the folder
  * DESCRIBED, descriptions are sent more than once. */
 #include "../../host/bytes.h"
-#include "../../host/capture.h"
+#include "joined.h"
 
-#include <errno.h>
-#include <stdio.h>
-#include <stdlib.h>
 #include <string.h>
 
-enum { HEAD = 5, MOST_RECORDS = 64 };
+enum { HEAD = RECORD_HEAD };
 
-/* The demo's messages, counted from 0: the state's description, the client's Sync, the description of
- * rows, the first three rows, the last row, and the closing messages. In the short form those after the
- * second row are the same, 18 earlier. */
-enum { STATE = 2, READY = 3, SYNC = 4, DESCRIPTION = 5, ROW_1 = 6, ROW_2 = 7, ROW_3 = 8 };
-enum { LAST_ROW = 25, COMPLETE = 8, TWICE = 12 };
+/* In the demo, the third row and the last one. */
+enum { ROW_3 = 8, LAST_ROW = 25 };
 
 /* The short form in which both descriptions and a Sync are sent once more between the two rows: what
  * is done to these tells by what the second row and the state data after it are read. */
 enum { DESCRIPTION_AGAIN = 7, STATE_AGAIN = 8, SYNC_AGAIN = 9 };
 
-/* A capture in memory, with the place of each record's head. */
-struct copy {
-    uint8_t *bytes;
-    size_t length;
-    size_t records[MOST_RECORDS + 1]; /* the last is the end */
-    size_t count;
-};
-
-static void must(int good, const char *what) {
-    if (good)
-        return;
-    fprintf(stderr, "captures: %s: %s\n", what, strerror(errno));
-    exit(1);
-}
-
 static void find_records(struct copy *copy) {
-    struct capture capture = {copy->bytes, copy->length, true, SERVER};
-    struct record record;
-    size_t position = 0;
-    for (copy->count = 0; capture_record(&capture, &position, &record); copy->count++) {
-        must(copy->count < MOST_RECORDS && !record.cut, "the demo's records");
-        copy->records[copy->count] = record.at - HEAD;
+    const struct bytes capture = {copy->bytes, copy->length, copy->length};
+    struct found record;
+    size_t position = strlen(CAPTURE_MAGIC);
+    for (copy->count = 0; next_record(&capture, &position, &record); copy->count++) {
+        must(copy->count < MOST_RECORDS, "the demo's records");
+        copy->records[copy->count] = record.head;
     }
+    must(position == copy->length, "the demo's last record");
     copy->records[copy->count] = copy->length;
 }
 
@@ -68,15 +49,6 @@ static struct copy joined(const struct copy *of, const struct stretch *stretches
     }
     find_records(&copy);
     return copy;
-}
-
-static void save(const char *folder, const char *name, const uint8_t *bytes, size_t length) {
-    char path[512];
-    must(snprintf(path, sizeof path, "%s/%s.capture", folder, name) < (int)sizeof path, folder);
-    FILE *file = fopen(path, "wb");
-    must(file != NULL, path);
-    size_t written = fwrite(bytes, 1, length, file);
-    must(fclose(file) == 0 && written == length, path);
 }
 
 /* A damage: bytes of one message that are altered. */
@@ -105,6 +77,9 @@ static const struct damage damages[] = {
     {"value-decimal-digit", ROW_1, 11 + 93, 2, 10000},
     {"value-bool", ROW_1, 11 + 441, 1, 2},
     {"input-index-outside", COMPLETE, 45 + 20, 4, 3},
+    {"client-length", SYNC, 1, 4, 3},
+    {"client-length-first", HANDSHAKE, 1, 4, 65536},
+    {"client-type", HANDSHAKE, 0, 1, 'O'},
 };
 
 /* Side byte and record length, which stand before a message. */
@@ -131,6 +106,8 @@ static const struct damage again_damages[] = {
     {"state-descriptor", STATE_AGAIN, 25, 1, 12},
     {"sync-type", SYNC_AGAIN, 0, 1, 'O'},
     {"sync-not-whole", SYNC_AGAIN, 1, 4, 9},
+    {"sync-length", SYNC_AGAIN, 1, 4, 3},
+    {"sync-unread", SYNC, 1, 4, 3}, /* SYNC_AGAIN is behind it, and the description between them */
 };
 
 static const struct damage again_head_damages[] = {
@@ -184,13 +161,20 @@ static void save_parts(const char *folder, const struct copy *copy) {
     size_t server = one_side(copy, 0, SERVER, out);
     save(folder, "server-side", out, server);
     save(folder, "server-side-cut", out, server - 3);
+    put_32(out + copy->records[PARAMETER + 1] - copy->records[PARAMETER] - HEAD + 1, 3);
+    save(folder, "server-side-length", out, server);
     save(folder, "client-side", out, one_side(copy, 0, CLIENT, out));
     save(folder, "no-description", out, one_side(copy, ROW_1, SERVER, out));
+    save(folder, "short-first", out, one_side(copy, READY, SERVER, out));
     save(folder, "good", copy->bytes, copy->records[TWICE]);
     save(folder, "cut-in-record", copy->bytes, copy->records[ROW_2] + 300);
     save(folder, "cut-in-head", copy->bytes, copy->records[ROW_2] + 3);
     save(folder, "empty", copy->bytes, 0);
     save(folder, "magic-alone", copy->bytes, strlen(CAPTURE_MAGIC));
+    save(folder, "magic-cut", copy->bytes, strlen(CAPTURE_MAGIC) - 1);
+    memcpy(out, copy->bytes, copy->length);
+    out[strlen(CAPTURE_MAGIC) - 2] = '2';
+    save(folder, "magic-other", out, copy->length);
     free(out);
 }
 
@@ -200,6 +184,7 @@ static struct copy save_short(const char *folder, const struct copy *whole) {
     struct copy copy = joined(whole, stretches, 2);
     save(folder, "two-rows", copy.bytes, copy.length);
     save_parts(folder, &copy);
+    save_joined(folder, &copy);
     damage_all(folder, copy, damages, sizeof damages / sizeof damages[0], HEAD);
     damage_all(folder, copy, head_damages, sizeof head_damages / sizeof head_damages[0], 0);
     return copy;
@@ -232,15 +217,15 @@ static void save_again(const char *folder, const struct copy *two_rows) {
 }
 
 int main(int count, char **words) {
-    struct capture demo;
     must(count == 4, "usage: captures DEMO FOLDER DESCRIBED");
-    must(capture_load(&demo, words[1], SERVER) && demo.marked, words[1]);
-    struct copy whole = {demo.bytes, demo.length, {0}, 0};
+    struct bytes demo = load(words[1]);
+    must(is_marked(&demo), words[1]);
+    struct copy whole = {demo.at, demo.length, {0}, 0};
     find_records(&whole);
     struct copy two_rows = save_short(words[2], &whole);
     save_again(words[3], &two_rows);
     save_anew(words[3], &two_rows);
     free(two_rows.bytes);
-    capture_free(&demo);
+    free(demo.at);
     return 0;
 }

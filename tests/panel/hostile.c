@@ -1,17 +1,15 @@
-/* Runs the panel program's commands, in this process, on captures that are cut, altered and made up,
- * and looks only at how they end. It is meant to be compiled with the sanitizers, which end it at
- * the first wrong access, overflow or leak.
+/* Runs the panel program's commands, in this process, on captures that end early, are altered and made up.
+ * It looks at how they end, and that `show` prints the same where the records are cut smaller, and `follow`
+ * what `show` does. It is meant to be compiled with the sanitizers, which end it at the first wrong access,
+ * overflow or leak.
  *
  *     hostile CASES CAPTURE..
  *
- * Each CAPTURE is first cut at every byte; then so many cases are made from them at random. The
- * program's own main is compiled as panel_main. */
+ * Each CAPTURE first ends at every byte; then so many cases are made from them at random. The program's own
+ * main is compiled as panel_main. */
 #define _GNU_SOURCE
-#include "../../host/capture.h"
+#include "records.h"
 
-#include <stdint.h>
-#include <stdio.h>
-#include <stdlib.h>
 #include <string.h>
 #include <sys/mman.h>
 #include <unistd.h>
@@ -20,80 +18,96 @@ int panel_main(int count, char **words);
 
 enum { MOST_CAPTURES = 8, ROOM = 1 << 17, MOST_EDITS = 6, LEAST_GOOD = 50 };
 
-struct bytes {
-    uint8_t at[ROOM];
-    size_t length;
-};
-
 /* Where results are said, as standard output is the program's. */
 static FILE *report;
-static char path[64]; /* of the file that the commands read */
-static int file;
+static char path[64]; /* of the file that the commands read, which is standard input too */
+static int file, output; /* that file, and the one that they print to */
 static unsigned long passed, failed;
 static unsigned long checked, found; /* how often `check` found nothing wrong, and `find` an element */
-static uint64_t state = 1;
-
-/* The same numbers everywhere (splitmix64). */
-static uint64_t draw(void) {
-    uint64_t mixed = state += 0x9e3779b97f4a7c15;
-    mixed = (mixed ^ mixed >> 30) * 0xbf58476d1ce4e5b9;
-    mixed = (mixed ^ mixed >> 27) * 0x94d049bb133111eb;
-    return mixed ^ mixed >> 31;
-}
 
 static size_t below(size_t end) {
     return (size_t)(draw() % end);
 }
 
-static void must(int good, const char *what) {
-    if (good)
-        return;
-    perror(what);
-    exit(2);
-}
-
-static void count(const char *command, int status, int most) {
-    if (status >= 0 && status <= most) {
-        passed++;
-        return;
-    }
-    failed++;
-    fprintf(report, "failed: %s ended with %d, case %lu\n", command, status, passed + failed);
+static void count(const char *what, bool good) {
+    passed += good;
+    failed += !good;
+    if (!good)
+        fprintf(report, "failed: %s, case %lu\n", what, passed + failed);
 }
 
 static void store(const uint8_t *bytes, size_t length) {
     must(ftruncate(file, 0) == 0 && pwrite(file, bytes, length, 0) == (ssize_t)length, path);
 }
 
-/* Runs the three commands on these bytes, and then takes them as the client's: without the first line of
- * a side-marked capture, which is not taken so. */
-static void run(const uint8_t *bytes, size_t length) {
-    static const char magic[] = CAPTURE_MAGIC;
+/* Runs a command, whose words end with a null; its status. */
+static int run(char **words) {
+    int words_count = 0;
+    while (words[words_count] != NULL)
+        words_count++;
+    must(lseek(STDIN_FILENO, 0, SEEK_SET) == 0 && ftruncate(output, 0) == 0, path);
+    rewind(stdout);
+    int status = panel_main(words_count, words);
+    must(fflush(stdout) == 0, "the output");
+    return status;
+}
+
+/* What a command prints. */
+static struct bytes printed(const char *command, char **words) {
+    struct bytes text = {NULL, 0, 0};
+    uint8_t some[4096];
+    ssize_t got;
+    count(command, run(words) == 0);
+    while ((got = pread(output, some, sizeof some, (off_t)text.length)) > 0)
+        append(&text, some, (size_t)got);
+    must(got == 0, "the output");
+    return text;
+}
+
+static void hold(const char *what, struct bytes shown, struct bytes text) {
+    count(what, shown.length > 0 && shown.length == text.length &&
+                    memcmp(shown.at, text.at, text.length) == 0);
+    free(text.at);
+}
+
+/* Shows a capture, follows it, and shows it with its records cut. */
+static void show_all(const struct bytes *capture) {
+    char *show[] = {"panel", "show", path, NULL}, *follow[] = {"panel", "follow", NULL};
+    struct bytes shown = printed("show", show);
+    hold("follow and show differ", shown, printed("follow", follow));
+    struct bytes cut = cut_records(capture, SERVER, below(8));
+    store(cut.at, cut.length);
+    hold("show differs where records are cut", shown, printed("show, cut", show));
+    free(cut.at);
+    free(shown.at);
+}
+
+/* Finds some element, or none. */
+static int find_any(void) {
     char row[16], where[48];
-    char *show[] = {"panel", "show", path, NULL}, *check[] = {"panel", "check", path, NULL};
-    char *client[] = {"panel", "check", "--client", path, NULL};
     char *find[] = {"panel", "find", path, row, where, NULL};
-    store(bytes, length);
     snprintf(row, sizeof row, "%zu", 1 + below(3));
     snprintf(where, sizeof where, "%zu.%zu.%zu", below(16), below(4), below(3));
     where[below(4) == 0 ? 0 : 1 + strcspn(where + 1, below(2) ? "." : "")] = 0;
-    count("show", panel_main(3, show), 0);
-    int check_status = panel_main(3, check), find_status = panel_main(5, find);
-    count("check", check_status, 1);
-    count("find", find_status, 1);
-    checked += check_status == 0;
-    found += find_status == 0;
-    size_t skip = sizeof magic - 1;
-    if (length >= skip && memcmp(bytes, magic, skip) == 0)
-        store(bytes + skip, length - skip);
-    count("check --client", panel_main(4, client), 1);
+    return run(find);
 }
 
-static void load(struct bytes *bytes, const char *name) {
-    FILE *from = fopen(name, "rb");
-    must(from != NULL, name);
-    bytes->length = fread(bytes->at, 1, sizeof bytes->at, from);
-    must(!ferror(from) && fclose(from) == 0, name);
+/* Runs the commands on these bytes, and then takes them as the client's: without the first line of a
+ * side-marked capture, which is not taken so. */
+static void try(const struct bytes *capture) {
+    char *check[] = {"panel", "check", path, NULL};
+    char *client[] = {"panel", "check", "--client", path, NULL};
+    store(capture->at, capture->length);
+    int check_status = run(check), find_status = find_any();
+    count("check", check_status >= 0 && check_status <= 1);
+    count("find", find_status >= 0 && find_status <= 1);
+    checked += check_status == 0;
+    found += find_status == 0;
+    show_all(capture);
+    size_t skip = is_marked(capture) ? strlen(CAPTURE_MAGIC) : 0;
+    store(capture->at + skip, capture->length - skip);
+    int client_status = run(client);
+    count("check --client", client_status >= 0 && client_status <= 1);
 }
 
 /* A length that is likely to matter: near the number that stands there, or at an edge. */
@@ -140,25 +154,28 @@ static void edit(uint8_t *bytes, size_t *length) {
 }
 
 /* A capture made from another, or of any bytes. */
-static size_t make(const struct bytes *from, uint8_t *bytes) {
+static struct bytes make(const struct bytes *from) {
+    static uint8_t bytes[ROOM];
     size_t length = from->length;
     if (below(50) == 0) {
         length = below(300);
         for (size_t i = 0; i < length; i++)
             bytes[i] = (uint8_t)draw();
-        return length;
+        return (struct bytes){bytes, length, ROOM};
     }
     memcpy(bytes, from->at, length);
     for (size_t edits = 1 + below(MOST_EDITS); edits > 0 && length > 0; edits--)
         edit(bytes, &length);
-    return length;
+    return (struct bytes){bytes, length, ROOM};
 }
 
+/* The commands read a file in memory and print to another. */
 static void prepare(void) {
     report = fdopen(dup(STDOUT_FILENO), "w");
     file = memfd_create("hostile", 0);
-    must(report != NULL && file >= 0, "hostile");
-    must(freopen("/dev/null", "w", stdout) != NULL, "/dev/null");
+    output = memfd_create("printed", 0);
+    must(report != NULL && file >= 0 && output >= 0, "hostile");
+    must(dup2(file, STDIN_FILENO) >= 0 && dup2(output, STDOUT_FILENO) >= 0, "hostile");
     snprintf(path, sizeof path, "/proc/self/fd/%d", file);
 }
 
@@ -179,19 +196,23 @@ static void demand(const char *command, unsigned long good) {
 }
 
 int main(int words_count, char **words) {
-    static struct bytes captures[MOST_CAPTURES];
-    static uint8_t bytes[ROOM];
+    struct bytes captures[MOST_CAPTURES];
     int captures_count = words_count - 2;
     must(captures_count > 0 && captures_count <= MOST_CAPTURES, "usage");
     long cases = cases_of(words[1]);
     prepare();
     for (int i = 0; i < captures_count; i++) {
-        load(&captures[i], words[i + 2]);
-        for (size_t cut = 0; cut < captures[i].length; cut++)
-            run(captures[i].at, cut);
+        captures[i] = load(words[i + 2]);
+        must(captures[i].length <= ROOM, words[i + 2]);
+        for (struct bytes start = {captures[i].at, 0, 0}; start.length < captures[i].length; start.length++)
+            try(&start);
     }
-    for (; cases > 0; cases--)
-        run(bytes, make(&captures[below((size_t)captures_count)], bytes));
+    for (; cases > 0; cases--) {
+        struct bytes made = make(&captures[below((size_t)captures_count)]);
+        try(&made);
+    }
+    for (int i = 0; i < captures_count; i++)
+        free(captures[i].at);
     demand("check", checked);
     demand("find", found);
     fprintf(report, "%lu passed, %lu failed\n", passed, failed);

@@ -1,7 +1,9 @@
 //! The C calls of the static library, as include/rembulfose.h declares them, and a safe function
-//! for each. Nothing checks these declarations against the header: keep them side by side.
+//! for each. Nothing checks these declarations against the header: keep them side by side. The structs
+//! of an intake are the second program's own, which are laid out as the header's.
 
 use second::crossing::{Answer, NumberAnswer};
+use second::intake::{Delivery, Intake};
 
 /// `rembulfose_answer`.
 #[repr(C)]
@@ -29,6 +31,18 @@ extern "C" {
         list: *mut u8,
         list_len: usize,
     ) -> RawAnswer;
+
+    fn rembulfose_intake_start(side: u32, room_len: usize) -> Intake;
+
+    fn rembulfose_intake_reset(intake: Intake) -> Intake;
+
+    fn rembulfose_intake_take(
+        intake: Intake,
+        src: *const u8,
+        src_len: usize,
+        room: *mut u8,
+        room_len: usize,
+    ) -> Delivery;
 
     fn rembulfose_write_message(
         side: u32,
@@ -130,6 +144,22 @@ macro_rules! call {
 
 pub fn read_message(side: u32, src: &[u8], list: &mut [u8]) -> Answer {
     call!(rembulfose_read_message(side); reads src; writes list)
+}
+
+pub fn intake_start(side: u32, room: usize) -> Intake {
+    // SAFETY: numbers alone go in and come out.
+    unsafe { rembulfose_intake_start(side, room) }
+}
+
+pub fn intake_reset(intake: Intake) -> Intake {
+    // SAFETY: numbers alone go in and come out.
+    unsafe { rembulfose_intake_reset(intake) }
+}
+
+/// Inlined, so that the benchmark's calls of a few bytes are timed and not the copies of their structs.
+#[inline]
+pub fn intake_take(intake: Intake, src: &[u8], room: &mut [u8]) -> Delivery {
+    call!(rembulfose_intake_take(intake); reads src; writes room)
 }
 
 pub fn write_message(side: u32, type_byte: u8, list: &[u8], src: &[u8], out: &mut [u8]) -> Answer {

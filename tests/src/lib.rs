@@ -8,7 +8,8 @@
 //! * [`rng`] and [`text`] make input, and [`crossed`] words as bytes.
 //! * [`tally`] counts answers, [`expected`] holds them against what is known, and [`report`] tells
 //!   how two differ.
-//! * [`message`] makes, damages and compares messages, for the program `messages`.
+//! * [`message`] makes, damages and compares messages, for the program `messages`, and [`intake`]
+//!   conversations of them, for the program `intake`.
 //! * `value` does so with plans and values, for the program `values`, and [`descriptor`] with
 //!   descriptors and values, for the programs `descriptors` and `rules`.
 //! * [`finding`] does so with paths, for the program `finding`, and [`supply`] with supplies, for the
@@ -26,6 +27,7 @@ pub mod fence;
 pub mod ffi;
 pub mod finding;
 pub mod fixed;
+pub mod intake;
 pub mod lending;
 pub mod memory;
 pub mod message;

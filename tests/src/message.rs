@@ -6,7 +6,7 @@
 //!   what has few.
 //! * `judge` makes the calls and compares.
 
-mod bytes;
+pub mod bytes;
 mod case;
 mod damage;
 pub mod draft;
@@ -21,6 +21,7 @@ use crate::program::Comparison;
 use crate::rng::Rng;
 use case::{Call, Case};
 pub use judge::Messages;
+pub use reading::received;
 
 impl Comparison for Messages {
     const NAME: &'static str = "messages";

@@ -6,11 +6,12 @@
 //!   `unseen` what is escaped.
 //! * `tree` has values and plans, `fields` messages, `refused` refusals. [`described`] has the rule
 //!   by which description a value is read.
+//! * [`joined`] has the sides of a capture and the messages in the order in which they became whole.
 //! * [`capture`] puts them together: all that is printed of a capture. [`asked`] has what `check`
 //!   and `find` print.
 //! * [`table`] reads the table of values and their texts, and makes rows of them; [`made`] makes
-//!   captures at random, with descriptions that are sent again by `again`; [`sweep`] has every code
-//!   point, and floats about each power of two.
+//!   captures at random, with descriptions that are sent again by `again` and records that cut
+//!   messages by `cuts`; [`sweep`] has every code point, and floats about each power of two.
 //! * [`compare`] runs the program and holds what it prints against all of these; [`seen`] counts
 //!   what was compared.
 
@@ -19,10 +20,12 @@ pub mod asked;
 pub mod calendar;
 pub mod capture;
 pub mod compare;
+mod cuts;
 pub mod described;
 mod fields;
 mod float;
 pub mod human;
+pub mod joined;
 pub mod made;
 mod refused;
 pub mod seen;

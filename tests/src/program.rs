@@ -5,8 +5,7 @@
 use crate::fault;
 use crate::rng::Rng;
 use crate::tally::{Counted, Demand, Tally};
-use second::crossing::Answer;
-use std::fmt::Display;
+use std::fmt::{Debug, Display};
 use std::process::ExitCode;
 use std::time::Instant;
 
@@ -14,14 +13,17 @@ use std::time::Instant;
 pub trait Judge {
     type Case: Display;
 
-    /// The calls whose answers are counted.
+    /// What a case comes to.
+    type Answer: Debug;
+
+    /// The calls whose answers are counted, and what else is.
     const COUNTED: &'static [Counted];
 
     fn new(seed: u64) -> Self;
 
     /// The answer of a case in which nothing differs, or else a report of what differs. What each
     /// call answers is counted in its tally, which has the place that the call has in `COUNTED`.
-    fn judge(&mut self, case: &Self::Case, tallies: &mut [Tally]) -> Result<Answer, String>;
+    fn judge(&mut self, case: &Self::Case, tallies: &mut [Tally]) -> Result<Self::Answer, String>;
 }
 
 /// What a program compares: the cases of a judge.

@@ -1,8 +1,11 @@
 // The calls of the panel's C host, under their C names. Each is one call of the crate of its subject, whose contract it has.
 use forms::Answer;
+use forms::Delivery;
+use forms::Intake;
 use forms::Number;
 ghost use mathlib.Core.Path.{_≡_};
 ghost use Rattle.protocol.specs.Crossing.{ReadsMessage, WritesMessage, RunsValue, CompilesPlan, findFrom, findAnswer, numberFrom, numberAnswer, WritesValue};
+ghost use Rattle.protocol.specs.Intake.{intakeStart, intakeReset, TakesDelivery};
 
 // Reads the message at the start of src; the list's words go out as bytes.
 #[no_mangle]
@@ -10,6 +13,30 @@ pub extern "C" fn rembulfose_read_message(side: u32, src: &[u8], list: &mut [u8]
     ensures { λ r. ⌜ ReadsMessage side (now (src .entry)) r (now (list .entry)) (now (list .exit)) ⌝ }
 {
     c_message::read_message(side, src, list)
+}
+
+// The state of an intake, for a side and the length of its room.
+#[no_mangle]
+pub extern "C" fn rembulfose_intake_start(side: u32, room: usize) -> Intake
+    ensures { λ r. ⌜ r ≡ intakeStart side room ⌝ }
+{
+    Intake::start(side, room)
+}
+
+// The state of an intake with what it holds and what was refused dropped.
+#[no_mangle]
+pub extern "C" fn rembulfose_intake_reset(intake: Intake) -> Intake
+    ensures { λ r. ⌜ r ≡ intakeReset intake ⌝ }
+{
+    intake.reset()
+}
+
+// Takes bytes from the front of src until a message is whole, which then stands at the front of the room, or src ends.
+#[no_mangle]
+pub extern "C" fn rembulfose_intake_take(intake: Intake, src: &[u8], room: &mut [u8]) -> Delivery
+    ensures { λ r. ⌜ TakesDelivery intake (now (src .entry)) r (now (room .entry)) (now (room .exit)) ⌝ }
+{
+    message_intake::take(intake, src, room)
 }
 
 // Writes the message of a type byte whose fields hold the bytes of src that the list's pairs name.

@@ -5,6 +5,9 @@
 // a message's length field
 pub const MOST_LENGTH: usize = 65535;
 
+// a message's head: its type byte and its length field
+pub const MESSAGE_HEAD: usize = 5;
+
 // the bytes of a message, its type byte among them
 pub const MOST_MESSAGE: usize = 65536;
 

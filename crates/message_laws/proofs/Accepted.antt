@@ -14,7 +14,8 @@ use Rattle.message_laws.proofs.Covers.{covers}
 use Rattle.message_laws.proofs.Words.{pairs-contents, bounded}
 use Rattle.message_laws.proofs.ReadBack.{Stands, Same, Reads, read-back}
 use Rattle.protocol.specs.Numbers.{pick, bytesBe}
-use Rattle.protocol.specs.Messages.{Layout, layoutOf, read, fieldsRead, messageEnd, bodyRead, messageOf, messageRoomed, messageCall}
+use Rattle.protocol.specs.Messages.{Layout, layoutOf, read, fieldsRead, messageEnd, bodyRead, messageHead, messageBy, messageOf}
+use Rattle.protocol.specs.Messages.{messageRoomed, messageCall}
 use Rattle.protocol.specs.Messages.{Written, unwritten, wrote, fieldsWritten, messageWhole, bodyWritten, messageWritten, contents}
 use mathlib.Core.Option.{Option, some, none}
 use Rattle.protocol.specs.Answers.{Put, refusedPut, putOut}
@@ -55,7 +56,7 @@ known-sent (some l) t ws src room b e = (l, refl, sent t room (fieldsWritten l s
 
 -- a whole message is read, where its list has room: the other way round from what message_read/proofs/Whole proves
 pub is-read : (side : ℕ) (s : List ℕ) (n u : ℕ) (ws : List ℕ) → Whole side s n u ws → (room : ℕ) → length ws ≤ room → messageCall side s room ≡ read u ws
-unfolding messageCall messageRoomed messageOf bodyRead messageEnd pick
+unfolding messageCall messageRoomed messageOf messageBy messageHead bodyRead messageEnd pick
 is-read side s n u ws w room h =
     rw (
       ← (w .size),

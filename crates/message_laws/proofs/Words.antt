@@ -3,7 +3,7 @@ use mathlib.Core.Path.{_≡_, refl, sym, _∙_}
 use mathlib.Core.List.{List, [], _∷_, _++_}
 use Prim.Native.Nat.{ℕ, zero, suc, _+_, _<_, _≤_}
 use native.Mathlib.Omega.{arith}
-use lib.Dec.{lit<, ltb}
+use lib.Dec.{lit<, lit≤, ltb}
 use lib.ListN.{length, getD, take, drop}
 use lib.Seq.{length-take-le}
 use Rattle.wire.proofs.Picks.{pick-case}
@@ -15,8 +15,8 @@ use Rattle.message_laws.proofs.RoundTrip.{LiesAt, lies-field}
 use Rattle.message_laws.proofs.Again.{made, used}
 use Rattle.protocol.specs.Numbers.{be}
 use Rattle.protocol.specs.Messages.{Field, Layout, done, one, run, u16, layoutOf, fieldAt, MessageRead, unread, read, readBefore, thenRead}
-use Rattle.protocol.specs.Messages.{fieldOutcome, timesRead, fieldsRead, messageEnd, bodyRead, messageOf, messageRoomed, messageCall}
-use Rattle.protocol.specs.Messages.{contents}
+use Rattle.protocol.specs.Messages.{fieldOutcome, timesRead, fieldsRead, messageEnd, bodyRead, MessageHead, headShort}
+use Rattle.protocol.specs.Messages.{badLength, bodyShort, bodyWhole, messageHead, messageBy, messageOf, messageRoomed, messageCall, contents}
 use mathlib.Core.Option.{Option, some, none}
 
 -- ---- pairs of start and length, which lie in n bytes
@@ -47,9 +47,9 @@ pairs-contents s m c (p ∷ k ∷ ws) h = rw (c .part p k (h .0), pairs-contents
 
 -- ---- the outcome of fields
 
--- a refusal's number is not 0; the words of what is read are pairs in n bytes
+-- a refusal's number is 4 or 6; the words of what is read are pairs in n bytes
 abbrev pub Sound : ℕ → MessageRead → Type 0
-Sound n (unread k p) = 0 < k
+Sound n (unread k p) = (4 ≤ k) × (k ≤ 6)
 Sound n (read q ws) = Pairs n ws
 
 module _ (n : ℕ) where
@@ -71,8 +71,8 @@ module _ (n : ℕ) where
 module _ (m : List ℕ) where
   sound-found : (f : Field) (p : ℕ) (o : FieldRead) → LiesAt f m p o → Sound (length m) (fieldOutcome p o)
   unfolding fieldOutcome
-  sound-found f p Short l = lit< tt
-  sound-found f p Barred l = lit< tt
+  sound-found f p Short l = (lit≤ tt, lit≤ tt)
+  sound-found f p Barred l = (lit≤ tt, lit≤ tt)
   sound-found f p (At s k) l = (l .inside, tt)
 
   sound-field : (f : Field) (p : ℕ) → Sound (length m) (fieldOutcome p (fieldAt f m p))
@@ -111,20 +111,37 @@ bounded side s room u ws e =
       listed = roomy (messageOf side s) room u ws e .1;
     }
 
+-- a body's refusal is one of 3 to 6
+abbrev pub Judged : MessageRead → Type 0
+Judged (unread n p) = (3 ≤ n) × (n ≤ 6)
+Judged (read u ws) = Unit {0}
+
+judged-end : (m : List ℕ) (n : ℕ) (o : MessageRead) → Sound n o → Judged (messageEnd m o)
+unfolding messageEnd
+judged-end m n (unread k p) h = (omega arith, h .1)
+judged-end m n (read q ws) h = pick-case Judged (ltb q (length m)) (unread 5 q) (read q ws) (λ _. (lit≤ tt, lit≤ tt)) (λ _. tt)
+
+pub judged-body : (k : (Option Layout)) (m : List ℕ) → Judged (bodyRead k m)
+unfolding bodyRead
+judged-body none m = (lit≤ tt, lit≤ tt)
+judged-body (some l) m = judged-end m (length m) (fieldsRead l m 5) (sound-fields m l 5)
+
 -- a refusal's number is not 0
 abbrev pub Numbered : MessageRead → Type 0
 Numbered (unread n p) = 0 < n
 Numbered (read u ws) = Unit {0}
 
-numbered-end : (m : List ℕ) (n : ℕ) (o : MessageRead) → Sound n o → Numbered (messageEnd m o)
-unfolding messageEnd
-numbered-end m n (unread k p) h = h
-numbered-end m n (read q ws) h = pick-case Numbered (ltb q (length m)) (unread 5 q) (read q ws) (λ _. lit< tt) (λ _. tt)
+numbered-judged : (o : MessageRead) → Judged o → Numbered o
+numbered-judged (unread n p) h = omega arith
+numbered-judged (read u ws) h = tt
 
-numbered-body : (k : (Option Layout)) (m : List ℕ) → Numbered (bodyRead k m)
-unfolding bodyRead
-numbered-body none m = lit< tt
-numbered-body (some l) m = numbered-end m (length m) (fieldsRead l m 5) (sound-fields m l 5)
+numbered-head : (side : ℕ) (s : List ℕ) (h : MessageHead) → Numbered (messageBy side s h)
+unfolding messageBy
+numbered-head side s (headShort k) = lit< tt
+numbered-head side s badLength = lit< tt
+numbered-head side s (bodyShort n k) = lit< tt
+numbered-head side s (bodyWhole n) =
+    let k = layoutOf side (getD s 0 0) in numbered-judged (bodyRead k (take n s)) (judged-body k (take n s))
 
 numbered-room : (room : ℕ) (o : MessageRead) → Numbered o → Numbered (messageRoomed room o)
 unfolding messageRoomed
@@ -133,11 +150,4 @@ numbered-room room (read u ws) h = pick-case Numbered (ltb room (length ws)) (un
 
 pub numbered : (side : ℕ) (s : List ℕ) (room : ℕ) → Numbered (messageCall side s room)
 unfolding messageCall messageOf
-numbered side s room =
-    let n = be (take 4 (drop 1 s)) in
-    numbered-room room (messageOf side s)
-    (pick-case Numbered (ltb (length s) 5) (unread 1 0) _ (λ _. lit< tt)
-    (λ _. pick-case Numbered (ltb n 4) (unread 2 0) _ (λ _. lit< tt)
-    (λ _. pick-case Numbered (ltb 65535 n) (unread 2 0) _ (λ _. lit< tt)
-    (λ _. pick-case Numbered (ltb (length s) (n + 1)) (unread 1 0) _ (λ _. lit< tt)
-    (λ _. numbered-body (layoutOf side (getD s 0 0)) (take (n + 1) s))))))
+numbered side s room = numbered-room room (messageOf side s) (numbered-head side s (messageHead s))

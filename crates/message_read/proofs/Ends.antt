@@ -20,7 +20,8 @@ use Rattle.message_read.specs.declared.Answer.the-variants.{Read}
 use Rattle.message_read.proofs.Trusted.{unjudged-reads}
 use Rattle.message_read.proofs.Whole.{Whole, whole, known-layout}
 use Rattle.protocol.specs.Numbers.{pick, be}
-use Rattle.protocol.specs.Messages.{layoutOf, MessageRead, unread, read, fieldsRead, messageEnd, bodyRead, messageOf, messageRoomed, messageCall, messageWords, messageList}
+use Rattle.protocol.specs.Messages.{layoutOf, MessageRead, unread, read, fieldsRead, messageEnd, bodyRead, messageHead, messageBy, messageOf, messageRoomed, messageCall}
+use Rattle.protocol.specs.Messages.{messageWords, messageList}
 
 -- ---- a walk from no words on
 
@@ -70,27 +71,27 @@ refuses o n p l l′ e = rw e (record { answer = refl; words = tt })
 
 module _ (side : ℕ) (s l l′ : List ℕ) where
   pub check-short : length s < 5 → Checks (messageOf side s) (Answer.Refused 1 0) l l′
-  unfolding messageOf pick
+  unfolding messageOf messageBy messageHead pick
   check-short h = refuses _ 1 0 l l′ (rw (lt-ltb (length s) 5 h))
 
   module _ (n : ℕ) (e : n ≡ be (take 4 (drop 1 s))) (h : 5 ≤ length s) where
     pub check-small : n < 4 → Checks (messageOf side s) (Answer.Refused 2 0) l l′
-    unfolding messageOf pick
+    unfolding messageOf messageBy messageHead pick
     check-small g = refuses _ 2 0 l l′ (rw (← e, le-ltb (length s) 5 h, lt-ltb n 4 g))
 
     module _ (g : 4 ≤ n) where
       pub check-large : 65535 < n → Checks (messageOf side s) (Answer.Refused 2 0) l l′
-      unfolding messageOf pick
+      unfolding messageOf messageBy messageHead pick
       check-large k = refuses _ 2 0 l l′ (rw (← e, le-ltb (length s) 5 h, le-ltb n 4 g, lt-ltb 65535 n k))
 
       module _ (k : n ≤ 65535) where
         pub check-more : length s < n + 1 → Checks (messageOf side s) (Answer.Refused 1 0) l l′
-        unfolding messageOf pick
+        unfolding messageOf messageBy messageHead pick
         check-more j = refuses _ 1 0 l l′ (rw (← e, le-ltb (length s) 5 h, le-ltb n 4 g, le-ltb 65535 n k, lt-ltb (length s) (n + 1) j))
 
         module _ (j : n + 1 ≤ length s) (r : ℕ) (f : r ≡ startOf side (getD s 0 0)) where
           message-is : messageOf side s ≡ bodyRead (knownAt r) (take (n + 1) s)
-          unfolding messageOf pick
+          unfolding messageOf messageBy messageHead pick
           message-is =
               let d = start-known r side (getD s 0 0) f in
               rw (← e, le-ltb (length s) 5 h, le-ltb n 4 g, le-ltb 65535 n k, le-ltb (length s) (n + 1) j, ← d)

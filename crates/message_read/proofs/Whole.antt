@@ -2,14 +2,15 @@
 use mathlib.Core.Path.{_≡_, refl, _∙_}
 use mathlib.Core.Bool.{Bool, true, false}
 use mathlib.Core.List.{List}
-use Prim.Native.Nat.{ℕ, _+_, _<_, _≤_}
+use Prim.Native.Nat.{ℕ, _+_, _-_, _<_, _≤_}
 use native.Mathlib.Omega.{arith}
 use lib.Dec.{ltb}
 use lib.ListN.{length, getD, take, drop}
 use borrow.Author.Tests.{ltb-false, ltb-true}
 use Rattle.message_layout.specs.Tables.{layoutAt, knownAt}
 use Rattle.protocol.specs.Numbers.{pick, be}
-use Rattle.protocol.specs.Messages.{Layout, layoutOf, MessageRead, unread, read, fieldsRead, messageEnd, bodyRead, messageOf, messageRoomed}
+use Rattle.protocol.specs.Messages.{Layout, layoutOf, MessageRead, unread, read, fieldsRead, messageEnd, bodyRead, MessageHead, headShort}
+use Rattle.protocol.specs.Messages.{badLength, bodyShort, bodyWhole, messageHead, messageBy, messageOf, messageRoomed}
 use mathlib.Core.Option.{Option, some, none}
 
 -- a test whose refusal was not given
@@ -17,6 +18,13 @@ past : (b : Bool) (n p : ℕ) (o : MessageRead) (u : ℕ) (ws : List ℕ) → pi
 unfolding pick
 past true n p o u ws e = let z : _≡_ {A = ℕ} 0 1 = cc in absurd (omega arith)
 past false n p o u ws e = (refl, e)
+
+-- a test of the head whose refusal was not given
+beyond : (side : ℕ) (s : List ℕ) (b : Bool) (x h : MessageHead) (n p : ℕ) → messageBy side s x ≡ unread n p → (u : ℕ) (ws : List ℕ) → messageBy side s (pick b x h) ≡ read u ws
+    → (b ≡ false) × (messageBy side s h ≡ read u ws)
+unfolding pick
+beyond side s true x h n p d u ws e = let z : _≡_ {A = ℕ} 0 1 = cc in absurd (omega arith)
+beyond side s false x h n p d u ws e = (refl, e)
 
 -- an accepted body: its fields, with nothing left over
 pub record Body (l : Layout) (m : List ℕ) (u : ℕ) (ws : List ℕ) : Type 0 where
@@ -57,13 +65,13 @@ pub record Whole (side : ℕ) (s : List ℕ) (n u : ℕ) (ws : List ℕ) : Type 
   pub body : Body layout (take (n + 1) s) u ws
 
 pub whole : (side : ℕ) (s : List ℕ) (u : ℕ) (ws : List ℕ) → messageOf side s ≡ read u ws → Whole side s (be (take 4 (drop 1 s))) u ws
-unfolding messageOf
+unfolding messageOf messageBy messageHead
 whole side s u ws e =
     let n = be (take 4 (drop 1 s)) in
-    let a = past (ltb (length s) 5) 1 0 _ u ws e in
-    let b = past (ltb n 4) 2 0 _ u ws (a .1) in
-    let c = past (ltb 65535 n) 2 0 _ u ws (b .1) in
-    let d = past (ltb (length s) (n + 1)) 1 0 _ u ws (c .1) in
+    let a = beyond side s (ltb (length s) 5) (headShort (5 - length s)) _ 1 0 refl u ws e in
+    let b = beyond side s (ltb n 4) badLength _ 2 0 refl u ws (a .1) in
+    let c = beyond side s (ltb 65535 n) badLength _ 2 0 refl u ws (b .1) in
+    let d = beyond side s (ltb (length s) (n + 1)) (bodyShort (n + 1) (n + 1 - length s)) (bodyWhole (n + 1)) 1 0 refl u ws (c .1) in
     let f = embodied (layoutOf side (getD s 0 0)) (take (n + 1) s) u ws (d .1) in
     record {
       size = refl;

@@ -7,6 +7,10 @@ use Prim.Native.Nat.{ℕ, _-_, _^_}
 abbrev pub MOST-LENGTH : ℕ
 MOST-LENGTH = 65535
 
+-- a message's head: its type byte and its length field (R2.2)
+abbrev pub MESSAGE-HEAD : ℕ
+MESSAGE-HEAD = 5
+
 -- the bytes of a descriptor
 abbrev pub MOST-DESCRIPTOR : ℕ
 MOST-DESCRIPTOR = 65535

@@ -19,3 +19,4 @@ pub mod Finding
 pub mod Supplies
 pub mod Building
 pub mod Crossing
+pub mod Intake

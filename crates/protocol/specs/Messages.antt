@@ -1,11 +1,11 @@
 -- Messages (R2): their layouts, what reading one gives, and what writing one puts out.
-use Prim.Native.Nat.{ℕ, zero, suc, _+_}
+use Prim.Native.Nat.{ℕ, zero, suc, _+_, _-_}
 use mathlib.Core.Bool.{Bool, true, false}
 use mathlib.Core.List.{List, [], _∷_, _++_}
 use mathlib.Core.Option.{Option, none, some}
 use lib.Dec.{leb, ltb, eqb}
 use lib.ListN.{length, take, drop, getD}
-use Rattle.protocol.specs.Constants.{MOST-LENGTH, NOT-WHOLE, BAD-LENGTH, UNKNOWN-TYPE, FIELD-PAST-END, BYTES-LEFT, BAD-FIELD}
+use Rattle.protocol.specs.Constants.{MOST-LENGTH, MESSAGE-HEAD, NOT-WHOLE, BAD-LENGTH, UNKNOWN-TYPE, FIELD-PAST-END, BYTES-LEFT, BAD-FIELD}
 use Rattle.protocol.specs.Constants.{LIST-ROOM, OUTPUT-ROOM, CLIENT, SERVER, CARDINALITY-NONE, CARDINALITY-AT-MOST-ONE}
 use Rattle.protocol.specs.Constants.{CARDINALITY-ONE, CARDINALITY-MANY, CARDINALITY-AT-LEAST-ONE}
 use Rattle.protocol.specs.Numbers.{pick, be, bytesBe, oneOf}
@@ -171,14 +171,34 @@ unfoldable pub bodyRead : Option Layout → List ℕ → MessageRead
 bodyRead none m = unread UNKNOWN-TYPE 0
 bodyRead (some l) m = messageEnd m (fieldsRead l m 5)
 
--- The message at the start of s (R2.2, R2.3), in the order of R1.6: what comes after it is not looked at.
+-- how much of a message some bytes hold (R2.3): of its head so many are lacking; its length field is not permitted; of a message of the size named
+-- first so many are lacking; or all of a message of that size
+pub data MessageHead : Type 0 where
+  headShort : ℕ → MessageHead
+  badLength : MessageHead
+  bodyShort : ℕ → ℕ → MessageHead
+  bodyWhole : ℕ → MessageHead
+
+-- The head of the message at the start of s, before its type and body are looked at (R2.2, R2.3): five bytes, the length field, all bytes.
+unfoldable pub messageHead : List ℕ → MessageHead
+messageHead s =
+    pick (ltb (length s) MESSAGE-HEAD) (headShort (MESSAGE-HEAD - length s))
+    (pick (ltb (be (take 4 (drop 1 s))) 4) badLength
+    (pick (ltb MOST-LENGTH (be (take 4 (drop 1 s)))) badLength
+    (pick (ltb (length s) (be (take 4 (drop 1 s)) + 1))
+    (bodyShort (be (take 4 (drop 1 s)) + 1) (be (take 4 (drop 1 s)) + 1 - length s))
+    (bodyWhole (be (take 4 (drop 1 s)) + 1)))))
+
+-- R1.6: 1, 2, 1, and then the body
+unfoldable pub messageBy : ℕ → List ℕ → MessageHead → MessageRead
+messageBy side s (headShort k) = unread NOT-WHOLE 0
+messageBy side s badLength = unread BAD-LENGTH 0
+messageBy side s (bodyShort n k) = unread NOT-WHOLE 0
+messageBy side s (bodyWhole n) = bodyRead (layoutOf side (getD s 0 0)) (take n s)
+
+-- The message at the start of s: what comes after it is not looked at.
 unfoldable pub messageOf : ℕ → List ℕ → MessageRead
-messageOf side s =
-    pick (ltb (length s) 5) (unread NOT-WHOLE 0)
-    (pick (ltb (be (take 4 (drop 1 s))) 4) (unread BAD-LENGTH 0)
-    (pick (ltb MOST-LENGTH (be (take 4 (drop 1 s)))) (unread BAD-LENGTH 0)
-    (pick (ltb (length s) (be (take 4 (drop 1 s)) + 1)) (unread NOT-WHOLE 0)
-    (bodyRead (layoutOf side (getD s 0 0)) (take (be (take 4 (drop 1 s)) + 1) s)))))
+messageOf side s = messageBy side s (messageHead s)
 
 -- R1.6: the list's room comes last
 unfoldable pub messageRoomed : ℕ → MessageRead → MessageRead

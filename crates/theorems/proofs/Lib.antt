@@ -2,5 +2,6 @@
 pub mod Accepted
 pub mod Lists
 pub mod Bytes
+pub mod Intake
 pub mod Cases
 pub mod Theorems

@@ -6,6 +6,8 @@ use Rattle.find_path.proofs.Entries.{find-lines, found-entry}
 use Rattle.find_path.proofs.Indexes.{listed-distinct}
 use Rattle.find_number.proofs.Answers.{one-answer}
 use Rattle.find_number.proofs.Bits.{float-bits, extend-low, extend-high}
+use Rattle.intake_laws.proofs.Conversations.{cuts}
+use Rattle.intake_laws.proofs.States.{reset-starts}
 use Rattle.supply_laws.proofs.Sound.{sound}
 use Rattle.supply_laws.proofs.Complete.{complete, one-value, zeroed-length}
 use Rattle.supply_laws.proofs.Exact.{exact-34, exact-33 as supply-33, exact-32 as supply-32}
@@ -14,6 +16,9 @@ use Rattle.supply_laws.proofs.RoundTrip.{round-trip, round-trip-fits}
 use Rattle.run_compiled.proofs.Demand3.{demand-three, compiled-formed, compiled-small, refused-same}
 use Rattle.run_compiled.proofs.compile_and_run.Met.{met as compile-and-run-met}
 use Rattle.c_panel.proofs.rembulfose_read_message.Met.{met as read-message-met}
+use Rattle.c_panel.proofs.rembulfose_intake_start.Met.{met as intake-start-met}
+use Rattle.c_panel.proofs.rembulfose_intake_reset.Met.{met as intake-reset-met}
+use Rattle.c_panel.proofs.rembulfose_intake_take.Met.{met as intake-take-met}
 use Rattle.c_panel.proofs.rembulfose_write_message.Met.{met as write-message-met}
 use Rattle.c_panel.proofs.rembulfose_compile.Met.{met as compile-met}
 use Rattle.c_panel.proofs.rembulfose_run.Met.{met as run-met}
@@ -24,18 +29,19 @@ use Rattle.theorems.specs.Theorems.{RoomsKept, MessageAccepted, ReadThen
 use Rattle.theorems.specs.Theorems.{DescriptorNumbers, PlanGiven, NeverUnformed, DemandThree, DemandThreeBytes, RulesNumbers}
 use Rattle.theorems.specs.Theorems.{ValueAccepted, RunExact, FewEntries, FoundOnList, FoundIsEntry, OneEntry, OneNumber, FloatKept}
 use Rattle.theorems.specs.Theorems.{SignKept, SupplySound, SupplyComplete, SupplyUnique, SupplyExact, SupplyExactFromC, RoundTrip}
-use Rattle.theorems.specs.Theorems.{EveryCall, CompileAndRun, EdgeCases}
+use Rattle.theorems.specs.Theorems.{EveryCall, CompileAndRun, CutsAgree, IntakeEnds, IntakeAnswers, IntakeReads, EdgeCases}
 use Rattle.theorems.proofs.Accepted.{message-exact, descriptor-exact, no-type-exact, descriptor-number, plan-exact, full-exact}
 use Rattle.theorems.proofs.Accepted.{refused-own, value-exact}
 use Rattle.theorems.proofs.Lists.{run-number, rules-number, never-33, run-entries, call-entries, indexes-apart, found-part}
 use Rattle.theorems.proofs.Bytes.{read-keeps, write-keeps, compile-keeps, run-keeps, value-keeps, runs-rules, call-runs-rules, written-bytes}
+use Rattle.theorems.proofs.Intake.{two-cuts, refusal-stays, other-room-kept, intake-answers, intake-keeps, intake-gives, intake-takes}
 use Rattle.theorems.proofs.Cases.{case-table}
 use Rattle.protocol.specs.Finding.{foundIn, findOf}
 
 -- ---- R1: refusals and success
 
 pub rooms-kept-holds : RoomsKept
-rooms-kept-holds = (read-keeps, write-keeps, compile-keeps, run-keeps, value-keeps)
+rooms-kept-holds = (read-keeps, write-keeps, compile-keeps, run-keeps, value-keeps, intake-keeps)
 
 -- ---- R2: messages
 
@@ -156,6 +162,9 @@ pub every-call-holds : EveryCall
 every-call-holds =
     record {
       read-message-does = λ M. read-message-met {M = M};
+      intake-start-does = λ M. intake-start-met {M = M};
+      intake-reset-does = λ M. intake-reset-met {M = M};
+      intake-take-does = λ M. intake-take-met {M = M};
       write-message-does = λ M. write-message-met {M = M};
       compile-does = λ M. compile-met {M = M};
       run-does = λ M. run-met {M = M};
@@ -166,6 +175,20 @@ every-call-holds =
 
 pub compile-and-run-holds : CompileAndRun
 compile-and-run-holds M = compile-and-run-met {M = M}
+
+-- ---- R10: the intake
+
+pub cuts-agree-holds : CutsAgree
+cuts-agree-holds = (cuts, two-cuts)
+
+pub intake-ends-holds : IntakeEnds
+intake-ends-holds = (refusal-stays, other-room-kept, reset-starts)
+
+pub intake-answers-holds : IntakeAnswers
+intake-answers-holds = intake-answers
+
+pub intake-reads-holds : IntakeReads
+intake-reads-holds = (intake-gives, intake-takes)
 
 -- ---- the eleven cases
 

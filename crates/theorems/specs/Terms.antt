@@ -17,7 +17,8 @@ use denote.Triple.Entry.{Args, Res}
 use denote.Triple.Spec.{Meets}
 use denote.Triple.Clauses.{Ended, AtExit, closing}
 use Rattle.forms.specs.declared.Answer.{Answer}
-use Rattle.protocol.specs.Constants.{MOST-LENGTH, MOST-DESCRIPTOR, VALUE-SIZE, LIST-ROOM, ENTRY-WORDS}
+use Rattle.forms.specs.declared.Delivery.{Delivery}
+use Rattle.protocol.specs.Constants.{MOST-LENGTH, MESSAGE-HEAD, MOST-DESCRIPTOR, VALUE-SIZE, LIST-ROOM, OUTPUT-ROOM, ENTRY-WORDS}
 use Rattle.protocol.specs.Numbers.{be}
 use Rattle.protocol.specs.Answers.{accepted}
 use Rattle.protocol.specs.Messages.{Layout, layoutOf, read, fieldsRead}
@@ -26,6 +27,7 @@ use Rattle.protocol.specs.Lists.{Forest, empty, tree}
 use Rattle.protocol.specs.Finding.{nowhere, sibling, linesIn, lead}
 use Rattle.protocol.specs.Supplies.{HasSupply}
 use Rattle.protocol.specs.Crossing.{refusal}
+use Rattle.protocol.specs.Intake.{Conversation}
 
 -- what is lent as bytes, and what is lent as words (R9.2, R9.9)
 abbrev pub Bytes : List ℕ → Type 0
@@ -39,6 +41,11 @@ pub record Keeps (r : Answer) (n : ℕ) (l l′ : List ℕ) : Type 0 where
   pub on-refusal : (r .number ≡ 0 → ⊥) → (r ≡ refusal (r .number) (r .place)) × (l′ ≡ l)
   pub inside : n ≤ length l
   pub beyond : drop n l′ ≡ drop n l
+
+-- an intake's room stays as long as it was; where nothing is refused, what is behind the bytes held or the message given is as it was (R10.7)
+pub record KeepsBehind (r : Delivery) (l l′ : List ℕ) : Type 0 where
+  pub long : length l′ ≡ length l
+  pub behind : r .number ≡ 0 → drop (r .intake .held + r .size) l′ ≡ drop (r .intake .held + r .size) l
 
 -- u bytes at the start of s: a length field in its limits, a type known for that side, and fields that end where the message does (R2.2 to R2.13)
 pub record WholeMessage (side : ℕ) (s : List ℕ) (u : ℕ) (ws : List ℕ) : Type 0 where
@@ -80,6 +87,22 @@ IndexesApart (tree e below next) = (sibling (e .index) next ≡ nowhere) × Inde
 -- no accepted value has the supply (R8.6)
 abbrev pub NoneHas : (p ws src : List ℕ) → Type 0
 NoneHas p ws src = (s : List ℕ) → Bytes s → HasSupply p s ws src → ⊥
+
+-- a refusal that ends an intake (R10.3)
+abbrev pub IntakeNumber : ℕ → Type 0
+IntakeNumber n = ((2 ≤ n) × (n ≤ 6)) ⊎ (n ≡ OUTPUT-ROOM)
+
+-- k bytes are lacking to those held, and at least one: of a head while they are fewer, and then of the message (R10.4)
+pub record Lacks (held : List ℕ) (k : ℕ) : Type 0 where
+  pub some : 0 < k
+  pub of-head : length held < MESSAGE-HEAD → length held + k ≡ MESSAGE-HEAD
+  pub of-message : MESSAGE-HEAD ≤ length held → length held + k ≡ be (take 4 (drop 1 held)) + 1
+
+-- two conversations give the same messages, and end in the same state with the same bytes held (R10.8)
+pub record SameEnd (c c′ : Conversation) : Type 0 where
+  pub messages-same : c .given ≡ c′ .given
+  pub state-same : c .intake ≡ c′ .intake
+  pub held-same : take (c .intake .held) (c .room) ≡ take (c′ .intake .held) (c′ .room)
 
 -- A routine, called with any arguments: nothing is asked of them but what their types own. It ends, and `does` holds of the arguments, the
 -- result and the arguments at exit: the logic's own triple, with an empty `requires` (R1.13, R9.12).

@@ -1,4 +1,4 @@
--- What this library promises, on one page, in the order of the rules, R1 to R9. It must be believed together with crates/protocol, whose
+-- What this library promises, on one page, in the order of the rules, R1 to R10. It must be believed together with crates/protocol, whose
 -- definitions it cites. Of other crates it cites two contracts of inner calls: find_number/specs/Number (`Gives`), and run_compiled/specs/Follows
 -- with run_plan/specs/Run. Each promise is a type with a name, and proofs/Theorems proves it.
 use mathlib.Core.Path.{_≡_}
@@ -14,14 +14,19 @@ use Rattle.find_number.specs.declared.Number.{Number}
 use Rattle.run_compiled.specs.Follows.{Follows}
 use Rattle.run_compiled.proofs.compile_and_run as compile-and-run
 use Rattle.forms.specs.declared.Answer.{Answer}
+use Rattle.forms.specs.declared.Intake.{Intake}
+use Rattle.forms.specs.declared.Delivery.{Delivery}
 use Rattle.c_panel.proofs.rembulfose_read_message as read-message
+use Rattle.c_panel.proofs.rembulfose_intake_start as intake-start
+use Rattle.c_panel.proofs.rembulfose_intake_reset as intake-reset
+use Rattle.c_panel.proofs.rembulfose_intake_take as intake-take
 use Rattle.c_panel.proofs.rembulfose_write_message as write-message
 use Rattle.c_panel.proofs.rembulfose_compile as compile
 use Rattle.c_panel.proofs.rembulfose_run as run
 use Rattle.c_panel.proofs.rembulfose_find as find
 use Rattle.c_panel.proofs.rembulfose_find_number as find-number
 use Rattle.c_panel.proofs.rembulfose_write_value as write-value
-use Rattle.protocol.specs.Constants.{MOST-VALUE, VALUE-SIZE, PLAN-ROOM, LIST-ROOM, OUTPUT-ROOM, BAD-PLAN, NO-VALUE}
+use Rattle.protocol.specs.Constants.{MESSAGE-HEAD, MOST-VALUE, VALUE-SIZE, PLAN-ROOM, LIST-ROOM, OUTPUT-ROOM, BAD-PLAN, NO-VALUE}
 use Rattle.protocol.specs.Numbers.{be}
 use Rattle.protocol.specs.Answers.{refused, accepted, refusedPut, putOut, outputRoomed}
 use Rattle.protocol.specs.Messages.{read, messageCall, contents}
@@ -36,12 +41,16 @@ use Rattle.protocol.specs.Supplies.{HasSupply, zeroed}
 use Rattle.protocol.specs.Building.{writeOf}
 use Rattle.protocol.specs.Crossing.{wordsIn, crosses, wordRoom, refusal, success, ReadsMessage, WritesMessage, CompilesPlan}
 use Rattle.protocol.specs.Crossing.{runFrom, SettlesRun, RunsValue, findFrom, findAnswer, numberFrom, numberAnswer, writeFrom, WritesValue}
-use Rattle.theorems.specs.Terms.{Bytes, Words, Keeps, WholeMessage, TypedDescriptor, RunNumber, PathEntry, IndexesApart, NoneHas, Does}
+use Rattle.protocol.specs.Intake.{streamOf, intakeStart, intakeReset, refusedDelivery, takenDelivery, TakesDelivery, handAll, conversation, allBytes}
+use Rattle.protocol.specs.Intake.{ComesTo, Reached}
+use Rattle.theorems.specs.Terms.{Bytes, Words, Keeps, WholeMessage, TypedDescriptor, RunNumber, PathEntry, IndexesApart, NoneHas}
+use Rattle.theorems.specs.Terms.{KeepsBehind, IntakeNumber, Lacks, SameEnd, Does}
 use Rattle.theorems.specs.Cases.{Case, cases}
 
 -- ---- R1: refusals and success
 
--- Each C call that has a room writes no more of it than it answers, and leaves it as it was where it refuses (R1.1, R1.2, R9.6, R9.7).
+-- Each C call that has a room writes no more of it than it answers, and leaves it as it was where it refuses (R1.1, R1.2, R9.6, R9.7). Of an intake's
+-- room, which is its own, only what is behind the bytes held or the message given is left as it was, and a refusal may have changed it (R10.7).
 abbrev pub RoomsKept : Type 0
 RoomsKept =
     ((side : ℕ) (s : List ℕ) (r : Answer) (l l′ : List ℕ) → ReadsMessage side s r l l′ → Keeps r (4 * r .second) l l′)
@@ -49,6 +58,7 @@ RoomsKept =
     × ((d root : List ℕ) (r : Answer) (l l′ : List ℕ) → CompilesPlan d root r l l′ → Keeps r (4 * r .first) l l′)
     × ((plan s : List ℕ) (r : Answer) (l l′ : List ℕ) → RunsValue plan s r l l′ → Keeps r (4 * r .first) l l′)
     × ((plan list src : List ℕ) (r : Answer) (l l′ : List ℕ) → WritesValue plan list src r l l′ → Keeps r (r .first) l l′)
+    × ((i : Intake) (src : List ℕ) (r : Delivery) (l l′ : List ℕ) → TakesDelivery i src r l l′ → KeepsBehind r l l′)
 
 -- ---- R2: messages
 
@@ -229,11 +239,15 @@ RoundTrip =
 
 -- ---- R9: the calls
 
--- Each C call's answer, and every byte of its room, is what its definition computes from the bytes that were lent (R9.1 to R9.8). The room's bytes
--- are l before the call, and l′ after it.
+-- Each C call's answer, and every byte of its room, is what its definition computes from the bytes that were lent, and an intake's state (R9.1 to
+-- R9.8). The room's bytes are l before the call, and l′ after it.
 pub record EveryCall : Type 2 where
   pub read-message-does : Does read-message.ended read-message.Symbol.routine
       (λ κs (side, (s, (l, _))) r (_, (_, (l′, _))). ReadsMessage side (now s) r (now l) (now l′))
+  pub intake-start-does : Does intake-start.ended intake-start.Symbol.routine (λ κs (side, (room, _)) r _. r ≡ intakeStart side room)
+  pub intake-reset-does : Does intake-reset.ended intake-reset.Symbol.routine (λ κs (i, _) r _. r ≡ intakeReset i)
+  pub intake-take-does : Does intake-take.ended intake-take.Symbol.routine
+      (λ κs (i, (src, (l, _))) r (_, (_, (l′, _))). TakesDelivery i (now src) r (now l) (now l′))
   pub write-message-does : Does write-message.ended write-message.Symbol.routine
       (λ κs (side, (t, (list, (src, (l, _))))) r (_, (_, (_, (_, (l′, _))))). WritesMessage side t (now list) (now src) r (now l) (now l′))
   pub compile-does : Does compile.ended compile.Symbol.routine
@@ -250,6 +264,47 @@ abbrev pub CompileAndRun : Type 2
 CompileAndRun =
     Does compile-and-run.ended compile-and-run.Symbol.routine
     (λ κs (d, (root, (p, (s, (l, _))))) r (_, (_, (p′, (_, (l′, _))))). Follows (now d) (now root) (now s) r (now p) (now p′) (now l) (now l′))
+
+-- ---- R10: the intake
+
+-- However the bytes of a side are cut into deliveries, empty ones too, from a start with no reset the messages, the refusal, all of the state and the
+-- bytes held are those of reading all bytes message after message; so two cuts of the same bytes end alike, whatever the rooms held (R10.8).
+abbrev pub CutsAgree : Type 0
+CutsAgree =
+    ((side : ℕ) (l : List ℕ) (ds : List (List ℕ)) → ComesTo side (length l) (handAll (conversation side l) ds) (streamOf side (length l) (allBytes ds)))
+    × ((side : ℕ) (l l′ : List ℕ) (ds ds′ : List (List ℕ)) → length l ≡ length l′ → allBytes ds ≡ allBytes ds′
+    → SameEnd (handAll (conversation side l) ds) (handAll (conversation side l′) ds′))
+
+-- After a refusal every call gives it again and changes neither state nor room (R10.5). A room of another length is 32, in every state, takes nothing
+-- and changes nothing (R10.6). After a start, calls and resets a reset gives what the start gave (R10.2).
+abbrev pub IntakeEnds : Type 0
+IntakeEnds =
+    ((i : Intake) (src : List ℕ) (r : Delivery) (l l′ : List ℕ) → TakesDelivery i src r l l′ → length l ≡ i .room → (r .number ≡ 0 → ⊥)
+    → (src′ : List ℕ) (q : Delivery) (l″ : List ℕ) → TakesDelivery (r .intake) src′ q l′ l″ → (q ≡ r) × (l″ ≡ l′))
+    × ((i : Intake) (src : List ℕ) (r : Delivery) (l l′ : List ℕ) → TakesDelivery i src r l l′ → (length l ≡ i .room → ⊥)
+    → (r ≡ refusedDelivery i OUTPUT-ROOM 0) × (l′ ≡ l))
+    × ((side room : ℕ) (i : Intake) (l : List ℕ) → Reached side room i l → intakeReset i ≡ intakeStart side room)
+
+-- From a start on a call answers with the bytes held in the room and what is lacking to them, or with a refusal 2 to 6 or 32, and never with 1; the
+-- state that it returns has the same number and place (R10.4, R10.5).
+abbrev pub IntakeAnswers : Type 0
+IntakeAnswers =
+    (side room : ℕ) (i : Intake) (l : List ℕ) → Reached side room i l → (src : List ℕ) (r : Delivery) (l′ : List ℕ) → TakesDelivery i src r l l′
+    → (length (take (r .intake .held) l′) ≡ r .intake .held)
+    × (r .intake .number ≡ r .number)
+    × (r .intake .place ≡ r .place)
+    × (r .number ≡ 0 → Lacks (take (r .intake .held) l′) (r .lacks))
+    × ((r .number ≡ 0 → ⊥) → IntakeNumber (r .number))
+
+-- What the intake gives is a whole message for its side, which the reader accepts in a list that has room; and a whole message at the front of some
+-- bytes is what an intake that starts with them gives, if its room is as large (R10.9).
+abbrev pub IntakeReads : Type 0
+IntakeReads =
+    ((i : Intake) (src : List ℕ) (r : Delivery) (l l′ : List ℕ) → TakesDelivery i src r l l′ → (r .size ≡ 0 → ⊥)
+    → (ws : List ℕ) × WholeMessage (i .side) (take (r .size) l′) (r .size) ws)
+    × ((side : ℕ) (src : List ℕ) (u : ℕ) (ws : List ℕ) → WholeMessage side src u ws
+    → (r : Delivery) (l l′ : List ℕ) → TakesDelivery (intakeStart side (length l)) src r l l′ → u ≤ length l
+    → (r ≡ takenDelivery (intakeStart side (length l)) u u MESSAGE-HEAD) × (take u l′ ≡ take u src))
 
 -- ---- the eleven cases
 

@@ -1,7 +1,7 @@
 //! The message reader.
 
 use super::layout::{layout, Field};
-use super::{LEAST_LENGTH, MOST_LENGTH};
+use super::{whole_length, HEAD};
 use crate::refusal::{self, Refusal};
 
 /// A message that was read.
@@ -18,18 +18,15 @@ pub struct Read {
 /// fields, then 5, then 31.
 pub fn read_message(side: u32, src: &[u8], room_words: usize) -> Result<Read, Refusal> {
     // R1.6: 1 for fewer than five bytes, 2, 1 again, and then 3.
-    let Some((&[type_byte, a, b, c, d], _)) = src.split_first_chunk() else {
+    let Some((head, _)) = src.split_first_chunk() else {
         return Err(Refusal::at_start(refusal::NOT_WHOLE));
     };
-    let length = u32::from_be_bytes([a, b, c, d]) as usize;
-    if !(LEAST_LENGTH..=MOST_LENGTH).contains(&length) {
-        return Err(Refusal::at_start(refusal::BAD_LENGTH));
-    }
+    let length = whole_length(head)?;
     // R2.3: what comes after the message has no effect.
-    let Some(message) = src.get(..1 + length) else {
+    let Some(message) = src.get(..length) else {
         return Err(Refusal::at_start(refusal::NOT_WHOLE));
     };
-    let Some(fields) = layout(side, type_byte) else {
+    let Some(fields) = layout(side, head[0]) else {
         return Err(Refusal::at_start(refusal::UNKNOWN_TYPE));
     };
     let words = read_body(message, fields)?;
@@ -46,7 +43,7 @@ pub fn read_message(side: u32, src: &[u8], room_words: usize) -> Result<Read, Re
 fn read_body(message: &[u8], fields: &[Field]) -> Result<Vec<u32>, Refusal> {
     let mut body = Body {
         message,
-        at: 5,
+        at: HEAD,
         words: Vec::new(),
     };
     body.fields(fields)?;

@@ -9,6 +9,7 @@
 
 use compare::panel::capture::shown;
 use compare::panel::compare::{printed, same, same_found, same_shown};
+use compare::panel::joined::Sides;
 use compare::panel::seen::Seen;
 use compare::panel::{made, sweep, table};
 use compare::rng::Rng;
@@ -101,10 +102,8 @@ fn hold_table(panel: &Path, name: &str, count: &mut Count) -> Result<(), String>
     }
     let capture = table::capture(&rows)?;
     let printed = printed(panel, &["show"], &capture)?;
-    for (whose, lines) in [
-        ("panel", printed.lines),
-        ("second", shown(&capture, SERVER).lines),
-    ] {
+    let second = shown(&Sides::of(&capture, SERVER)).lines;
+    for (whose, lines) in [("panel", printed.lines), ("second", second)] {
         let trees = table::trees(&lines);
         if trees.len() != rows.len() {
             return Err(format!("{whose}: {} rows of {}", trees.len(), rows.len()));

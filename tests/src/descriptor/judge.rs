@@ -37,9 +37,10 @@ pub struct Descriptors<T> {
 
 impl<T: Tested> Judge for Descriptors<T> {
     type Case = Case;
+    type Answer = Answer;
     const COUNTED: &'static [Counted] = &[
-        ("compile", &[10, 11, 12, 13, 14, 15, 16, 17, 18, 30]),
-        ("run", &[20, 21, 22, 23, 24, 25, 26, 27, 28, 31]),
+        Counted::Answers("compile", &[10, 11, 12, 13, 14, 15, 16, 17, 18, 30]),
+        Counted::Answers("run", &[20, 21, 22, 23, 24, 25, 26, 27, 28, 31]),
     ];
 
     fn new(seed: u64) -> Descriptors<T> {

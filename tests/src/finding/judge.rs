@@ -27,9 +27,10 @@ pub struct Finding {
 
 impl Judge for Finding {
     type Case = Case;
+    type Answer = Answer;
     const COUNTED: &'static [Counted] = &[
-        ("find", &[20, 21, 22, 23, 24, 25, 26, 27, 28, 33, 35, 36]),
-        (
+        Counted::Answers("find", &[20, 21, 22, 23, 24, 25, 26, 27, 28, 33, 35, 36]),
+        Counted::Answers(
             "find_number",
             &[20, 21, 22, 23, 24, 25, 26, 27, 28, 33, 35, 36, 37],
         ),

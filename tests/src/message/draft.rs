@@ -20,6 +20,9 @@ pub const KINDS: [(u32, u8); 10] = [
 ];
 const WITH_RUN: usize = 6;
 
+/// The sides that have any.
+pub const SIDES: [u32; 2] = [CLIENT, SERVER];
+
 pub struct Draft {
     pub side: u32,
     pub type_byte: u8,
@@ -45,8 +48,18 @@ enum Size {
 impl Draft {
     /// A good message of some kind and of ordinary size.
     pub fn make(rng: &mut Rng) -> Draft {
+        Draft::make_among(rng, &KINDS)
+    }
+
+    /// One of a side, which is one of the two.
+    pub fn make_of(rng: &mut Rng, side: u32) -> Draft {
+        let of_side = KINDS.into_iter().filter(|kind| kind.0 == side);
+        Draft::make_among(rng, &of_side.collect::<Vec<_>>())
+    }
+
+    fn make_among(rng: &mut Rng, kinds: &[(u32, u8)]) -> Draft {
         let most = rng.pick(&[0, 3, 20, 20, 20, 150]);
-        let (side, type_byte) = rng.pick(&KINDS);
+        let (side, type_byte) = rng.pick(kinds);
         Draft::of(rng, side, type_byte, Size::Few(most))
     }
 

@@ -1,7 +1,7 @@
 //! Cases by construction, at the largest sizes of R1.4 and beside them, with answers worked out by
 //! hand. Each is run with either end of its buffers fenced.
 
-use super::bytes::whole;
+use super::bytes::{data, handshake, whole};
 use super::case::{Call, Case, ReadCall, WriteCall};
 use crate::crossed::{accepted, list, refused};
 use crate::fence::Edge;
@@ -188,21 +188,6 @@ impl Cases {
         pair(1, u32::MAX, refused(6, 0));
         pair(0, 1, refused(32, 0));
     }
-}
-
-/// D with so many bytes of content.
-fn data(length: u32) -> Vec<u8> {
-    let content = text::letters(length as usize);
-    whole(0x44, &[&[0, 1], &length.to_be_bytes(), &content])
-}
-
-/// V with so many parameters of two empty texts, and no extension: 5 + 8 + 8 * count bytes.
-fn handshake(count: u16) -> Vec<u8> {
-    let parameters = vec![0; 8 * usize::from(count)];
-    whole(
-        0x56,
-        &[&[0, 1, 0, 0], &count.to_be_bytes(), &parameters, &[0, 0]],
-    )
 }
 
 /// The list of `handshake`: 8 + 4 * count words.

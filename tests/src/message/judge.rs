@@ -19,9 +19,10 @@ pub struct Messages {
 
 impl Judge for Messages {
     type Case = Case;
+    type Answer = Answer;
     const COUNTED: &'static [Counted] = &[
-        ("reader", &[1, 2, 3, 4, 5, 6, 31]),
-        ("writer", &[2, 3, 6, 32]),
+        Counted::Answers("reader", &[1, 2, 3, 4, 5, 6, 31]),
+        Counted::Answers("writer", &[2, 3, 6, 32]),
     ];
 
     fn new(seed: u64) -> Messages {

@@ -7,8 +7,16 @@ use super::draft::Draft;
 use crate::rng::Rng;
 use second::message;
 
-/// A call of the reader on a message that is good or damaged in one or more ways.
+/// A call of the reader.
 pub fn make(rng: &mut Rng) -> ReadCall {
+    let (side, src) = received(rng);
+    let room = room(rng, side, &src);
+    ReadCall { side, src, room }
+}
+
+/// A side, and a message of it that is good or damaged in one or more ways, with or without bytes
+/// after it.
+pub fn received(rng: &mut Rng) -> (u32, Vec<u8>) {
     let draft = damage::drafted(rng, 4);
     let mut src = draft.message();
     let mut side = draft.side;
@@ -23,8 +31,7 @@ pub fn make(rng: &mut Rng) -> ReadCall {
     if rng.once_in(3) {
         append_after(rng, &mut src);
     }
-    let room = room(rng, side, &src);
-    ReadCall { side, src, room }
+    (side, src)
 }
 
 /// Damages the bytes of a whole message.

@@ -11,8 +11,8 @@ use second::message::{CLIENT, SERVER};
 /// What one side sent: the side, and whole messages or parts of one.
 pub type Record = (u8, Vec<u8>);
 
-const CLIENT_SIDE: u8 = CLIENT as u8;
-const SERVER_SIDE: u8 = SERVER as u8;
+pub const CLIENT_SIDE: u8 = CLIENT as u8;
+pub const SERVER_SIDE: u8 = SERVER as u8;
 
 /// Bytes of a descriptor or value, so that two of them fit into a message.
 const MOST_BYTES: usize = 32_000;
@@ -26,7 +26,7 @@ const CARDINALITY: usize = 15;
 /// Types that neither side knows; some are near to those that are known.
 const UNKNOWN_TYPES: [u8; 8] = [b'Q', b't', b'd', b'c', b'U', 0, 0x7f, 0xff];
 /// Sides that know no message.
-const UNKNOWN_SIDES: [u8; 4] = [2, 3, 0x80, 0xff];
+pub const UNKNOWN_SIDES: [u8; 4] = [2, 3, 0x80, 0xff];
 
 /// An accepted descriptor with its root, and a value for it, good or not.
 struct Described {
@@ -77,24 +77,52 @@ impl Described {
 /// Descriptions, some of them sent again, with values after each.
 pub fn records(rng: &mut Rng) -> Vec<Record> {
     let described = Described::make(rng);
-    if rng.once_in(4) {
-        return calm(rng, &described);
+    match rng.below(8) {
+        0 | 1 => return calm(rng, &described),
+        2 => return behind_length(rng, &described),
+        _ => {}
     }
     let mut records = Vec::new();
     if rng.once_in(3) {
         records.extend(values(rng, &described));
     }
+    records.extend(descriptions(rng, &described));
+    for _ in 0..rng.between(1, 3) {
+        records.extend(values(rng, &described));
+        records.push(again(rng, &described));
+    }
+    records.extend(values(rng, &described));
+    records
+}
+
+/// Good descriptions, both or one or none.
+fn descriptions(rng: &mut Rng, described: &Described) -> Vec<Record> {
+    let mut records = Vec::new();
     if !rng.once_in(4) {
         records.push((SERVER_SIDE, described.description(rng)));
     }
     if !rng.once_in(4) {
         records.push((SERVER_SIDE, described.state()));
     }
+    records
+}
+
+/// A length that is not permitted, not of the server, and bytes behind it among descriptions and
+/// values.
+fn behind_length(rng: &mut Rng, described: &Described) -> Vec<Record> {
+    let unknown_side = rng.pick(&UNKNOWN_SIDES);
+    let side = rng.pick(&[CLIENT_SIDE, unknown_side, unknown_side]);
+    let mut records = descriptions(rng, described);
+    let refused = rng.pick(&[&message(b'S', b""), &described.state()]).clone();
+    records.push((side, with_bad_length(rng, refused)));
     for _ in 0..rng.between(1, 3) {
-        records.extend(values(rng, &described));
-        records.push(again(rng, &described));
+        records.extend(descriptions(rng, described));
+        if rng.once_in(2) {
+            let length = rng.between(1, 30);
+            records.push((side, rng.bytes(length)));
+        }
+        records.extend(values(rng, described));
     }
-    records.extend(values(rng, &described));
     records
 }
 
@@ -139,14 +167,14 @@ fn value(rng: &mut Rng, described: &Described) -> Vec<u8> {
     value
 }
 
-/// A description sent again, good or refused in some way, or a message that describes nothing.
+/// A description sent again, good or refused or not whole, or a message that describes nothing.
 fn again(rng: &mut Rng, described: &Described) -> Record {
     let message = match rng.once_in(2) {
         true => described.description(rng),
         false => described.state(),
     };
     let unknown_side = rng.pick(&UNKNOWN_SIDES);
-    let any_side = rng.pick(&[SERVER_SIDE, SERVER_SIDE, CLIENT_SIDE, unknown_side]);
+    let any_side = rng.pick(&[SERVER_SIDE, CLIENT_SIDE, CLIENT_SIDE, unknown_side]);
     match rng.below(15) {
         0 => (SERVER_SIDE, message),
         1 => (rng.pick(&[CLIENT_SIDE, unknown_side]), message),
@@ -175,7 +203,8 @@ fn with_bad_length(rng: &mut Rng, message: Vec<u8>) -> Vec<u8> {
     with_length(message, rng.pick(&[0, 3, 65_536, u32::MAX]))
 }
 
-/// Refused with 1: its length goes past the record, or the record ends inside of it.
+/// With its length too large, or without its last bytes: what its side sends next is taken for the
+/// rest of it.
 fn not_whole(rng: &mut Rng, mut message: Vec<u8>) -> Vec<u8> {
     if rng.once_in(2) {
         message.truncate(rng.between(1, message.len() - 1));

@@ -9,6 +9,7 @@ use super::tree::Tree;
 use crate::crossed;
 use second::crossing::{find, find_number, Answer};
 use second::descriptor::{self, Descriptor};
+use second::message::SERVER;
 use second::refusal::{Refusal, ABSENT_ELEMENT, NO_ENTRY};
 
 /// What a command prints, what it prints as errors, and its exit status.
@@ -60,18 +61,19 @@ fn is_refusal(line: &str) -> bool {
     line.starts_with("    refused with ")
 }
 
-/// The first message with a refusal and the first refusal in it; if there is none, the sum, and how
-/// many values could not be checked.
+/// The first message with a refusal and the first refusal in it; if there is none, what is unfinished
+/// first; else the sum, and how many values could not be checked.
 pub fn checked(shown: &Shown) -> Ended {
     let lines = &shown.lines;
-    let is_cut = |line: &String| line.starts_with("the capture ends ");
+    let ends = ["the capture ends ", "unfinished: "];
+    let is_end = |line: &String| ends.iter().any(|end| line.starts_with(end));
     let first = lines
         .iter()
-        .position(|line| is_refusal(line) || is_cut(line));
+        .position(|line| is_refusal(line) || is_end(line));
     let Some(first) = first else {
         return unrefused(shown);
     };
-    if is_cut(&lines[first]) {
+    if is_end(&lines[first]) {
         return Ended::refused(vec![lines[first].clone()]);
     }
     let is_head = |line: &String| line.starts_with("message ");
@@ -116,10 +118,8 @@ pub fn found(shown: &Shown, row: usize, path: &[u32]) -> Ended {
         return Ended::refused(not_found(answer, at));
     }
     let (size, start) = (texts::size(answer.second as usize), answer.first);
-    let place = at.at + start as usize;
-    let mut lines = vec![format!(
-        "{size} at {start} of row {row} (byte {place} of the capture)"
-    )];
+    let place = refused::in_side(SERVER, at.at + start as usize);
+    let mut lines = vec![format!("{size} at {start} of row {row} {place}")];
     lines.extend(element(by, at, answer, path));
     let number = find_number(&plan, at.bytes, &path_bytes);
     if number.number == 0 {
@@ -134,11 +134,7 @@ fn not_found(answer: Answer, row: &RowAt) -> Vec<String> {
     if number == NO_ENTRY || number == ABSENT_ELEMENT {
         return vec![format!("refused with {number}: {WORDS}")];
     }
-    let within = Within {
-        what: "row",
-        bytes: row.bytes,
-        at: row.at,
-    };
+    let within = Within::of_server("row", row.bytes, row.at);
     let lines = refused::lines(Refusal { number, place }, &within);
     lines.iter().map(|line| line[4..].to_string()).collect()
 }

@@ -1,24 +1,20 @@
 //! All that `panel show` prints of a capture, as host/README.md says it.
 
-use super::described::{Described, Description, Descriptions, Way};
+use super::described::{Described, Description, Descriptions, Loss, Way};
 use super::fields;
+use super::joined::{Cut, Ending, Event, Message, Sides, MOST_WORDS};
 use super::refused::{self, Within};
-use super::seen::{Kind, Outcome};
+use super::seen::{self, End, Kind, Outcome};
 use super::texts::{self, Extent};
 use super::tree::{self, Tree};
 use second::descriptor::{self, Descriptor};
 use second::entry::Entry;
-use second::message::{read_message, SERVER};
+use second::message::SERVER;
 use second::off_descriptor;
-use second::refusal::{self, Refusal};
+use second::refusal::{Refusal, BAD_LENGTH};
+use std::collections::BTreeMap;
 
-/// The first line of a side-marked capture.
-pub const FIRST_LINE: &[u8] = b"rembulfose-capture 1\n";
-
-/// Words of a list or plan that can cross to a host.
-const MOST_WORDS: usize = 8_192;
-
-/// A row: by what it is read, its bytes, and where they start in the capture.
+/// A row: by what it is read, its bytes, and how many bytes the server sent before them.
 pub struct RowAt<'a> {
     pub by: Description<'a>,
     pub bytes: &'a [u8],
@@ -32,42 +28,49 @@ pub struct Shown<'a> {
     pub rows: Vec<RowAt<'a>>,
     /// What came of each value, in the order of the capture.
     pub values: Vec<(Kind, Outcome)>,
+    /// The names of what was met where records and sides end, for [`seen`].
+    pub cuts: Vec<String>,
 }
 
 /// What is known so far.
 #[derive(Default)]
 struct Session<'a> {
-    capture: &'a [u8],
     descriptions: Descriptions<'a>,
     messages: usize,
     rows: Vec<RowAt<'a>>,
     values: Vec<(Kind, Outcome)>,
+    cuts: Vec<String>,
     refused: usize,
+    unfinished: usize,
+    /// For each side that is not read to its end, the message that it is not read behind.
+    ended: BTreeMap<u32, usize>,
     lines: Vec<String>,
 }
 
-/// The lines and rows of a capture; `one_side` is whose bytes one without marks has.
-pub fn shown(capture: &[u8], one_side: u32) -> Shown<'_> {
-    let mut session = Session {
-        capture,
-        ..Session::default()
-    };
-    if capture.starts_with(FIRST_LINE) {
-        session.records(FIRST_LINE.len());
-    } else {
-        session.record(one_side, 0, capture.len());
+/// The lines and rows of a capture.
+pub fn shown(sides: &Sides) -> Shown<'_> {
+    let mut session = Session::default();
+    let mut told = sides.told();
+    for event in told.in_turn() {
+        match event {
+            Event::Message(message) => session.message(message),
+            Event::Unread(side) => session.unread(side),
+        }
     }
-    let (messages, rows) = (session.messages, session.rows.len());
-    let (messages, rows) = (plural(messages, "message"), plural(rows, "row"));
-    let refused = session.refused;
-    session
-        .lines
-        .push(format!("{messages}, {rows}, {refused} refused"));
+    session.cuts.extend(seen::ends(&told.endings));
+    if let Some(cut) = &sides.cut {
+        session.cut(cut);
+    }
+    for (side, ending) in &told.endings {
+        session.end(*side, ending);
+    }
+    session.sum();
     Shown {
         lines: session.lines,
         messages: session.messages,
         rows: session.rows,
         values: session.values,
+        cuts: session.cuts,
     }
 }
 
@@ -76,61 +79,88 @@ fn plural(count: usize, what: &str) -> String {
 }
 
 impl<'a> Session<'a> {
-    fn records(&mut self, mut at: usize) {
-        while at < self.capture.len() {
-            let Some((&[side, a, b, c, d], rest)) = self.capture[at..].split_first_chunk() else {
-                let line = "the capture ends inside the head of a record, at byte";
-                return self.cut(format!("{line} {at}"));
-            };
-            let promised = u32::from_be_bytes([a, b, c, d]) as usize;
-            let there = promised.min(rest.len());
-            self.record(side.into(), at + 5, at + 5 + there);
-            if there < promised {
-                let line = "the capture ends inside a record: of its";
-                return self.cut(format!("{line} {promised} bytes {there} are there"));
-            }
-            at += 5 + promised;
-        }
-    }
-
-    fn cut(&mut self, line: String) {
-        self.refused += 1;
-        self.lines.push(line);
-    }
-
-    /// The messages of one side, up to `end`.
-    fn record(&mut self, side: u32, mut at: usize, end: usize) {
-        while at < end {
-            at += self.message(side, at, end);
-        }
-    }
-
-    /// One message; how many bytes it has. After 1 or 2 nobody knows where the next one starts.
-    fn message(&mut self, side: u32, at: usize, end: usize) -> usize {
+    fn message(&mut self, message: Message<'a>) {
         self.messages += 1;
-        let all = &self.capture[at..end];
-        let read = read_message(side, all, MOST_WORDS);
-        let length = match read {
-            Err(refused) if refused.number <= refusal::BAD_LENGTH => all.len(),
-            _ => 1 + u32::from_be_bytes([all[1], all[2], all[3], all[4]]) as usize,
+        let Message {
+            side, bytes, at, ..
+        } = message;
+        let is_row = side == SERVER && bytes[0] == b'D' && message.read.is_ok();
+        let row = match is_row {
+            true => format!(", row {}", self.rows.len() + 1),
+            false => String::new(),
         };
-        let bytes = &all[..length];
-        let row = side == SERVER && bytes[0] == b'D' && read.is_ok();
-        let row = if row {
-            format!(", row {}", self.rows.len() + 1)
-        } else {
-            String::new()
+        let head = match &message.read {
+            Err(refusal) if refusal.number == BAD_LENGTH => "a head of ",
+            _ => "",
         };
         let (number, title) = (self.messages, fields::title(side, bytes[0]));
+        let size = texts::size(bytes.len());
         self.lines.push(format!(
-            "message {number}: {title}, {} at {at}{row}",
-            texts::size(length)
+            "message {number}: {title}, {head}{size} at {at}{row}"
         ));
-        match read {
+        self.cuts.extend(seen::cut(message.is_cut));
+        match message.read {
             Ok(read) => self.accept(side, bytes, &read.words, at),
             Err(refusal) => self.refuse(side, bytes, refusal, at),
         }
-        length
+    }
+
+    /// Bytes behind a length that is not permitted may hide a description whenever they come.
+    fn unread(&mut self, side: u32) {
+        self.descriptions.lose(Loss {
+            message: self.ended[&side],
+            way: Way::Unread,
+        });
+    }
+
+    fn cut(&mut self, cut: &Cut) {
+        let Cut { whole, there, .. } = cut;
+        let (what, name) = match cut.is_head {
+            true => ("the head of a record", seen::END_IN_RECORD_HEAD),
+            false => ("a record", seen::END_IN_RECORD),
+        };
+        self.unfinished += 1;
+        self.cuts.push(name.into());
+        self.lines.push(format!(
+            "the capture ends inside {what}: of its {whole} bytes {there} are there"
+        ));
+    }
+
+    fn end(&mut self, side: u32, ending: &Ending) {
+        let line = match ending {
+            Ending::Unfinished {
+                type_byte,
+                at,
+                held,
+                lacking,
+            } => {
+                self.unfinished += 1;
+                let of_head = match ending.kind() {
+                    End::InHead => " of its head",
+                    _ => "",
+                };
+                let title = fields::title(side, *type_byte);
+                let (held, lacking) = (texts::size(*held), texts::size(*lacking));
+                format!("unfinished: {title}, {held} held at {at}, {lacking}{of_head} lacking")
+            }
+            Ending::NotRead(bytes) => {
+                let (bytes, side_name) = (texts::size(*bytes), fields::side_name(side));
+                let message = self.ended[&side];
+                format!("not read: {bytes} from the {side_name}, behind message {message}")
+            }
+        };
+        self.lines.push(line);
+    }
+
+    fn sum(&mut self) {
+        let messages = plural(self.messages, "message");
+        let (rows, refused) = (plural(self.rows.len(), "row"), self.refused);
+        let unfinished = match self.unfinished {
+            0 => String::new(),
+            count => format!(", {count} unfinished"),
+        };
+        self.lines
+            .push(format!("{messages}, {rows}, {refused} refused{unfinished}"));
     }
 
     /// A message that was read counts as refused if a part of it is.
@@ -148,16 +178,26 @@ impl<'a> Session<'a> {
 
     fn refuse(&mut self, side: u32, message: &'a [u8], refusal: Refusal, at: usize) {
         self.refused += 1;
+        if refusal.number == BAD_LENGTH {
+            self.ended.insert(side, self.messages);
+        }
         let within = Within {
             what: "message",
             bytes: message,
+            side,
             at,
         };
         self.lines.extend(refused::lines(refusal, &within));
         match Way::of_refused(side, message[0], refusal.number) {
-            Some(way) => self.descriptions.lose(self.messages, way),
+            Some(way) => self.lose(way),
             None => self.descriptions.keep(),
         }
+    }
+
+    /// The current message loses both descriptions.
+    fn lose(&mut self, way: Way) {
+        let message = self.messages;
+        self.descriptions.lose(Loss { message, way });
     }
 
     /// Descriptors and values of a message that was read.
@@ -176,7 +216,7 @@ impl<'a> Session<'a> {
             }
             b's' => match self.describe("state descriptor", field(2).0, field(1)) {
                 Some(state) => self.descriptions.state = Description::Known(state),
-                None => self.descriptions.lose(self.messages, Way::StateDescriptor),
+                None => self.lose(Way::StateDescriptor),
             },
             b'C' => {
                 let by = self.descriptions.of_state(field(2).0);
@@ -193,11 +233,10 @@ impl<'a> Session<'a> {
 
     /// A T counts as a whole: with either descriptor refused it describes nothing.
     fn take_rows(&mut self, input: Option<Described<'a>>, output: Option<Described<'a>>) {
-        let lose = |session: &mut Self, way| session.descriptions.lose(session.messages, way);
         match (input, output) {
             (Some(_), Some(output)) => self.descriptions.rows = Description::Known(output),
-            (None, _) => lose(self, Way::InputDescriptor),
-            (_, None) => lose(self, Way::OutputDescriptor),
+            (None, _) => self.lose(Way::InputDescriptor),
+            (_, None) => self.lose(Way::OutputDescriptor),
         }
     }
 
@@ -214,9 +253,8 @@ impl<'a> Session<'a> {
         let read = compiled.and_then(|plan| Ok((plan.len(), descriptor::read(descriptor, id)?)));
         match &read {
             Err(refusal) => {
-                let bytes = descriptor;
-                self.lines
-                    .extend(refused::lines(*refusal, &Within { what, bytes, at }));
+                let within = Within::of_server(what, descriptor, at);
+                self.lines.extend(refused::lines(*refusal, &within));
             }
             Ok((_, Descriptor::NoType)) => self.lines.push(format!("{head}, no type")),
             Ok((words, Descriptor::Typed { blocks, root })) => {
@@ -239,9 +277,10 @@ impl<'a> Session<'a> {
                 let bytes = texts::hex(bytes, Extent::Cut);
                 self.lines.push(format!("    {bytes}"));
             }
-            Ok(Err(refusal)) => self
-                .lines
-                .extend(refused::lines(refusal, &Within { what, bytes, at })),
+            Ok(Err(refusal)) => {
+                let within = Within::of_server(what, bytes, at);
+                self.lines.extend(refused::lines(refusal, &within));
+            }
             Ok(Ok(tree)) => {
                 let none = if tree.is_empty() { ", no type" } else { "" };
                 self.lines

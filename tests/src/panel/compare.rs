@@ -1,7 +1,8 @@
 //! Runs the panel program on a capture and holds what it prints against what is expected.
 
 use super::asked::{checked, client_of_marked, found, Ended, NOTHING_TO_CHECK, NOT_CHECKED};
-use super::capture::{listed, shown, Shown, FIRST_LINE};
+use super::capture::{listed, shown, Shown};
+use super::joined::{Sides, FIRST_LINE};
 use super::refused::WORDS;
 use super::seen::{self, Seen};
 use crate::entries::path_to;
@@ -28,7 +29,7 @@ pub fn printed(panel: &Path, arguments: &[&str], capture: &[u8]) -> Result<Ended
         .map_err(trouble)?;
     let mut input = child.stdin.take().expect("a pipe");
     let output = thread::scope(|scope| {
-        // It reads all before it prints, but a pipe holds less than a long capture.
+        // Both pipes hold less than a long capture. Who has found what it looks for reads no further.
         scope.spawn(move || input.write_all(capture));
         child.wait_with_output()
     })
@@ -63,13 +64,15 @@ fn without_words(line: &str) -> String {
 /// Whether the program prints of a capture what the second program comes to, with each command:
 /// `find` on some elements and paths that lead nowhere. What was the same is counted.
 pub fn same(panel: &Path, capture: &[u8], rng: &mut Rng, seen: &mut Seen) -> Result<(), String> {
-    let shown = shown(capture, SERVER);
+    let sides = Sides::of(capture, SERVER);
+    let shown = shown(&sides);
     let asking = Asking { panel, capture };
     asking.show(&shown, rng)?;
     shown
         .values
         .iter()
         .for_each(|value| seen.count_value(*value));
+    shown.cuts.iter().for_each(|name| seen.count(name));
     asking.check(&shown, rng, seen)?;
     for _ in 0..2 {
         asking.find(&shown, rng, seen)?;
@@ -79,13 +82,14 @@ pub fn same(panel: &Path, capture: &[u8], rng: &mut Rng, seen: &mut Seen) -> Res
 
 /// Whether both come to the same with `show`.
 pub fn same_shown(panel: &Path, capture: &[u8]) -> Result<(), String> {
-    let expected = Ended::good(shown(capture, SERVER).lines);
+    let expected = Ended::good(shown(&Sides::of(capture, SERVER)).lines);
     Asking { panel, capture }.agree(&["show"], expected)
 }
 
 /// Whether both come to the same with `find` of each row.
 pub fn same_found(panel: &Path, capture: &[u8]) -> Result<(), String> {
-    let shown = shown(capture, SERVER);
+    let sides = Sides::of(capture, SERVER);
+    let shown = shown(&sides);
     let asking = Asking { panel, capture };
     for row in 1..=shown.rows.len() {
         let arguments = ["find", "-", &row.to_string()];
@@ -108,7 +112,8 @@ impl Asking<'_> {
 
     fn show(&self, shown: &Shown, rng: &mut Rng) -> Result<(), String> {
         let arguments = [&["show"][..], rng.pick(&STANDARD_INPUT)].concat();
-        self.agree(&arguments, Ended::good(shown.lines.clone()))
+        self.agree(&arguments, Ended::good(shown.lines.clone()))?;
+        self.agree(&["follow"], Ended::good(shown.lines.clone()))
     }
 
     fn check(&self, shown: &Shown, rng: &mut Rng, seen: &mut Seen) -> Result<(), String> {
@@ -148,9 +153,11 @@ impl Asking<'_> {
 
     /// The capture as the client's bytes, with one of the commands.
     fn as_client(&self, rng: &mut Rng, seen: &mut Seen) -> Result<(), String> {
-        let shown = shown(self.capture, CLIENT);
-        let commands: [(&[&str], Ended); 3] = [
+        let sides = Sides::of(self.capture, CLIENT);
+        let shown = shown(&sides);
+        let commands: [(&[&str], Ended); 4] = [
             (&["show", "--client"], Ended::good(shown.lines.clone())),
+            (&["follow", "--client"], Ended::good(shown.lines.clone())),
             (&["check", "--client"], checked(&shown)),
             (&["find", "--client", "-", "1"], found(&shown, 1, &[])),
         ];

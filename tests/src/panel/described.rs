@@ -50,10 +50,11 @@ pub enum Way {
     InputDescriptor,
     OutputDescriptor,
     StateDescriptor,
-    NotWhole,
-    BadLength,
-    /// A message of the client that is not whole or whose length is not permitted.
-    ClientUnread,
+    /// A length that is not permitted. Behind one of the server there is no value any more.
+    ClientLength,
+    OtherLength,
+    /// Bytes behind such a length, that came after the description.
+    Unread,
     /// A type that the server does not know.
     UnknownType,
     /// Any message of a side that is neither client nor server.
@@ -67,9 +68,9 @@ impl Way {
         Way::InputDescriptor,
         Way::OutputDescriptor,
         Way::StateDescriptor,
-        Way::NotWhole,
-        Way::BadLength,
-        Way::ClientUnread,
+        Way::ClientLength,
+        Way::OtherLength,
+        Way::Unread,
         Way::UnknownType,
         Way::UnknownSide,
     ];
@@ -81,9 +82,9 @@ impl Way {
             Way::InputDescriptor => "a T's input descriptor",
             Way::OutputDescriptor => "a T's output descriptor",
             Way::StateDescriptor => "an s's descriptor",
-            Way::NotWhole => "a message not whole",
-            Way::BadLength => "a length not permitted",
-            Way::ClientUnread => "what was not read of the client",
+            Way::ClientLength => "a length of the client",
+            Way::OtherLength => "a length of another side",
+            Way::Unread => "what was not read",
             Way::UnknownType => "a type not known",
             Way::UnknownSide => "a side not known",
         }
@@ -93,9 +94,8 @@ impl Way {
     pub fn of_refused(side: u32, type_byte: u8, number: u32) -> Option<Way> {
         let describes = matches!(type_byte, b'T' | b's');
         match (number, side) {
-            (refusal::NOT_WHOLE | refusal::BAD_LENGTH, CLIENT) => Some(Way::ClientUnread),
-            (refusal::NOT_WHOLE, _) => Some(Way::NotWhole),
-            (refusal::BAD_LENGTH, _) => Some(Way::BadLength),
+            (refusal::BAD_LENGTH, CLIENT) => Some(Way::ClientLength),
+            (refusal::BAD_LENGTH, _) => Some(Way::OtherLength),
             (refusal::UNKNOWN_TYPE, _) if describes => Some(Way::OtherSide),
             (refusal::UNKNOWN_TYPE, SERVER) => Some(Way::UnknownType),
             (refusal::UNKNOWN_TYPE, CLIENT) => None,
@@ -138,9 +138,9 @@ pub struct Descriptions<'a> {
 }
 
 impl<'a> Descriptions<'a> {
-    pub fn lose(&mut self, message: usize, way: Way) {
-        self.rows.lose(Loss { message, way });
-        self.state.lose(Loss { message, way });
+    pub fn lose(&mut self, loss: Loss) {
+        self.rows.lose(loss);
+        self.state.lose(loss);
     }
 
     /// A message was refused that says by its type that it describes nothing.

@@ -100,11 +100,18 @@ fn message(side: u32, type_byte: u8) -> Option<(&'static str, &'static [Named])>
     })
 }
 
+/// Who sends.
+pub fn side_name(side: u32) -> String {
+    match side {
+        CLIENT => "client".into(),
+        SERVER => "server".into(),
+        _ => format!("unknown side {side}"),
+    }
+}
+
 /// Side, type and name.
 pub fn title(side: u32, type_byte: u8) -> String {
-    let side_name = ["client", "server"]
-        .get(side as usize)
-        .unwrap_or(&"unknown side");
+    let side_name = side_name(side);
     let type_name = match type_byte {
         b'!'..=b'~' => char::from(type_byte).to_string(),
         _ => format!("{type_byte:02x}"),

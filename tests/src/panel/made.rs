@@ -1,8 +1,9 @@
 //! Captures made at random: descriptions with rows of them, good and damaged, among other messages,
-//! and descriptions that are sent again.
+//! and descriptions that are sent again. In many of them records cut messages.
 
 use super::again::{self, Record};
-use super::capture::FIRST_LINE;
+use super::cuts;
+use super::joined::FIRST_LINE;
 use super::table::{complete, data, description, state};
 use crate::descriptor::{Descriptors, Second};
 use crate::message::draft::Draft;
@@ -30,8 +31,10 @@ pub fn capture(rng: &mut Rng) -> Vec<u8> {
         }
         capture.extend(bytes);
     }
-    if rng.once_in(3) {
-        damage(rng, &mut capture);
+    match rng.below(12) {
+        0..=3 => damage(rng, &mut capture),
+        4 => capture.extend(&[0, 0, 0, 0][..rng.between(1, 4)]), // of a record's head
+        _ => {}
     }
     capture
 }
@@ -55,9 +58,13 @@ fn records(rng: &mut Rng) -> Vec<Record> {
     if !rng.once_in(3) || records.is_empty() {
         records.extend(again::records(rng));
     }
-    match rng.once_in(3) {
-        true => joined(records),
-        false => records,
+    if rng.once_in(5) {
+        records.extend(cuts::ends(rng));
+    }
+    match rng.below(5) {
+        0 => joined(records),
+        1 | 2 => cuts::cut(rng, records),
+        _ => records,
     }
 }
 

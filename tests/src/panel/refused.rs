@@ -1,6 +1,8 @@
 //! Refusals: number, place, and the bytes around it. The words are tested elsewhere, and stand here
 //! as [`WORDS`].
 
+use super::fields::side_name;
+use second::message::SERVER;
 use second::refusal::Refusal;
 
 /// Stands for the meaning of a refusal number.
@@ -14,19 +16,31 @@ pub struct Within<'a> {
     /// What they are: "message", "row".
     pub what: &'a str,
     pub bytes: &'a [u8],
-    /// Where they start in the capture.
+    /// Who sent them, and how many bytes before.
+    pub side: u32,
     pub at: usize,
+}
+
+impl<'a> Within<'a> {
+    /// A part of a message of the server, as the client's have none.
+    pub fn of_server(what: &'a str, bytes: &'a [u8], at: usize) -> Within<'a> {
+        let side = SERVER;
+        Within {
+            what,
+            bytes,
+            side,
+            at,
+        }
+    }
 }
 
 pub fn lines(refusal: Refusal, within: &Within) -> Vec<String> {
     let place = refusal.place as usize;
-    let Within { what, bytes, at } = within;
+    let Within { what, bytes, .. } = within;
+    let in_side = in_side(within.side, within.at + place);
     let mut lines = vec![
         format!("    refused with {}: {WORDS}", refusal.number),
-        format!(
-            "    at byte {place} of the {what} (byte {} of the capture)",
-            at + place
-        ),
+        format!("    at byte {place} of the {what} {in_side}"),
     ];
     let marked = place / PER_LINE;
     let first = marked.saturating_sub(LINES_AROUND);
@@ -45,6 +59,11 @@ pub fn lines(refusal: Refusal, within: &Within) -> Vec<String> {
         }
     }
     lines
+}
+
+/// A place in all that a side has sent.
+pub fn in_side(side: u32, at: usize) -> String {
+    format!("(byte {at} from the {})", side_name(side))
 }
 
 /// Address, two spaces, three columns a byte and one more after eight.

@@ -1,6 +1,8 @@
 //! What a run has compared, and whether that was enough to mean something.
 
 use super::described::{Description, Way};
+use super::joined::Ending;
+use second::message::{CLIENT, SERVER};
 use std::collections::BTreeMap;
 use std::fmt;
 
@@ -76,10 +78,69 @@ const COMMANDS: [&str; 10] = [
     CLIENT_REFUSED,
 ];
 
+/// What each run must have seen of messages that records cut.
+const CUT_IN_HEAD: &str = "message: cut in its head";
+const CUT_BEHIND_HEAD: &str = "message: cut behind its head";
+
+/// Which of these a message is, that is cut in its head or not, and behind that or not.
+pub fn cut([in_head, behind_head]: [bool; 2]) -> impl Iterator<Item = String> {
+    let names = [(in_head, CUT_IN_HEAD), (behind_head, CUT_BEHIND_HEAD)];
+    names
+        .into_iter()
+        .filter(|(is_so, _)| *is_so)
+        .map(|(_, name)| name.into())
+}
+
+/// And of how captures end.
+pub const END_IN_RECORD: &str = "end: inside a record";
+pub const END_IN_RECORD_HEAD: &str = "end: inside the head of a record";
+const ENDS_OF_SEVERAL: &str = "end: of several sides";
+
+/// How a side ends, where there is something to say of it.
+#[derive(Clone, Copy)]
+pub enum End {
+    InHead,
+    InBody,
+    NotRead,
+}
+
+impl End {
+    const ALL: [End; 3] = [End::InHead, End::InBody, End::NotRead];
+
+    /// Of a side with this number.
+    fn name(self, side: u32) -> String {
+        let whose = match side {
+            CLIENT => "client",
+            SERVER => "server",
+            _ => "other side",
+        };
+        let how = match self {
+            End::InHead => "unfinished head",
+            End::InBody => "unfinished message",
+            End::NotRead => "not read",
+        };
+        format!("end: {whose}, {how}")
+    }
+}
+
+/// A client, a server, and any other side.
+const SIDES: [u32; 3] = [CLIENT, SERVER, SERVER + 1];
+
+/// The names of how the sides of a capture end.
+pub fn ends(endings: &[(u32, Ending)]) -> Vec<String> {
+    let name = |(side, ending): &(u32, Ending)| ending.kind().name(*side);
+    let mut names: Vec<String> = endings.iter().map(name).collect();
+    if endings.len() > 1 {
+        names.push(ENDS_OF_SEVERAL.into());
+    }
+    names
+}
+
 /// In so many random captures each of the common outcomes must have been seen once: 1,000 times in
 /// the gate's 5,000.
 const CAPTURES_TO_A_COMMON_ONE: u64 = 5;
-/// Each way of losing a description, and each outcome of a command: 100 times in the gate's 5,000.
+/// Each way of losing a description, each outcome of a command, and each way to end: 100 times in the
+/// gate's 5,000.
 const CAPTURES_TO_A_RARE_ONE: u64 = 50;
 
 /// How often each outcome was seen and was the same in both programs.
@@ -89,20 +150,35 @@ pub struct Seen {
     demanded: Vec<(String, u64)>,
 }
 
+/// What a run must have seen of values of a kind.
+fn demanded_of(kind: &str) -> Vec<(String, u64)> {
+    let common = [ACCEPTED, REFUSED, NEVER_DESCRIBED, LOST];
+    let common = common.map(|outcome| (format!("{kind}: {outcome}"), CAPTURES_TO_A_COMMON_ONE));
+    let kept = format!("{kind}: {ACCEPTED_AFTER_REFUSED}");
+    let rare = Way::ALL
+        .map(|way| lost(kind, way))
+        .into_iter()
+        .chain([kept]);
+    let rare = rare.map(|name| (name, CAPTURES_TO_A_RARE_ONE));
+    common.into_iter().chain(rare).collect()
+}
+
+/// And of commands, cuts and ends.
+fn demanded_besides() -> Vec<(String, u64)> {
+    let common = [CUT_IN_HEAD, CUT_BEHIND_HEAD].map(String::from);
+    let common = common.map(|name| (name, CAPTURES_TO_A_COMMON_ONE));
+    let ends_of = |side| End::ALL.map(|end| end.name(side));
+    let ends = [END_IN_RECORD, END_IN_RECORD_HEAD, ENDS_OF_SEVERAL];
+    let rare = COMMANDS.into_iter().chain(ends).map(String::from);
+    let rare = rare.chain(SIDES.into_iter().flat_map(ends_of));
+    let rare = rare.map(|name| (name, CAPTURES_TO_A_RARE_ONE));
+    common.into_iter().chain(rare).collect()
+}
+
 impl Default for Seen {
     fn default() -> Seen {
-        let mut demanded = Vec::new();
-        for kind in Kind::ALL.map(Kind::name) {
-            for outcome in [ACCEPTED, REFUSED, NEVER_DESCRIBED, LOST] {
-                demanded.push((format!("{kind}: {outcome}"), CAPTURES_TO_A_COMMON_ONE));
-            }
-            let rare = format!("{kind}: {ACCEPTED_AFTER_REFUSED}");
-            demanded.push((rare, CAPTURES_TO_A_RARE_ONE));
-            for way in Way::ALL {
-                demanded.push((lost(kind, way), CAPTURES_TO_A_RARE_ONE));
-            }
-        }
-        demanded.extend(COMMANDS.map(|name| (name.into(), CAPTURES_TO_A_RARE_ONE)));
+        let of_values = Kind::ALL.map(Kind::name).into_iter().flat_map(demanded_of);
+        let demanded: Vec<_> = of_values.chain(demanded_besides()).collect();
         let counts = demanded.iter().map(|(name, _)| (name.clone(), 0)).collect();
         Seen { counts, demanded }
     }

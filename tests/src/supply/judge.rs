@@ -23,7 +23,8 @@ pub struct Supplies {
 
 impl Judge for Supplies {
     type Case = Case;
-    const COUNTED: &'static [Counted] = &[("write_value", &[32, 33, 34])];
+    type Answer = Answer;
+    const COUNTED: &'static [Counted] = &[Counted::Answers("write_value", &[32, 33, 34])];
 
     fn new(seed: u64) -> Supplies {
         Supplies {

@@ -13,7 +13,11 @@ pub struct Values(Memory<2>);
 
 impl Judge for Values {
     type Case = Case;
-    const COUNTED: &'static [Counted] = &[("run", &[20, 21, 22, 23, 24, 25, 26, 27, 28, 31, 33])];
+    type Answer = Answer;
+    const COUNTED: &'static [Counted] = &[Counted::Answers(
+        "run",
+        &[20, 21, 22, 23, 24, 25, 26, 27, 28, 31, 33],
+    )];
 
     fn new(seed: u64) -> Values {
         Values(Memory::new(seed))
