@@ -3,7 +3,7 @@ pub mod format;
 pub mod number;
 
 ghost use mathlib.Core.Path.{_≡_};
-ghost use Rattle.value_scalars.specs.Sizes.{Fixed};
+ghost use Rattle.value_scalars.specs.Sizes.{fixedSize};
 ghost use Rattle.protocol.specs.Scalars.{boolean, duration, json, scalar, enumeration};
 
 // Whether the bytes are a bool: one byte, 0 or 1.
@@ -41,7 +41,7 @@ fn json_ok(v: &[u8]) -> bool
 
 // Whether the bytes are a value of a format that has no fixed size and is not bool; of a format that is not there none are.
 fn ruled_ok(format: u32, v: &[u8]) -> bool
-    requires { ⌜ (Fixed format 0) × (format ≡ 9 → ⊥) ⌝ }
+    requires { ⌜ (fixedSize format ≡ 0) × (format ≡ 9 → ⊥) ⌝ }
     ensures { λ r. ⌜ r ≡ scalar format (now (v .entry)) ⌝ }
 {
     match format {
@@ -59,9 +59,9 @@ fn ruled_ok(format: u32, v: &[u8]) -> bool
 pub fn scalar_ok(format: u32, v: &[u8]) -> bool
     ensures { λ r. ⌜ r ≡ scalar format (now (v .entry)) ⌝ }
 {
-    let n = format::fixed_size(format);
-    if 0 < n {
-        return v.len() == n;
+    let fixed = format::fixed_of(format);
+    if 0 < fixed.size {
+        return format::fixed_ok(fixed, v, 0, v.len());
     }
     if format == constants::FORMAT_BOOL {
         return bool_ok(v);
