@@ -8,6 +8,8 @@ use value_parts::Gathered;
 use value_parts::entry;
 use value_parts::gather;
 use value_parts::node;
+use value_scalars::format;
+use value_scalars::format::FixedFormat;
 ghost use mathlib.Core.Path.{_≡_};
 ghost use Prim.Native.Nat.{_+_, _*_, _^_, _<_, _≤_};
 ghost use lib.ListN.{length, take, drop, getD};
@@ -43,39 +45,44 @@ pub enum Given {
     Unknown,
 }
 
-// The size of a leaf whose values are any bytes of that size, and 0 for every other node.
-fn fixed_at(plan: &[u32], node: usize) -> usize
+// How the values of a leaf are told, where its format has a fixed size; of every other node size 0.
+fn fixed_at(plan: &[u32], node: usize) -> FixedFormat
     requires { ⌜ At (now plan) node ⌝ }
-    ensures { λ r. ⌜ FixedAt (now (plan .entry)) node r ⌝ }
+    ensures { λ r. ⌜ FixedAt (now (plan .entry)) node (r .size) (r .timed) ⌝ }
 {
     let kind = plan_nodes::node::kind_at(plan, node);
     if kind == constants::KIND_LEAF {
-        return value_scalars::format::fixed_size(plan_nodes::node::second_at(plan, node) as u32);
+        return format::fixed_of(plan_nodes::node::second_at(plan, node) as u32);
     }
-    0
+    FixedFormat {
+        size: 0,
+        timed: false,
+    }
 }
 
-// The element at `pos`, its length before it, where it is of this size; none is of size 0.
-fn fixed_leaf(part: &[u8], pos: usize, size: usize) -> Leaf
-    requires { ⌜ (pos ≤ length (now part)) × (size ≤ 16) ⌝ }
-    ensures { λ r. ⌜ r ≡ fixedLeaf (now (part .entry)) pos size ⌝ }
+// The element at `pos`, its length before it, where it is a value of this format; none is of size 0.
+fn fixed_leaf(part: &[u8], pos: usize, fixed: FixedFormat) -> Leaf
+    requires { ⌜ (pos ≤ length (now part)) × (fixed .size ≤ 16) × (fixed .timed ≡ true → fixed .size ≡ 8) ⌝ }
+    ensures { λ r. ⌜ r ≡ fixedLeaf (now (part .entry)) pos (fixed .size) (fixed .timed) ⌝ }
 {
+    let size = fixed.size;
     if size == 0 {
         return Leaf::Other;
     }
     if part.len() - pos < size + 4 {
         return Leaf::Other;
     }
-    if wire::be::u32_at(part, pos) == size as u32 {
-        return Leaf::Good {
-            start: pos + 4,
-            size,
-        };
+    if wire::be::u32_at(part, pos) != size as u32 {
+        return Leaf::Other;
+    }
+    let start = pos + 4;
+    if format::fixed_ok(fixed, part, start, size) {
+        return Leaf::Good { start, size };
     }
     Leaf::Other
 }
 
-// Elements of a set or an array, which share one node and so one size.
+// Elements of a set or an array, which share one node and so one format.
 fn same_leaves(
     plan: &[u32],
     node: usize,
@@ -92,19 +99,19 @@ fn same_leaves(
     ensures { λ r. ⌜ Stretched (now (plan .entry)) node base (now (part .entry)) (first + count) count first from at (now (list .entry)) (r .left) (r .pos) (r .at) (now (list .exit)) ⌝ }
 {
     let child = plan_nodes::node::ref_of(plan, node, first);
-    let size = fixed_at(plan, child);
+    let fixed = fixed_at(plan, child);
     let mut left = count;
     let mut i = first;
     let mut pos = from;
     let mut to = at;
     while 0 < left {
-        let leaf = fixed_leaf(part, pos, size);
-        let Leaf::Good { start, size: n } = leaf else {
+        let leaf = fixed_leaf(part, pos, fixed);
+        let Leaf::Good { start, size } = leaf else {
             return Stretch { left, pos, at: to };
         };
-        entry::put_entry(list, to, child, i, base + start, n, 0);
+        entry::put_entry(list, to, child, i, base + start, size, 0);
         to += constants::ENTRY_WORDS;
-        pos = start + n;
+        pos = start + size;
         i += 1;
         left -= 1;
     }
@@ -117,8 +124,8 @@ fn is_good(plan: &[u32], node: usize, kind: u32, part: &[u8], start: usize, size
     ensures { λ b. ⌜ b ≡ leafGood (look (now (plan .entry)) node) (take size (drop start (now (part .entry)))) ⌝ }
 {
     let fixed = fixed_at(plan, node);
-    if 0 < fixed {
-        return size == fixed;
+    if 0 < fixed.size {
+        return format::fixed_ok(fixed, part, start, size);
     }
     let end = start + size;
     node::leaf_ok(plan, node, kind, &part[start..end])
@@ -224,7 +231,8 @@ pub fn walk_leaves(
     }
     if kind == constants::KIND_SET_OR_ARRAY {
         let child = plan_nodes::node::ref_of(plan, node, first);
-        if 0 < fixed_at(plan, child) {
+        let fixed = fixed_at(plan, child);
+        if 0 < fixed.size {
             return same_leaves(plan, node, count, first, base, from, part, list, at);
         }
     }

@@ -1,4 +1,5 @@
 -- `value_leaves::fixed_leaf` meets its contract: its tests are those of `fixedLeaf`, in its order.
+use mathlib.Core.Path.{sym, _∙_}
 use borrow.Author.Tests.{eq-eqb, ne-eqb, lt-ltb, le-ltb}
 use Rattle.value_leaves.specs.Leaves.{fixedLeaf}
 use borrow.Author.Needs.{needs}
@@ -18,12 +19,31 @@ returns-2 c = rw (ne-eqb _ _ (c .before .if1 .left), lt-ltb _ _ (c .if2 .taken))
 returns-3 : tie.Need-returns-3
 unfolding fixedLeaf pick word
 returns-3 c =
-    rw (ne-eqb _ _ (c .before .before .before .if1 .left), le-ltb _ _ (c .before .before .if2 .left), ← c .before .u32-at .ensures, eq-eqb _ _ (c .if3 .taken))
+    rw (ne-eqb _ _ (c .before .before .before .if1 .left), le-ltb _ _ (c .before .before .if2 .left), ← c .before .u32-at .ensures, ne-eqb _ _ (c .if3 .taken))
 
 returns-4 : tie.Need-returns-4
 unfolding fixedLeaf pick word
 returns-4 c =
-    rw (ne-eqb _ _ (c .before .before .before .if1 .left), le-ltb _ _ (c .before .before .if2 .left), ← c .before .u32-at .ensures, ne-eqb _ _ (c .if3 .left))
+    rw (
+      ne-eqb _ _ (c .before .before .before .before .before .if1 .left),
+      le-ltb _ _ (c .before .before .before .before .if2 .left),
+      ← c .before .before .before .u32-at .ensures,
+      eq-eqb _ _ (c .before .before .if3 .left),
+      ← c .before .fixed-ok .ensures,
+      c .if4 .taken,
+    )
+
+returns-5 : tie.Need-returns-5
+unfolding fixedLeaf pick word
+returns-5 c =
+    rw (
+      ne-eqb _ _ (c .before .before .before .before .before .if1 .left),
+      le-ltb _ _ (c .before .before .before .before .if2 .left),
+      ← c .before .before .before .u32-at .ensures,
+      eq-eqb _ _ (c .before .before .if3 .left),
+      ← c .before .fixed-ok .ensures,
+      c .if4 .left,
+    )
 
 pub fixed-leaf-spec : {M : Type 1} → statement M
 fixed-leaf-spec =
@@ -35,6 +55,8 @@ fixed-leaf-spec =
     returns-2
     (λ c κs. search needs)
     (λ c. search needs)
-    (λ c. search needs)
     returns-3
-    returns-4)
+    (λ c. search needs)
+    (λ c κs. search needs)
+    returns-4
+    returns-5)
