@@ -46,7 +46,7 @@ build/panel-cut build/panel-feed: build/panel-%: tests/panel/%.c $(RECORDS_OF) |
 	mkdir -p build
 	$(CC) $(CFLAGS) $< $(RECORDS) -o $@
 
-build/panel-%: tests/panel/%.c tests/hex.h $(BUILDER) $(HEADERS) $(LIBRARY) | compiler
+build/panel-%: tests/panel/%.c tests/panel/sending.h tests/hex.h $(BUILDER) $(HEADERS) $(LIBRARY) | compiler
 	mkdir -p build
 	$(CC) $(CFLAGS) $< $(BUILDER) $(LIBRARY) -o $@
 
