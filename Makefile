@@ -33,7 +33,7 @@ build/make-capture: $(MAKER) $(HEADERS) $(LIBRARY) | compiler
 	$(CC) $(CFLAGS) $(MAKER) $(LIBRARY) -o $@
 
 # What tests/panel/run needs besides.
-panel-tests: build/panel-captures build/panel-cut build/panel-feed build/panel-formats build/panel-long-row
+panel-tests: build/panel-captures build/panel-cut build/panel-feed build/panel-formats build/panel-long-row build/panel-local-times
 
 RECORDS = tests/panel/records.c
 RECORDS_OF = $(RECORDS) $(wildcard tests/panel/*.h) $(HEADERS)
