@@ -60,11 +60,11 @@ module _ (s : List ℕ) (start n : ℕ) (fits : start + n ≤ length s) where
         go true e = rw (taken, ne-eqb n 8 (λ x. h (x ∙ sym (eight e))))
         go false e = rw (taken, ne-eqb n size h)
 
-    pub fixed-time : n ≡ size → time ≡ true → (m : ℕ) → m ≡ be (take 8 (drop start s)) → leb m MOST-LOCAL-TIME ≡ fixedGood time size (take n (drop start s))
+    pub fixed-time : n ≡ size → time ≡ true → (b : Bool) → b ≡ leb (be (take 8 (drop start s))) MOST-LOCAL-TIME → b ≡ fixedGood time size (take n (drop start s))
     unfolding fixedGood localTime ofSize pick
-    fixed-time h e m em =
+    fixed-time h e b eb =
         let e8 : n ≡ 8 = h ∙ eight e in
-        rw (e, taken, eq-eqb n 8 e8, e8, em)
+        rw (e, taken, eq-eqb n 8 e8, e8) eb
 
     pub fixed-any : n ≡ size → time ≡ false → true ≡ fixedGood time size (take n (drop start s))
     unfolding fixedGood ofSize pick

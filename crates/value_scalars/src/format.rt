@@ -2,7 +2,10 @@
 ghost use mathlib.Core.Path.{_≡_};
 ghost use mathlib.Core.Bool.{true};
 ghost use Prim.Native.Nat.{_+_, _≤_};
+ghost use lib.Dec.{leb};
 ghost use lib.ListN.{length, take, drop};
+ghost use Rattle.protocol.specs.Constants.{MOST-LOCAL-TIME};
+ghost use Rattle.protocol.specs.Numbers.{be};
 ghost use Rattle.value_scalars.specs.Sizes.{fixedSize, fixedGood, Fixed};
 
 // How the values of such a format are told: by their size, which no other format has, and whether they are a time of day.
@@ -42,8 +45,20 @@ pub fn fixed_of(format: u32) -> FixedFormat
     }
 }
 
-// Whether the n bytes from `start` on are a value of a format that is told so. An i64 that is negative is, without its sign, past the last
-// microsecond of a day, so one test tells both ends.
+// Whether the eight bytes from `start` on are a time of day. A day has 256 times 337,500,000 microseconds, so the last byte may be anything;
+// of a negative number the first byte is not zero. To compare the number of all eight takes twice as long, since the compiler then reads
+// each byte by itself.
+fn in_day(s: &[u8], start: usize) -> bool
+    requires { ⌜ start + 8 ≤ length (now s) ⌝ }
+    ensures { λ r. ⌜ r ≡ leb (be (take 8 (drop start (now (s .entry))))) MOST-LOCAL-TIME ⌝ }
+{
+    if 255 < wire::be::u32_at(s, start) {
+        return false;
+    }
+    (wire::be::u32_at(s, start + 3) as u64) <= constants::MOST_LOCAL_TIME / 256
+}
+
+// Whether the n bytes from `start` on are a value of a format that is told so.
 pub fn fixed_ok(fixed: FixedFormat, s: &[u8], start: usize, n: usize) -> bool
     requires { ⌜ (start + n ≤ length (now s)) × (fixed .timed ≡ true → fixed .size ≡ 8) ⌝ }
     ensures { λ r. ⌜ r ≡ fixedGood (fixed .timed) (fixed .size) (take n (drop start (now (s .entry)))) ⌝ }
@@ -52,7 +67,7 @@ pub fn fixed_ok(fixed: FixedFormat, s: &[u8], start: usize, n: usize) -> bool
         return false;
     }
     if fixed.timed {
-        return wire::be::uint_at(s, start, 8) <= constants::MOST_LOCAL_TIME;
+        return in_day(s, start);
     }
     true
 }

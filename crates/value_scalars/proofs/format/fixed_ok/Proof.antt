@@ -6,14 +6,14 @@ use Rattle.value_scalars.proofs.format.fixed_ok.Tie as tie
 returns : tie.Need-returns
 returns c = fixed-other _ _ _ (c .before .before .before .pre .0) _ _ (c .before .before .before .pre .1) (c .if1 .taken)
 
-uint-at-requires : tie.Need-uint-at-requires
-uint-at-requires c κs =
-    (omega (arith, c .before .before .before .before .pre .0, c .before .before .before .before .pre .1 (c .if2 .taken), c .before .if1 .left), omega arith)
+in-day-requires : tie.Need-in-day-requires
+in-day-requires c κs =
+    omega (arith, c .before .before .before .before .pre .0, c .before .before .before .before .pre .1 (c .if2 .taken), c .before .if1 .left)
 
 returns-2 : tie.Need-returns-2
 returns-2 c =
     fixed-time _ _ _ (c .before .before .before .before .before .pre .0) _ _ (c .before .before .before .before .before .pre .1)
-    (c .before .before .if1 .left) (c .before .if2 .taken) _ (c .uint-at .ensures)
+    (c .before .before .if1 .left) (c .before .if2 .taken) _ (c .in-day .ensures)
 
 returns-3 : tie.Need-returns-3
 returns-3 c =
@@ -21,4 +21,4 @@ returns-3 c =
     (c .if2 .left)
 
 pub fixed-ok-spec : {M : Type 1} → statement M
-fixed-ok-spec = tie.close (tie.spec returns uint-at-requires returns-2 returns-3)
+fixed-ok-spec = tie.close (tie.spec returns in-day-requires returns-2 returns-3)
