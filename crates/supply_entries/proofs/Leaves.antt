@@ -9,7 +9,7 @@ use native.Mathlib.Nat.{add-sub-cancel-left}
 use lib.Dec.{eqb}
 use lib.ListN.{length, take, drop, getD, length-take, length-drop}
 use lib.Seq.{sets}
-use Rattle.value_scalars.specs.Sizes.{fixedGood, Fixed}
+use Rattle.value_scalars.specs.Sizes.{Fixed}
 use borrow.Author.Tests.{eq-eqb, ne-eqb, lt-ltb, le-ltb}
 use Rattle.plan_nodes.proofs.Refs.{kind-gives}
 use Rattle.value_parts.specs.Walk.{leafGood, Container}
@@ -22,6 +22,7 @@ use Rattle.value_parts.proofs.Containers.{leaf-only}
 use Rattle.supply_entries.proofs.Parts.{leaf-done, member-go}
 use Rattle.supply_entries.proofs.Values.{value-leaf}
 use Rattle.protocol.specs.Numbers.{pick}
+use Rattle.protocol.specs.Scalars.{ofSize}
 use Rattle.protocol.specs.Constants.{ABSENT}
 use Rattle.protocol.specs.Nodes.{refAt}
 use Rattle.protocol.specs.Plans.{look}
@@ -31,10 +32,13 @@ use Rattle.protocol.specs.Building.{Made, partMade, buildOf}
 
 -- ---- whether its bytes are permitted
 
--- by a format with a fixed size
-pub fits-fixed : (p : List ℕ) (k kind : ℕ) → kind ≡ getD p k 0 → kind ≡ 1 → (f : ℕ) → f ≡ getD p (k + 1) 0 → (size : ℕ) (time : Bool) → Fixed f size time → 0 < size
-    → (b : Bool) (t : List ℕ) → b ≡ fixedGood time size t → b ≡ leafGood (look p k) t
-fits-fixed p k kind is one f ef size time fixed z b t eb = eb ∙ sym (fixed .rule z t) ∙ good-scalar p k kind is t f ef one
+-- by their number alone
+pub fits-size : (p : List ℕ) (k kind : ℕ) → kind ≡ getD p k 0 → kind ≡ 1 → (f : ℕ) → f ≡ getD p (k + 1) 0 → (size : ℕ) → Fixed f size → 0 < size
+    → (src : List ℕ) (s e : ℕ) → s ≤ e → e ≤ length src → eqb (e - s) size ≡ leafGood (look p k) (take (e - s) (drop s src))
+unfolding ofSize
+fits-size p k kind is one f ef size fixed z src s e low high =
+    let n : length (take (e - s) (drop s src)) ≡ e - s = simp (length-take, length-drop) (omega arith) in
+    ap (λ (m : ℕ). eqb m size) (sym n) ∙ sym (fixed .rule z (take (e - s) (drop s src))) ∙ good-scalar p k kind is (take (e - s) (drop s src)) f ef one
 
 -- ---- its head and its bytes
 

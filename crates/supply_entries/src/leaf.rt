@@ -9,7 +9,6 @@ use crate::Read;
 use crate::head;
 use crate::list;
 use value_heads::sparse::Seen;
-use value_scalars::format;
 ghost use mathlib.Core.Path.{_≡_};
 ghost use Prim.Native.Nat.{_+_, _-_, _^_, _<_, _≤_};
 ghost use lib.ListN.{length, take, drop, getD};
@@ -27,9 +26,11 @@ fn leaf_fits(plan: &[u32], node: usize, src: &[u8], s: usize, e: usize) -> bool
 {
     let kind = plan_nodes::node::kind_at(plan, node);
     if kind == constants::KIND_LEAF {
-        let fixed = format::fixed_of(plan_nodes::node::second_at(plan, node) as u32);
-        if 0 < fixed.size {
-            return format::fixed_ok(fixed, src, s, e - s);
+        let size = value_scalars::format::fixed_size(
+            plan_nodes::node::second_at(plan, node) as u32,
+        );
+        if 0 < size {
+            return e - s == size;
         }
     }
     if value_parts::node::is_leaf(kind) {

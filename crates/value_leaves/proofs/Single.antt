@@ -13,7 +13,7 @@ use lib.Dec.{eqb, ltb, leb}
 use lib.ListN.{length, take, drop, getD, length-take, length-drop}
 use borrow.Author.Tests.{eqb-true, eqb-false, ltb-false, lt-ltb, le-ltb, lt-leb, eq-eqb, ne-eqb}
 use Rattle.wire.proofs.Picks.{pick-case, clash}
-use Rattle.value_scalars.specs.Sizes.{timed, fixedSize, fixedGood, Fixed}
+use Rattle.value_scalars.specs.Sizes.{fixedSize, Fixed}
 use Rattle.value_scalars.proofs.Formats.{size-unknown}
 use Rattle.forms.specs.declared.Index.{Index}
 use Rattle.forms.specs.declared.Index.the-variants.{Known, Bad}
@@ -30,12 +30,13 @@ use Rattle.value_parts.specs.Walk.{leafKind, leafGood}
 use Rattle.value_parts.proofs.Nodes.{good-scalar}
 use Rattle.value_parts.proofs.Members.{known-in}
 use Rattle.value_parts.proofs.Containers.{leaf-only}
-use Rattle.value_leaves.specs.Leaves.{formatIn, FixedAt, fixedLeaf, leafIn, leafAt, wholeOf, givenBy, givenAt}
+use Rattle.value_leaves.specs.Leaves.{formatIn, fixedOf, FixedAt, timedOf, sameGood, SameAt, fixedLeaf, leafIn, leafAt, wholeOf, givenBy, givenAt}
 use Rattle.value_leaves.specs.declared.Leaf.{Leaf}
 use Rattle.value_leaves.specs.declared.Leaf.the-variants.{Good, Other}
 use Rattle.value_leaves.specs.declared.Given.{Given}
 use Rattle.value_leaves.specs.declared.Given.the-variants.{Whole, Unknown}
 use Rattle.protocol.specs.Numbers.{pick}
+use Rattle.protocol.specs.Scalars.{ofSize as of-size, localTime, scalar, formatRule, formats, ruleOf}
 use Rattle.protocol.specs.Heads.{word, negative, elementIn, optional, plainHead, objectHead, requires, sparseIndex}
 use Rattle.protocol.specs.Constants.{ABSENT, FORMATS}
 use Rattle.protocol.specs.Nodes.{Node, enum, row, arrays, tuple, object, sparse, range, refAt}
@@ -60,34 +61,65 @@ no-format false false false false true g p k = refl
 no-format false false false false false true p k = refl
 no-format false false false false false false p k = refl
 
-pub none-fixed : (p : List ℕ) (k kind : ℕ) → kind ≡ getD p k 0 → (kind ≡ 1 → ⊥) → FixedAt p k 0 false
-unfolding look pick timed
-none-fixed p k kind is n =
-    let m : getD p k 0 ≡ 1 → ⊥ = λ e. n (is ∙ e) in
-    let f : formatIn (look p k) ≡ FORMATS =
-    rw (ne-eqb (getD p k 0) 1 m)
+other-format : (p : List ℕ) (k kind : ℕ) → kind ≡ getD p k 0 → (kind ≡ 1 → ⊥) → formatIn (look p k) ≡ FORMATS
+unfolding look pick
+other-format p k kind is n =
+    rw (ne-eqb (getD p k 0) 1 (λ e. n (is ∙ e)))
     (no-format (eqb (getD p k 0) 2) (eqb (getD p k 0) 3) (eqb (getD p k 0) 4) (eqb (getD p k 0) 5) (eqb (getD p k 0) 6) (eqb (getD p k 0) 7) p k)
-    in
+
+pub none-fixed : (p : List ℕ) (k kind : ℕ) → kind ≡ getD p k 0 → (kind ≡ 1 → ⊥) → FixedAt p k 0
+unfolding fixedOf
+none-fixed p k kind is n =
     record {
-      is = sym (ap fixedSize f ∙ size-unknown FORMATS (omega arith));
-      time-is = sym (ap timed f);
+      is = sym (ap fixedSize (other-format p k kind is n) ∙ size-unknown FORMATS (omega arith));
       small = omega arith;
-      eight = λ e. clash e;
       kind = λ h. absurd (omega arith);
       rule = λ h s. absurd (omega arith);
     }
 
-pub some-fixed : (p : List ℕ) (k kind : ℕ) → kind ≡ getD p k 0 → kind ≡ 1 → (f size : ℕ) (time : Bool) → f ≡ getD p (k + 1) 0 → Fixed f size time → FixedAt p k size time
-unfolding leafKind pick formatIn
-some-fixed p k kind is e f size time ef x =
+pub some-fixed : (p : List ℕ) (k kind : ℕ) → kind ≡ getD p k 0 → kind ≡ 1 → (f size : ℕ) → f ≡ getD p (k + 1) 0 → Fixed f size → FixedAt p k size
+unfolding leafKind pick of-size fixedOf formatIn
+some-fixed p k kind is e f size ef x =
     record {
       is = rw (look-leaf p k (sym is ∙ e), ← ef) (x .is);
-      time-is = rw (look-leaf p k (sym is ∙ e), ← ef) (x .time-is);
       small = x .small;
-      eight = x .eight;
       kind = λ _. ap leafKind (sym is ∙ e);
       rule = λ h s. sym (good-scalar p k kind is s f ef e) ∙ x .rule h s;
     }
+
+-- of a set whose leaves are not times of day, and of one of times of day
+same-sized : (p : List ℕ) (k size : ℕ) → timedOf (look p k) ≡ false → FixedAt p k size → SameAt p k size false
+unfolding sameGood of-size pick
+same-sized p k size t f =
+    record { is = f .is; time-is = sym t; small = f .small; eight = λ e. clash e; kind = f .kind; rule = f .rule }
+
+pub same-none : (p : List ℕ) (k kind : ℕ) → kind ≡ getD p k 0 → (kind ≡ 1 → ⊥) → SameAt p k 0 false
+unfolding timedOf
+same-none p k kind is n = same-sized p k 0 (rw (other-format p k kind is n) refl) (none-fixed p k kind is n)
+
+pub same-other : (p : List ℕ) (k kind : ℕ) → kind ≡ getD p k 0 → kind ≡ 1 → (f size : ℕ) → f ≡ getD p (k + 1) 0 → (f ≡ 13 → ⊥) → Fixed f size → SameAt p k size false
+unfolding timedOf formatIn
+same-other p k kind is e f size ef n x =
+    same-sized p k size (rw (look-leaf p k (sym is ∙ e), ← ef) (ne-eqb f 13 n)) (some-fixed p k kind is e f size ef x)
+
+pub same-timed : (p : List ℕ) (k kind : ℕ) → kind ≡ getD p k 0 → kind ≡ 1 → (f : ℕ) → f ≡ getD p (k + 1) 0 → f ≡ 13 → SameAt p k 8 true
+unfolding leafKind pick sameGood timedOf formatIn scalar formatRule formats ruleOf
+same-timed p k kind is e f ef et =
+    record {
+      is = refl;
+      time-is = rw (look-leaf p k (sym is ∙ e), ← ef, et) refl;
+      small = omega arith;
+      eight = λ _. refl;
+      kind = λ _. ap leafKind (sym is ∙ e);
+      rule = λ h s. sym (good-scalar p k kind is s f ef e) ∙ rw et;
+    }
+
+-- what is permitted of a leaf inside
+module _ (p : List ℕ) (k : ℕ) (s : List ℕ) (start size : ℕ) (fits : start + size ≤ length s) where
+  pub fixed-is : (fixed : ℕ) → FixedAt p k fixed → 0 < fixed → eqb size fixed ≡ leafGood (look p k) (take size (drop start s))
+  fixed-is fixed f z =
+      let e : length (take size (drop start s)) ≡ size = simp (length-take, length-drop) (omega arith) in
+      sym (f .rule z (take size (drop start s)) ∙ ap (λ (n : ℕ). eqb n fixed) e)
 
 pub part-good : (p : List ℕ) (k : ℕ) (s : List ℕ) (start size : ℕ) (b : Bool)
     → b ≡ leafGood (look p k) (take (start + size - start) (drop start s)) → b ≡ leafGood (look p k) (take size (drop start s))
@@ -100,8 +132,20 @@ pub record Standing (s : List ℕ) (at size : ℕ) : Type 0 where
   pub fits : size + 4 ≤ length s - at
   pub is : word s at ≡ size
 
+-- its bytes are a time of day or not, or any of that size
+module _ (s : List ℕ) (at size : ℕ) (time : Bool) where
+  pub timed-good : time ≡ true → size ≡ 8 → (b : Bool) → b ≡ localTime (take 8 (drop (at + 4) s)) → sameGood time size (take size (drop (at + 4) s)) ≡ b
+  unfolding sameGood pick
+  timed-good t e b eb = rw (t, e) (sym eb)
+
+  pub any-good : time ≡ false → at ≤ length s → size + 4 ≤ length s - at → sameGood time size (take size (drop (at + 4) s)) ≡ true
+  unfolding sameGood of-size pick
+  any-good t h fits =
+      let e : length (take size (drop (at + 4) s)) ≡ size = simp (length-take, length-drop) (omega arith) in
+      rw t (eq-eqb (length (take size (drop (at + 4) s))) size e)
+
 pub standing : (s : List ℕ) (at size : ℕ) (time : Bool) (r : Leaf) → r ≡ fixedLeaf s at size time → (start n : ℕ) → r ≡ Good start n
-    → Standing s at size × (fixedGood time size (take size (drop (at + 4) s)) ≡ true) × (start ≡ at + 4) × (n ≡ size)
+    → Standing s at size × (sameGood time size (take size (drop (at + 4) s)) ≡ true) × (start ≡ at + 4) × (n ≡ size)
 unfolding fixedLeaf
 standing s at size time r er start n e =
     pick-case (λ (x : Leaf). x ≡ Good start n → Goal) (eqb size 0) Other _ (λ _. apart)
@@ -111,7 +155,7 @@ standing s at size time r er start n e =
     (sym er ∙ e)
   where
     good : Bool
-    good = fixedGood time size (take size (drop (at + 4) s))
+    good = sameGood time size (take size (drop (at + 4) s))
 
     Goal : Type 0
     Goal = Standing s at size × (good ≡ true) × (start ≡ at + 4) × (n ≡ size)

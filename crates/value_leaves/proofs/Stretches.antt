@@ -17,7 +17,7 @@ use Rattle.plan_nodes.specs.Readers.{Refers, At}
 use Rattle.plan_nodes.proofs.Looks.{look-row}
 use Rattle.plan_nodes.proofs.Nodes.{at-ref}
 use Rattle.value_parts.specs.Walk.{walkOf, led, leafKind, leafGood}
-use Rattle.value_leaves.specs.Leaves.{FixedAt, Ordered, gapOf, fixedLeaf, leafAt, Stretched}
+use Rattle.value_leaves.specs.Leaves.{SameAt, Ordered, gapOf, fixedLeaf, leafAt, Stretched}
 use Rattle.value_leaves.specs.declared.Leaf.{Leaf}
 use Rattle.value_leaves.specs.declared.Leaf.the-variants.{Good}
 use Rattle.value_leaves.proofs.Single.{Standing, standing, standing-head, object-plain, leaf-in}
@@ -122,7 +122,7 @@ module _ (p : List ℕ) (k base : ℕ) (s : List ℕ) (n first from at : ℕ) (l
       )
 
     -- the next element of a set or an array
-    pub going-same : 0 < left → getD p k 0 ≡ 2 → At p k → (size : ℕ) (time : Bool) (child j : ℕ) → FixedAt p child size time → refAt (look p k) j ≡ some child
+    pub going-same : 0 < left → getD p k 0 ≡ 2 → At p k → (size : ℕ) (time : Bool) (child j : ℕ) → SameAt p child size time → refAt (look p k) j ≡ some child
         → (r : Leaf) → r ≡ fixedLeaf s pos size time → (start m : ℕ) → r ≡ Good start m
         → (l″ : List ℕ) → l″ ≡ sets l′ to (entryWords (entryOf child i (base + start) m) 0) → length l″ ≡ length l′
         → Going p k base s n first from at l (left - 1) (i + 1) (start + m) (to + 5) l″

@@ -8,13 +8,11 @@ use value_parts::Gathered;
 use value_parts::entry;
 use value_parts::gather;
 use value_parts::node;
-use value_scalars::format;
-use value_scalars::format::FixedFormat;
 ghost use mathlib.Core.Path.{_≡_};
 ghost use Prim.Native.Nat.{_+_, _*_, _^_, _<_, _≤_};
 ghost use lib.ListN.{length, take, drop, getD};
 ghost use Rattle.value_parts.specs.Walk.{Holds, leafGood, leafKind};
-ghost use Rattle.value_leaves.specs.Leaves.{FixedAt, Ordered, Stretched, leafAt, fixedLeaf, givenAt, Gathers, gapOf};
+ghost use Rattle.value_leaves.specs.Leaves.{FixedAt, SameAt, Ordered, Stretched, leafAt, fixedLeaf, givenAt, Gathers, gapOf};
 ghost use mathlib.Core.Bool.{true};
 ghost use Rattle.protocol.specs.Plans.{look};
 ghost use Rattle.plan_nodes.specs.Readers.{At};
@@ -45,27 +43,55 @@ pub enum Given {
     Unknown,
 }
 
-// How the values of a leaf are told, where its format has a fixed size; of every other node size 0.
-fn fixed_at(plan: &[u32], node: usize) -> FixedFormat
+// How the leaves of a set are told: by their size, and whether they are a time of day.
+struct Same {
+    size: usize,
+    timed: bool,
+}
+
+// The size of a leaf whose values are any bytes of that size, and 0 for every other node.
+fn fixed_at(plan: &[u32], node: usize) -> usize
     requires { ⌜ At (now plan) node ⌝ }
-    ensures { λ r. ⌜ FixedAt (now (plan .entry)) node (r .size) (r .timed) ⌝ }
+    ensures { λ r. ⌜ FixedAt (now (plan .entry)) node r ⌝ }
 {
     let kind = plan_nodes::node::kind_at(plan, node);
     if kind == constants::KIND_LEAF {
-        return format::fixed_of(plan_nodes::node::second_at(plan, node) as u32);
+        return value_scalars::format::fixed_size(plan_nodes::node::second_at(plan, node) as u32);
     }
-    FixedFormat {
-        size: 0,
+    0
+}
+
+// How the leaves of a set are told, if they are any bytes of a size or a time of day; of every other node size 0.
+fn same_at(plan: &[u32], node: usize) -> Same
+    requires { ⌜ At (now plan) node ⌝ }
+    ensures { λ r. ⌜ SameAt (now (plan .entry)) node (r .size) (r .timed) ⌝ }
+{
+    let kind = plan_nodes::node::kind_at(plan, node);
+    if kind != constants::KIND_LEAF {
+        return Same {
+            size: 0,
+            timed: false,
+        };
+    }
+    let format = plan_nodes::node::second_at(plan, node) as u32;
+    if format == constants::FORMAT_LOCAL_TIME {
+        return Same {
+            size: 8,
+            timed: true,
+        };
+    }
+    Same {
+        size: value_scalars::format::fixed_size(format),
         timed: false,
     }
 }
 
-// The element at `pos`, its length before it, where it is a value of this format; none is of size 0.
-fn fixed_leaf(part: &[u8], pos: usize, fixed: FixedFormat) -> Leaf
-    requires { ⌜ (pos ≤ length (now part)) × (fixed .size ≤ 16) × (fixed .timed ≡ true → fixed .size ≡ 8) ⌝ }
-    ensures { λ r. ⌜ r ≡ fixedLeaf (now (part .entry)) pos (fixed .size) (fixed .timed) ⌝ }
+// The element at `pos`, its length before it, where it is of this size and permitted; none is of size 0.
+fn fixed_leaf(part: &[u8], pos: usize, same: Same) -> Leaf
+    requires { ⌜ (pos ≤ length (now part)) × (same .size ≤ 16) × (same .timed ≡ true → same .size ≡ 8) ⌝ }
+    ensures { λ r. ⌜ r ≡ fixedLeaf (now (part .entry)) pos (same .size) (same .timed) ⌝ }
 {
-    let size = fixed.size;
+    let size = same.size;
     if size == 0 {
         return Leaf::Other;
     }
@@ -76,10 +102,12 @@ fn fixed_leaf(part: &[u8], pos: usize, fixed: FixedFormat) -> Leaf
         return Leaf::Other;
     }
     let start = pos + 4;
-    if format::fixed_ok(fixed, part, start, size) {
-        return Leaf::Good { start, size };
+    if same.timed {
+        if !value_scalars::in_day(part, start) {
+            return Leaf::Other;
+        }
     }
-    Leaf::Other
+    Leaf::Good { start, size }
 }
 
 // Elements of a set or an array, which share one node and so one format.
@@ -99,13 +127,13 @@ fn same_leaves(
     ensures { λ r. ⌜ Stretched (now (plan .entry)) node base (now (part .entry)) (first + count) count first from at (now (list .entry)) (r .left) (r .pos) (r .at) (now (list .exit)) ⌝ }
 {
     let child = plan_nodes::node::ref_of(plan, node, first);
-    let fixed = fixed_at(plan, child);
+    let same = same_at(plan, child);
     let mut left = count;
     let mut i = first;
     let mut pos = from;
     let mut to = at;
     while 0 < left {
-        let leaf = fixed_leaf(part, pos, fixed);
+        let leaf = fixed_leaf(part, pos, same);
         let Leaf::Good { start, size } = leaf else {
             return Stretch { left, pos, at: to };
         };
@@ -124,8 +152,8 @@ fn is_good(plan: &[u32], node: usize, kind: u32, part: &[u8], start: usize, size
     ensures { λ b. ⌜ b ≡ leafGood (look (now (plan .entry)) node) (take size (drop start (now (part .entry)))) ⌝ }
 {
     let fixed = fixed_at(plan, node);
-    if 0 < fixed.size {
-        return format::fixed_ok(fixed, part, start, size);
+    if 0 < fixed {
+        return size == fixed;
     }
     let end = start + size;
     node::leaf_ok(plan, node, kind, &part[start..end])
@@ -231,8 +259,8 @@ pub fn walk_leaves(
     }
     if kind == constants::KIND_SET_OR_ARRAY {
         let child = plan_nodes::node::ref_of(plan, node, first);
-        let fixed = fixed_at(plan, child);
-        if 0 < fixed.size {
+        let same = same_at(plan, child);
+        if 0 < same.size {
             return same_leaves(plan, node, count, first, base, from, part, list, at);
         }
     }

@@ -1,19 +1,17 @@
--- The laws of the formats with a short rule of their own: bool, duration, any bytes of a size or a time of day, json.
-use mathlib.Core.Path.{_≡_, refl, ap, sym, _∙_}
-use mathlib.Core.Bool.{Bool, true, false}
+-- The laws of the formats with a short rule of their own: bool, duration, json.
+use mathlib.Core.Path.{_≡_, refl, ap, _∙_}
+use mathlib.Core.Bool.{false}
 use mathlib.Core.List.{List, [], _∷_}
-use Prim.Native.Nat.{ℕ, _+_, _-_, _≤_}
+use Prim.Native.Nat.{ℕ, _-_, _≤_}
 use native.Mathlib.Omega.{arith}
-use lib.Dec.{eqb, ltb, leb}
-use lib.ListN.{length, take, drop, getD, length-take, length-drop}
+use lib.Dec.{eqb, ltb}
+use lib.ListN.{length, take, drop, getD, length-drop}
 use lib.Seq.{take-all}
 use borrow.Author.Tests.{eq-eqb, ne-eqb}
 use Rattle.value_scalars.proofs.Parts.{to-end}
-use Rattle.value_scalars.specs.Sizes.{fixedGood}
-use Rattle.protocol.specs.Constants.{MOST-LOCAL-TIME}
 use Rattle.protocol.specs.Numbers.{pick, be, beFrom}
 use Rattle.protocol.specs.Text.{wellFormed}
-use Rattle.protocol.specs.Scalars.{ofSize, boolean, duration, localTime, json}
+use Rattle.protocol.specs.Scalars.{ofSize, boolean, duration, json}
 
 -- ---- bool
 
@@ -44,31 +42,6 @@ module _ (v : List ℕ) where
   duration-is n h e =
       let l : length (drop 8 v) ≤ 8 = rw length-drop (omega arith) in
       rw (eq-eqb (length v) 16 h, e, take-all 8 (drop 8 v) l)
-
--- ---- any bytes of a size, or a time of day
-
-module _ (s : List ℕ) (start n : ℕ) (fits : start + n ≤ length s) where
-  taken : length (take n (drop start s)) ≡ n
-  taken = simp (length-take, length-drop) (omega arith)
-
-  module _ (time : Bool) (size : ℕ) (eight : time ≡ true → size ≡ 8) where
-    pub fixed-other : (n ≡ size → ⊥) → false ≡ fixedGood time size (take n (drop start s))
-    unfolding fixedGood localTime ofSize pick
-    fixed-other h = go time refl
-      where
-        go : (t : Bool) → time ≡ t → false ≡ pick t (localTime (take n (drop start s))) (ofSize size (take n (drop start s)))
-        go true e = rw (taken, ne-eqb n 8 (λ x. h (x ∙ sym (eight e))))
-        go false e = rw (taken, ne-eqb n size h)
-
-    pub fixed-time : n ≡ size → time ≡ true → (b : Bool) → b ≡ leb (be (take 8 (drop start s))) MOST-LOCAL-TIME → b ≡ fixedGood time size (take n (drop start s))
-    unfolding fixedGood localTime ofSize pick
-    fixed-time h e b eb =
-        let e8 : n ≡ 8 = h ∙ eight e in
-        rw (e, taken, eq-eqb n 8 e8, e8) eb
-
-    pub fixed-any : n ≡ size → time ≡ false → true ≡ fixedGood time size (take n (drop start s))
-    unfolding fixedGood ofSize pick
-    fixed-any h e = rw (e, taken, eq-eqb n size h)
 
 -- ---- json
 

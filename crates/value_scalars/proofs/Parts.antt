@@ -8,6 +8,3 @@ use lib.Seq.{take-all}
 
 pub to-end : (k : ℕ) (v : List ℕ) → take (length v - k) (drop k v) ≡ drop k v
 to-end k v = take-all (length v - k) (drop k v) (rw length-drop (omega arith))
-
-pub all : (v : List ℕ) → take (length v) (drop 0 v) ≡ v
-all v = take-all (length v) v (omega arith)

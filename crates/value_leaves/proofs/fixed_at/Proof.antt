@@ -7,13 +7,13 @@ use borrow.Author.Needs.{needs}
 use Rattle.value_leaves.proofs.fixed_at.Statement.{statement}
 use Rattle.value_leaves.proofs.fixed_at.Tie as tie
 
-cast-fixed-of : tie.Need-cast-fixed-of
-cast-fixed-of c =
+cast-fixed-size : tie.Need-cast-fixed-size
+cast-fixed-size c =
     omega (arith, c .second-at .ensures, at-format _ _ (c .before .before .before .before .pre) (sym (c .before .before .kind-at .ensures .is) ∙ c .before .if1 .taken))
 
 returns : tie.Need-returns
 returns c =
-    some-fixed _ _ _ (c .before .before .before .kind-at .ensures .is) (c .before .before .if1 .taken) _ _ _ (c .before .second-at .ensures) (c .fixed-of .ensures)
+    some-fixed _ _ _ (c .before .before .before .kind-at .ensures .is) (c .before .before .if1 .taken) _ _ (c .before .second-at .ensures) (c .fixed-size .ensures)
 
 returns-2 : tie.Need-returns-2
 returns-2 c = none-fixed _ _ _ (c .before .kind-at .ensures .is) (c .if1 .left)
@@ -24,7 +24,7 @@ fixed-at-spec =
     (tie.spec
     (λ c κs. search needs)
     (λ c κs. search needs)
-    cast-fixed-of
+    cast-fixed-size
     (λ c κs. search needs)
     returns
     returns-2)

@@ -1,6 +1,6 @@
 use mathlib.Core.Path.{refl}
 use mathlib.Core.List.{[], _∷_}
-use Rattle.value_scalars.specs.Sizes.{fixedSize, sizeOf, timed}
+use Rattle.value_scalars.specs.Sizes.{fixedSize, sizeOf}
 use Rattle.value_scalars.proofs.Formats.{scalar-at, scalar-none}
 use borrow.Author.Needs.{needs}
 use Rattle.value_scalars.proofs.ruled_ok.Statement.{statement}
@@ -33,9 +33,9 @@ unfolding scalar formatRule formats ruleOf
 returns-6 c = scalar-at 16 _ _ _ (c .before .match .keys6) (c .bigint-ok .ensures)
 
 returns-7 : tie.Need-returns-7
-unfolding fixedSize formatRule formats sizeOf timed pick
+unfolding fixedSize formatRule formats sizeOf pick
 returns-7 c =
-    scalar-none ((9 ∷ []) ∷ (16 ∷ []) ∷ (15 ∷ []) ∷ (14 ∷ []) ∷ (8 ∷ []) ∷ (2 ∷ []) ∷ (1 ∷ []) ∷ []) refl _ _ (c .before .before .pre .0) (c .match .rest, c .before .before .pre .1)
+    scalar-none ((13 ∷ []) ∷ (9 ∷ []) ∷ (16 ∷ []) ∷ (15 ∷ []) ∷ (14 ∷ []) ∷ (8 ∷ []) ∷ (2 ∷ []) ∷ (1 ∷ []) ∷ []) refl _ _ (c .before .before .pre .0) ((c .match .rest, c .before .before .pre .1), c .before .before .pre .2)
 
 pub ruled-ok-spec : {M : Type 1} → statement M
 ruled-ok-spec =

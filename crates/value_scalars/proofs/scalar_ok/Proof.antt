@@ -1,35 +1,35 @@
-use native.Mathlib.Omega.{arith}
-use mathlib.Core.Path.{ap, sym, _∙_}
-use Rattle.value_scalars.specs.Sizes.{fixedGood}
-use Rattle.value_scalars.proofs.Parts.{all}
-use Rattle.value_scalars.proofs.Formats.{scalar-at}
+use mathlib.Core.Path.{sym}
+use Rattle.value_scalars.proofs.Formats.{scalar-at, no-size}
 use borrow.Author.Needs.{needs}
 use Rattle.value_scalars.proofs.scalar_ok.Statement.{statement}
 use Rattle.value_scalars.proofs.scalar_ok.Tie as tie
-use Rattle.protocol.specs.Scalars.{scalar, formatRule, formats, ruleOf}
-
-fixed-ok-requires : tie.Need-fixed-ok-requires
-fixed-ok-requires c κs = (omega arith, c .before .before .fixed-of .ensures .eight)
+use Rattle.protocol.specs.Scalars.{ofSize, scalar, formatRule, formats, ruleOf}
 
 returns : tie.Need-returns
-returns c =
-    c .fixed-ok .ensures ∙ ap (fixedGood _ _) (all _) ∙ sym (c .before .before .before .fixed-of .ensures .rule (c .before .if1 .taken) _)
+unfolding ofSize
+returns c = sym (c .before .fixed-size .ensures .rule (c .if1 .taken) _)
 
 returns-2 : tie.Need-returns-2
 unfolding scalar formatRule formats ruleOf
 returns-2 c = scalar-at 9 _ _ _ (c .before .if2 .taken) (c .bool-ok .ensures)
 
+returns-3 : tie.Need-returns-3
+unfolding scalar formatRule formats ruleOf
+returns-3 c = scalar-at 13 _ _ _ (c .before .if3 .taken) (c .local-time-ok .ensures)
+
 ruled-ok-requires : tie.Need-ruled-ok-requires
-ruled-ok-requires c κs = (omega (arith, c .before .before .before .fixed-of .ensures .is, c .before .if1 .left), c .if2 .left)
+ruled-ok-requires c κs =
+    (no-size _ _ (c .before .before .before .fixed-size .ensures) (c .before .before .if1 .left), c .before .if2 .left, c .if3 .left)
 
 pub scalar-ok-spec : {M : Type 1} → statement M
 scalar-ok-spec =
     tie.close
     (tie.spec
     (λ c κs. search needs)
-    fixed-ok-requires
     returns
     (λ c κs. search needs)
     returns-2
+    (λ c κs. search needs)
+    returns-3
     ruled-ok-requires
     (λ c. search needs))

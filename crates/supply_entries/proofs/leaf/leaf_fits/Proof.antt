@@ -1,9 +1,9 @@
--- `supply_entries::leaf::leaf_fits` meets its contract: by a fixed format, by the format's own rule, or not at all.
+-- `supply_entries::leaf::leaf_fits` meets its contract: by a size, by the format's own rule, or not at all.
 use mathlib.Core.Path.{sym, _∙_}
 use native.Mathlib.Omega.{arith}
 use Rattle.plan_nodes.proofs.Nodes.{at-format}
 use Rattle.value_parts.proofs.Members.{inner-kind}
-use Rattle.supply_entries.proofs.Leaves.{fits-fixed}
+use Rattle.supply_entries.proofs.Leaves.{fits-size}
 use Rattle.value_parts.proofs.Containers.{container-none}
 use borrow.Author.Needs.{needs}
 use Rattle.supply_entries.proofs.leaf.leaf_fits.Statement.{statement}
@@ -16,25 +16,16 @@ second-at-requires : tie.Need-second-at-requires
 second-at-requires c κs =
     (c .before .before .before .before .pre .0, λ e. omega (arith, c .before .kind-at .ensures .is, c .if1 .taken))
 
-cast-fixed-of : tie.Need-cast-fixed-of
-cast-fixed-of c =
+cast-fixed-size : tie.Need-cast-fixed-size
+cast-fixed-size c =
     omega (arith, c .second-at .ensures, at-format _ _ (c .before .before .before .before .before .pre .0) (sym (c .before .before .kind-at .ensures .is) ∙ c .before .if1 .taken))
-
-fixed-ok-requires : tie.Need-fixed-ok-requires
-fixed-ok-requires c κs = (
-  omega (
-    arith,
-    c .before .before .before .before .before .before .before .before .pre .1,
-    c .before .before .before .before .before .before .before .before .pre .2,
-  ),
-  c .before .before .fixed-of .ensures .eight,
-)
 
 returns : tie.Need-returns
 returns c =
-    fits-fixed _ _ _ (c .before .before .before .before .before .before .kind-at .ensures .is) (c .before .before .before .before .before .if1 .taken) _
-    (c .before .before .before .before .second-at .ensures) _ _ (c .before .before .before .fixed-of .ensures) (c .before .if2 .taken) _ _
-    (c .fixed-ok .ensures)
+    fits-size _ _ _ (c .before .before .before .before .kind-at .ensures .is) (c .before .before .before .if1 .taken) _
+    (c .before .before .second-at .ensures) _ (c .before .fixed-size .ensures) (c .if2 .taken) _ _ _
+    (c .before .before .before .before .before .before .before .pre .1)
+    (c .before .before .before .before .before .before .before .pre .2)
 
 leaf-ok-requires : tie.Need-leaf-ok-requires
 leaf-ok-requires c κs =
@@ -53,10 +44,9 @@ leaf-fits-spec =
     (tie.spec
     kind-at-requires
     second-at-requires
-    cast-fixed-of
+    cast-fixed-size
     (λ c κs. search needs)
     (λ c. search needs)
-    fixed-ok-requires
     returns
     (λ c κs. search needs)
     (λ c. search needs)
