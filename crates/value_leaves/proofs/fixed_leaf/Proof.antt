@@ -1,5 +1,5 @@
 -- `value_leaves::fixed_leaf` meets its contract: its tests are those of `fixedLeaf`, in its order.
-use mathlib.Core.Path.{refl, sym, _∙_}
+use mathlib.Core.Path.{_∙_}
 use native.Mathlib.Omega.{arith}
 use borrow.Author.Tests.{eq-eqb, ne-eqb, lt-ltb, le-ltb, not-true, not-false}
 use Rattle.value_leaves.specs.Leaves.{fixedLeaf}
