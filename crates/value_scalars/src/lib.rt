@@ -29,7 +29,7 @@ fn duration_ok(v: &[u8]) -> bool
 }
 
 // Whether the eight bytes from `at` on are a time of day. A day has 256 times 337,500,000 microseconds, so the last byte may be anything; of a
-// negative number the first is not zero. To compare the number of all eight takes twice as long: the compiler then reads each by itself.
+// negative number the first is not zero. If the number of all eight is compared, the compiler reads each by itself, and a set takes a third longer.
 pub fn in_day(s: &[u8], at: usize) -> bool
     requires { ⌜ at + 8 ≤ length (now s) ⌝ }
     ensures { λ r. ⌜ r ≡ localTime (take 8 (drop at (now (s .entry)))) ⌝ }
