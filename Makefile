@@ -33,7 +33,7 @@ build/make-capture: $(MAKER) $(HEADERS) $(LIBRARY) | compiler
 	$(CC) $(CFLAGS) $(MAKER) $(LIBRARY) -o $@
 
 # What tests/panel/run needs besides.
-panel-tests: build/panel-captures build/panel-cut build/panel-feed build/panel-formats build/panel-long-row
+panel-tests: build/panel-captures build/panel-cut build/panel-feed build/panel-formats build/panel-long-row build/panel-local-times
 
 RECORDS = tests/panel/records.c
 RECORDS_OF = $(RECORDS) $(wildcard tests/panel/*.h) $(HEADERS)
@@ -46,7 +46,7 @@ build/panel-cut build/panel-feed: build/panel-%: tests/panel/%.c $(RECORDS_OF) |
 	mkdir -p build
 	$(CC) $(CFLAGS) $< $(RECORDS) -o $@
 
-build/panel-%: tests/panel/%.c tests/hex.h $(BUILDER) $(HEADERS) $(LIBRARY) | compiler
+build/panel-%: tests/panel/%.c tests/panel/sending.h tests/hex.h $(BUILDER) $(HEADERS) $(LIBRARY) | compiler
 	mkdir -p build
 	$(CC) $(CFLAGS) $< $(BUILDER) $(LIBRARY) -o $@
 

@@ -33,7 +33,7 @@ void print_date(const struct screen *screen, int64_t days) {
             shown < 0 ? -shown : shown, month < 10 ? month + 3 : month - 9, day_of_month);
 }
 
-static void print_clock(const struct screen *screen, int64_t microseconds) {
+void print_time(const struct screen *screen, int64_t microseconds) {
     fprintf(screen->out, "%02" PRId64 ":%02" PRId64 ":%02" PRId64, microseconds / HOUR,
             microseconds / (60 * SECOND) % 60, microseconds / SECOND % 60);
     print_parts(screen, microseconds % SECOND);
@@ -43,16 +43,9 @@ void print_datetime(const struct screen *screen, int64_t microseconds, bool utc)
     int64_t of_day = microseconds % DAY; /* below zero before 2000 */
     print_date(screen, floor_div(microseconds, DAY));
     fputc('T', screen->out);
-    print_clock(screen, of_day < 0 ? of_day + DAY : of_day);
+    print_time(screen, of_day < 0 ? of_day + DAY : of_day);
     if (utc)
         fputc('Z', screen->out);
-}
-
-void print_time(const struct screen *screen, int64_t microseconds) {
-    if (microseconds >= 0 && microseconds < DAY)
-        print_clock(screen, microseconds);
-    else
-        fprintf(screen->out, "%" PRId64 " microseconds (outside of a day)", microseconds);
 }
 
 /* One part of a duration with its unit; nothing if it is zero. */

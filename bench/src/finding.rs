@@ -3,7 +3,7 @@
 //! works on words.
 
 use crate::race::race;
-use crate::shapes::{integers, nested, sparse_object, Subject};
+use crate::shapes::{integers, local_times, nested, sparse_object, sparse_times, Subject};
 use crate::table;
 use compare::crossed::list;
 use compare::ffi;
@@ -15,8 +15,10 @@ pub fn print() {
     table::head("Element found");
     for (what, subject, path) in [
         ("last of", integers(1_600), vec![1_599]),
+        ("last of", local_times(1_600), vec![1_599]),
         ("last of", integers(5_000), vec![4_999]),
         ("last of", sparse_object(500), vec![493]),
+        ("last of", sparse_times(500), vec![493]),
         ("30 levels down a", nested(31), vec![0; 30]),
     ] {
         let name = format!("{what} {}", subject.name);

@@ -1,10 +1,12 @@
 //! The plans and values that are measured.
 
 use compare::crossed::list;
+use compare::times::numbers::LAST_OF_DAY;
 
 const INT16: u32 = 3;
 const INT64: u32 = 5;
 const BOOL: u32 = 9;
+const LOCAL_TIME: u32 = 13;
 const ONE: u32 = 0x41;
 const AT_MOST_ONE: u32 = 0x6f;
 
@@ -56,12 +58,29 @@ fn object(elements: &[(u32, Vec<u8>)]) -> Vec<u8> {
     bytes
 }
 
+/// An int64 that is an index.
+fn integer(index: u32) -> Vec<u8> {
+    i64::from(index).to_be_bytes().to_vec()
+}
+
+/// A local_time so many microseconds before the last one of a day.
+fn local_time(before: u32) -> Vec<u8> {
+    (LAST_OF_DAY - i64::from(before)).to_be_bytes().to_vec()
+}
+
 pub fn integers(count: u32) -> Subject {
-    let integer = |index: u32| i64::from(index).to_be_bytes().to_vec();
     Subject {
         name: format!("set of {count} int64"),
         plan: plan(&[vec![1, INT64], vec![2, 2]]),
         value: set(&(0..count).map(integer).collect::<Vec<_>>()),
+    }
+}
+
+pub fn local_times(count: u32) -> Subject {
+    Subject {
+        name: format!("set of {count} local_time"),
+        plan: plan(&[vec![1, LOCAL_TIME], vec![2, 2]]),
+        value: set(&(0..count).map(local_time).collect::<Vec<_>>()),
     }
 }
 
@@ -118,15 +137,43 @@ pub fn rows(count: usize) -> Subject {
     }
 }
 
+/// A set of so many objects of eight local times.
+pub fn time_rows(count: usize) -> Subject {
+    let row: Vec<_> = (0..8).map(|index| (0, local_time(index))).collect();
+    Subject {
+        name: format!("set of {count} rows of 8 local_time"),
+        plan: set_of_objects(5, 8, LOCAL_TIME),
+        value: set(&vec![object(&row); count]),
+    }
+}
+
 /// An input object with all of its so many int64, in an order that jumps about.
 pub fn sparse_object(count: u32) -> Subject {
-    let pairs = vec![[2, ONE]; count as usize];
-    let element = |step: u32| (step * 7 % count, i64::from(step).to_be_bytes().to_vec());
     Subject {
         name: format!("sparse object of {count} entries"),
-        plan: plan(&[vec![1, INT64], object_node(6, &pairs)]),
-        value: object(&(0..count).map(element).collect::<Vec<_>>()),
+        plan: sparse_plan(count, INT64),
+        value: sparse(count, integer),
     }
+}
+
+/// The same of local times.
+pub fn sparse_times(count: u32) -> Subject {
+    Subject {
+        name: format!("sparse object of {count} local_time"),
+        plan: sparse_plan(count, LOCAL_TIME),
+        value: sparse(count, local_time),
+    }
+}
+
+/// The plan of an input object of so many elements of one format, all of them required.
+fn sparse_plan(count: u32, format: u32) -> Vec<u32> {
+    let pairs = vec![[2, ONE]; count as usize];
+    plan(&[vec![1, format], object_node(6, &pairs)])
+}
+
+fn sparse(count: u32, scalar: fn(u32) -> Vec<u8>) -> Vec<u8> {
+    let element = |step: u32| (step * 7 % count, scalar(step));
+    object(&(0..count).map(element).collect::<Vec<_>>())
 }
 
 /// A set of so many empty input objects of a shape of 512: whatever an object costs beside its own

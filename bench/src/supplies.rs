@@ -3,7 +3,10 @@
 //! function reads the plan and works on words.
 
 use crate::race::race;
-use crate::shapes::{integers, mixed_object, nested, rows, sparse_object, Subject};
+use crate::shapes::{
+    integers, local_times, mixed_object, nested, rows, sparse_object, sparse_times, time_rows,
+    Subject,
+};
 use crate::table;
 use compare::crossed::list;
 use compare::ffi;
@@ -15,9 +18,12 @@ pub fn print() {
     table::head("Value written");
     for subject in [
         integers(1_600),
+        local_times(1_600),
         mixed_object(50),
         rows(180),
+        time_rows(180),
         sparse_object(500),
+        sparse_times(500),
         nested(30),
     ] {
         table::row(&subject.name, times(&subject));

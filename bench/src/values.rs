@@ -8,7 +8,8 @@
 
 use crate::race::race;
 use crate::shapes::{
-    bools, empty_objects, integers, mixed_object, nested, rows, sparse_object, Subject,
+    bools, empty_objects, integers, local_times, mixed_object, nested, rows, sparse_object,
+    sparse_times, time_rows, Subject,
 };
 use crate::table;
 use compare::crossed::list;
@@ -24,11 +25,14 @@ pub fn print() {
     table::head("Value");
     for subject in [
         integers(1_600),
+        local_times(1_600),
         integers(4_000),
         mixed_object(50),
         rows(180),
+        time_rows(180),
         rows(700),
         sparse_object(500),
+        sparse_times(500),
         nested(30),
         empty_objects(8_189),
     ] {

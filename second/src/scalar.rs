@@ -28,6 +28,9 @@ pub enum Format {
 /// The greatest digit of a decimal or bigint (R5.16).
 const MOST_DIGIT: u16 = 9_999;
 
+/// The last microsecond of a day (R5.15).
+const LAST_OF_DAY: i64 = 86_399_999_999;
+
 impl Format {
     pub const ALL: [Format; 20] = [
         Format::Uuid,
@@ -66,15 +69,15 @@ impl Format {
             Format::Bool => matches!(content, [0 | 1]),
             Format::Decimal => decimal(content),
             Format::Bigint => bigint(content),
+            Format::LocalTime => local_time(content),
             Format::Duration => duration(content),
             Format::Int16 => content.len() == 2,
             Format::Int32 | Format::Float32 | Format::LocalDate => content.len() == 4,
-            // Times and dates have no limits (R5.15).
+            // Dates, with a time or without, have no limits (R5.15).
             Format::Int64
             | Format::Float64
             | Format::Datetime
             | Format::LocalDatetime
-            | Format::LocalTime
             | Format::Memory => content.len() == 8,
             // The reserved bytes of a date_duration may be anything (R5.18).
             Format::Uuid | Format::RelativeDuration | Format::DateDuration => content.len() == 16,
@@ -98,6 +101,12 @@ fn json(content: &[u8]) -> bool {
         Some((1, text)) => is_text(text),
         _ => false,
     }
+}
+
+/// Microseconds that lie within a day (R5.15).
+fn local_time(content: &[u8]) -> bool {
+    let microseconds = content.try_into().map(i64::from_be_bytes);
+    microseconds.is_ok_and(|microseconds| (0..=LAST_OF_DAY).contains(&microseconds))
 }
 
 /// Microseconds, and eight bytes that are zero (R5.15).

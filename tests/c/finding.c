@@ -9,6 +9,7 @@
  */
 #define _DEFAULT_SOURCE
 #include "large.h"
+#include "times.h"
 
 enum {
     INT16 = REMBULFOSE_FORMAT_INT16,
@@ -126,6 +127,17 @@ static void numbers(void) {
          0, 20);
 }
 
+static void good_time(const struct timed *timed) {
+    part(timed->name, timed->plan, timed->value, timed->place->path, timed->place->start, 8);
+}
+
+/* Whatever the path is: to the time, to the value as a whole, to nothing. */
+static void bad_time(const struct timed *timed) {
+    const char *const paths[] = {timed->place->path, "", "9"};
+    for (size_t i = 0; i < sizeof paths / sizeof paths[0]; i++)
+        bad(timed->name, timed->plan, timed->value, paths[i], 24, timed->place->start);
+}
+
 /* 33, 28, the value's faults, 35 or 36, 37; a path that cannot cross has 35's turn. */
 static void order(void) {
     uint8_t plan_bytes[MOST], bytes[MOST];
@@ -202,6 +214,7 @@ int main(void) {
     sets();
     objects();
     numbers();
+    try_times(good_time, bad_time);
     order();
     null_pointers();
     small_stack(large);

@@ -9,6 +9,7 @@
  */
 #define _DEFAULT_SOURCE
 #include "large.h"
+#include "times.h"
 
 /* Writes a value; the room of so many bytes must then start with it, and plan, list and source must
  * be as they were. */
@@ -127,6 +128,15 @@ static void refusals(void) {
     bad("bad plan and bad list", "6 4 1 20 2 2", "4 0 0", "", 33);
 }
 
+/* A value's list and its own bytes are its supply. */
+static void good_time(const struct timed *timed) {
+    good(timed->name, timed->plan, timed->place->list, timed->value, timed->value);
+}
+
+static void bad_time(const struct timed *timed) {
+    bad(timed->name, timed->plan, timed->place->list, timed->value, 34);
+}
+
 /* A list that cannot cross is 34, after 33 and before 32. A null pointer may be lent with length 0.
  */
 static void crossing(void) {
@@ -214,6 +224,7 @@ int main(void) {
     edges();
     good_supplies();
     refusals();
+    try_times(good_time, bad_time);
     crossing();
     small_stack(large);
     return finish();

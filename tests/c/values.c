@@ -9,6 +9,7 @@
  */
 #define _DEFAULT_SOURCE
 #include "large.h"
+#include "times.h"
 
 /* Runs a value with room of so many bytes. */
 static void running(const char *name, const char *plan, const char *value, size_t room,
@@ -112,6 +113,36 @@ static void value_refusals(void) {
     bad("no type with a byte", "2 0", "00", 21, 0);
 }
 
+static void good_time(const struct timed *timed) {
+    good(timed->name, timed->plan, timed->value, timed->place->list);
+}
+
+/* Also without room for a list, which is asked for after all faults. */
+static void bad_time(const struct timed *timed) {
+    bad(timed->name, timed->plan, timed->value, 24, timed->place->start);
+    running(timed->name, timed->plan, timed->value, 0, refused(24, timed->place->start), "");
+}
+
+#define TIMES_PLAN "6 4 1 13 2 2"
+
+/* Besides, local_times of other sizes, and such that are not the value's only fault. */
+static void local_times(void) {
+    try_times(good_time, bad_time);
+    bad("local_time of 7 bytes", "4 2 1 13", "00000000000000", 24, 0);
+    bad("local_time of 9 bytes", "4 2 1 13", "000000000000000000", 24, 0);
+    bad("local_time of no bytes", "4 2 1 13", "", 24, 0);
+    bad("local_time of -1, then one of 86,400,000,000", TIMES_PLAN,
+        "00000001 0000000000000000 00000002 00000001 00000008 ffffffffffffffff"
+        "00000008 000000141dd76000",
+        24, 24);
+    bad("local_time of -1, then a byte left over", TIMES_PLAN,
+        "00000001 0000000000000000 00000001 00000001 00000008 ffffffffffffffff 00", 24, 24);
+    bad("local_time of -1, then a head cut off", TIMES_PLAN,
+        "00000001 0000000000000000 00000002 00000001 00000008 ffffffffffffffff 000000", 24, 24);
+    bad("bad head of a set with a local_time of -1", TIMES_PLAN,
+        "00000001 0000000000000000 00000001 00000002 00000008 ffffffffffffffff", 22, 0);
+}
+
 static void plan_refusals(void) {
     uint8_t plan[24], list[20];
     bad("no words", "", "", 33, 0);
@@ -193,6 +224,7 @@ int main(void) {
     edges();
     good_values();
     value_refusals();
+    local_times();
     plan_refusals();
     null_pointers();
     small_stack(large);

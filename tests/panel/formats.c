@@ -1,10 +1,7 @@
 /* Makes a capture on standard output whose rows have every scalar format: the examples of the protocol's
  * description first, then values at the edges. The last element of a row is a set of arrays. */
-#include "../../demo/build.h"
-#include "../../host/capture.h"
 #include "../hex.h"
-
-#include <string.h>
+#include "sending.h"
 
 enum { FORMATS = REMBULFOSE_FORMATS, ROWS = 4, SET_OF_ARRAYS_AT = FORMATS, ELEMENTS = FORMATS + 1 };
 enum { INT16_BLOCK = 3, ARRAY_BLOCK = FORMATS, SET_BLOCK, TUPLE_BLOCK };
@@ -18,11 +15,11 @@ static const char *const rows[ROWS][FORMATS] = {
      "00000028dd117280000000100000001f", "0000000000000000000000020000000c", "0000000007b00000"},
     {"00000000000000000000000000000000", "", "", "8000", "80000000", "8000000000000000", "ff800000",
      "fff0000000000000", "0000000000000000", "00", "8000000000000000", "8000000000000000",
-     "80000000", "8000000000000000", "80000000000000000000000000000000", "01", "0000000000000000",
+     "80000000", "0000000000000000", "80000000000000000000000000000000", "01", "0000000000000000",
      "80000000000000008000000080000000", "ffffffffffffffff8000000080000000", "8000000000000000"},
     {"ffffffffffffffffffffffffffffffff", "1b5b316d22e280ae5c0a", "0d0a", "7fff", "7fffffff",
      "7fffffffffffffff", "7fc00001", "7ff0000000000001", "00010064000000000001", "01",
-     "7fffffffffffffff", "7fffffffffffffff", "7fffffff", "7fffffffffffffff",
+     "7fffffffffffffff", "7fffffffffffffff", "7fffffff", "000000141dd75fff",
      "7fffffffffffffff0000000000000000", "0122c29b22", "000100020000000003e7",
      "7fffffffffffffff7fffffff7fffffff", "00000000000000007fffffff7fffffff", "7fffffffffffffff"},
     {"0123456789abcdef0123456789abcdef", "c3a4", "01", "ffff", "ffffffff", "ffffffffffffffff",
@@ -83,41 +80,30 @@ static void row_value(const struct plan *plan, unsigned row, struct supply *supp
 }
 
 struct work {
-    struct run capture, descriptor, id, value;
+    struct sending sending;
+    struct run descriptor, id, value;
     struct plan plan;
     struct supply supply;
-    struct fields fields;
 };
 
-static void send_description(struct work *work) {
-    static const uint8_t zero[16] = {0};
-    struct fields *fields = &work->fields;
+static void describe(struct work *work) {
     descriptor(&work->descriptor);
     add_id(&work->id, 0x03);
     rembulfose_answer answer = plan_compile(&work->plan, work->id.bytes, work->descriptor.bytes,
                                             work->descriptor.length);
     must(answer.number == 0, rembulfose_refusal_text(answer.number));
-    add_field_number(fields, 0, 2);
-    add_field_number(fields, 0, 8);
-    add_field_number(fields, REMBULFOSE_CARDINALITY_MANY, 1);
-    add_field(fields, zero, 16);
-    add_field(fields, NULL, 0);
-    add_field(fields, work->id.bytes, 16);
-    add_field(fields, work->descriptor.bytes, work->descriptor.length);
-    write_record(&work->capture, SERVER, 'T', fields);
+    send_description(&work->sending, &work->id, &work->descriptor, REMBULFOSE_CARDINALITY_MANY);
 }
 
 int main(void) {
     static struct work all; /* too large for the stack */
     struct work *work = &all;
-    add_bytes(&work->capture, CAPTURE_MAGIC, strlen(CAPTURE_MAGIC));
-    send_description(work);
+    start_capture(&work->sending);
+    describe(work);
     for (unsigned i = 0; i < ROWS; i++) {
         row_value(&work->plan, i, &work->supply, &work->value);
-        add_field_number(&work->fields, 1, 2);
-        add_field(&work->fields, work->value.bytes, work->value.length);
-        write_record(&work->capture, SERVER, 'D', &work->fields);
+        send_row(&work->sending, &work->value);
     }
-    print_run(&work->capture);
+    print_run(&work->sending.capture);
     return 0;
 }

@@ -4,6 +4,8 @@ use crate::case::Case;
 use crate::expected::Expected;
 use crate::fence::Edge;
 use crate::lending::{Lending, FILLS};
+use crate::times::counts::{Tried, Trying};
+use crate::times::timed::{self, Timed};
 
 /// The cases so far, in their order.
 pub struct Cases<C>(pub Vec<C>);
@@ -32,6 +34,7 @@ impl<C: Clone> Cases<Case<C>> {
             call,
             lending,
             expected,
+            time: None,
         });
     }
 
@@ -39,6 +42,20 @@ impl<C: Clone> Cases<Case<C>> {
     pub fn at_edges(&mut self, call: C, expected: Expected) {
         for edge in [Edge::Front, Edge::Back] {
             self.push(call.clone(), edge, expected.clone());
+        }
+    }
+}
+
+impl<C: Trying> Cases<C> {
+    /// What this adds for each value with a local_time that is tried.
+    pub fn try_times(&mut self, add: fn(&mut Cases<C>, &Timed)) {
+        for timed in timed::all() {
+            let from = self.0.len();
+            add(self, &timed);
+            let time = Tried::of(&timed);
+            for case in &mut self.0[from..] {
+                *case.time() = Some(time.clone());
+            }
         }
     }
 }

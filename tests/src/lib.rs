@@ -14,6 +14,8 @@
 //!   descriptors and values, for the programs `descriptors` and `rules`.
 //! * [`finding`] does so with paths, for the program `finding`, and [`supply`] with supplies, for the
 //!   program `supplies`; [`entries`] has the entries of the lists that both start from.
+//! * [`times`] has local times within a day and outside, in all places, for `value`, [`finding`] and
+//!   [`supply`].
 //! * [`case`] is a case of some of these, and [`fixed`] puts together those of every run.
 //! * [`panel`] holds what the panel program prints against the second program, for `panel-shown`.
 
@@ -38,4 +40,5 @@ pub mod rng;
 pub mod supply;
 pub mod tally;
 pub mod text;
+pub mod times;
 pub mod value;

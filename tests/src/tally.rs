@@ -10,6 +10,9 @@ pub enum Counted {
     Answers(&'static str, &'static [u32]),
     /// What is no answer: of what, and the names. They are counted by their place among the names.
     Events(&'static str, &'static [&'static str]),
+    /// Events of cases that are in every run, however few random ones it has: of what, and each name
+    /// with how often it must have been met.
+    Always(&'static str, &'static [(&'static str, u64)]),
 }
 
 /// The number of an answer that is no refusal.
@@ -22,7 +25,9 @@ const EVENT_COLUMNS: usize = 44;
 impl Counted {
     fn title(&self) -> &'static str {
         match self {
-            Counted::Answers(title, _) | Counted::Events(title, _) => title,
+            Counted::Answers(title, _) | Counted::Events(title, _) | Counted::Always(title, _) => {
+                title
+            }
         }
     }
 
@@ -31,6 +36,7 @@ impl Counted {
         match self {
             Counted::Answers(_, refusals) => [&[ACCEPTED], *refusals].concat(),
             Counted::Events(_, names) => (0..names.len() as u32).collect(),
+            Counted::Always(_, names) => (0..names.len() as u32).collect(),
         }
     }
 
@@ -39,6 +45,7 @@ impl Counted {
             Counted::Answers(..) if key == ACCEPTED => "accepted".to_string(),
             Counted::Answers(..) => format!("refused {key}"),
             Counted::Events(_, names) => names[key as usize].to_string(),
+            Counted::Always(_, names) => names[key as usize].0.to_string(),
         }
     }
 
@@ -47,6 +54,7 @@ impl Counted {
         match self {
             Counted::Answers(..) if key == ACCEPTED => demand.accepted,
             Counted::Answers(..) | Counted::Events(..) => demand.refused,
+            Counted::Always(_, names) => names[key as usize].1,
         }
     }
 }
@@ -95,7 +103,7 @@ impl fmt::Display for Tally {
                 writeln!(f, "{title}: {total} cases")?;
                 ANSWER_COLUMNS
             }
-            Counted::Events(..) => {
+            Counted::Events(..) | Counted::Always(..) => {
                 writeln!(f, "{title}")?;
                 EVENT_COLUMNS
             }
@@ -107,8 +115,8 @@ impl fmt::Display for Tally {
     }
 }
 
-/// How often a run must have met each answer of a call, and each event. Without the first a run in
-/// which everything is refused would pass.
+/// How often a run must have met each answer of a call, and each event that its random cases are to
+/// come to. Without the first a run in which everything is refused would pass.
 pub struct Demand {
     accepted: u64,
     refused: u64,

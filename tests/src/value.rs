@@ -5,7 +5,8 @@
 //!   has both for each format. `byte_damage` spoils a value that was put together.
 //! * `pairing` makes plans and values of all sizes from them at random, and `making` a case.
 //! * `exact`, `leaves`, `plans`, `order`, `limits` and `examples` have cases by construction whose
-//!   answers are known, and `sweep` every value of what has few; `fixed` puts them together.
+//!   answers are known, `times` those of local times, and `sweep` every value of what has few;
+//!   `fixed` puts them together.
 //! * `judge` makes the calls and compares.
 
 pub(crate) mod byte_damage;
@@ -28,12 +29,22 @@ mod planning;
 mod plans;
 pub(crate) mod scalar;
 pub(crate) mod sweep;
+mod times;
 
 use crate::program::Comparison;
 use crate::rng::Rng;
 use case::Case;
 use fixed::Cases;
 pub use judge::Values;
+
+impl Values {
+    /// The cases of every run, but for those that try local times.
+    pub(crate) fn besides_times() -> impl Iterator<Item = Case> {
+        Values::fixed()
+            .into_iter()
+            .filter(|case| case.time.is_none())
+    }
+}
 
 impl Comparison for Values {
     const NAME: &'static str = "values";
@@ -46,6 +57,7 @@ impl Comparison for Values {
             order::add,
             examples::add,
             limits::add,
+            times::add,
             sweep::add,
         ])
     }

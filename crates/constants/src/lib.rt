@@ -231,6 +231,9 @@ pub const FORMAT_MEMORY: u32 = 19;
 // how many there are
 pub const FORMATS: u32 = 20;
 
+// the last microsecond of a day (R5.15)
+pub const MOST_LOCAL_TIME: u64 = 86399999999;
+
 // ---- Kinds of nodes (R4.2)
 
 pub const KIND_LEAF: u32 = 1;

@@ -29,7 +29,7 @@ unfolding leafRule pick
 leaf-permitted true k i base s f e = refl
 leaf-permitted false k i base s f e = let z : _≡_ {A = ℕ} 0 1 = cc in absurd (omega arith)
 
-scalar-permitted : (p : List ℕ) (k : ℕ) → At p k → getD p k 0 ≡ 1 → (i base : ℕ) (b : List ℕ) (f : Forest) → valueOf (look p) k i base b ≡ accepted f → scalar (getD p (k + 1) 0) b ≡ true
+pub scalar-permitted : (p : List ℕ) (k : ℕ) → At p k → getD p k 0 ≡ 1 → (i base : ℕ) (b : List ℕ) (f : Forest) → valueOf (look p) k i base b ≡ accepted f → scalar (getD p (k + 1) 0) b ≡ true
 unfolding leafKind leafGood pick
 scalar-permitted p k a e i base b f h =
     let g = leaf-permitted (leafGood (look p k) b) k i base b f (sym (value-leaf p k a (rw e refl) i base b) ∙ h) in

@@ -312,6 +312,10 @@ FORMAT-MEMORY = 19
 abbrev pub FORMATS : ℕ
 FORMATS = 20
 
+-- the last microsecond of a day (R5.15)
+abbrev pub MOST-LOCAL-TIME : ℕ
+MOST-LOCAL-TIME = 86399999999
+
 -- ---- Kinds of nodes (R4.2)
 
 abbrev pub KIND-LEAF : ℕ

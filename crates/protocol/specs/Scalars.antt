@@ -4,6 +4,7 @@ use mathlib.Core.Bool.{Bool, true, false}
 use mathlib.Core.List.{List, [], _∷_}
 use lib.Dec.{leb, ltb, eqb}
 use lib.ListN.{length, take, drop, getD}
+use Rattle.protocol.specs.Constants.{MOST-LOCAL-TIME}
 use Rattle.protocol.specs.Numbers.{pick, be}
 use Rattle.protocol.specs.Text.{wellFormed}
 
@@ -17,6 +18,10 @@ boolean v = pick (ofSize 1 v) (ltb (be v) 2) false
 -- days and months, its last eight bytes, are zero
 unfoldable pub duration : List ℕ → Bool
 duration v = pick (ofSize 16 v) (eqb (be (drop 8 v)) 0) false
+
+-- microseconds of a day. Its i64 is read without the sign: a negative one is then 2^63 or more, and so past the last.
+unfoldable pub localTime : List ℕ → Bool
+localTime v = pick (ofSize 8 v) (leb (be v) MOST-LOCAL-TIME) false
 
 -- a 1, and then any text: no grammar is looked at
 unfoldable pub json : List ℕ → Bool
@@ -75,7 +80,7 @@ formats =
     ∷ fixed 8
     ∷ fixed 8
     ∷ fixed 4
-    ∷ fixed 8
+    ∷ ruled localTime
     ∷ ruled duration
     ∷ ruled json
     ∷ ruled bigint

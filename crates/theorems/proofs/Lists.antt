@@ -1,26 +1,30 @@
--- What a run's answer and list are: their numbers, how many entries there are, and the part that a path finds.
+-- What a run's answer and list are: their numbers, how many entries there are, the part that a path finds, and what a scalar in it is.
 use mathlib.Core.Path.{_≡_, refl, ap, sym, _∙_}
 use mathlib.Core.Bool.{Bool, true, false}
 use mathlib.Core.List.{List, [], _∷_}
 use mathlib.Core.Logic.{_⊎_, inl, inr, ⊎-elim}
-use Prim.Native.Nat.{ℕ, zero, suc, _+_, _*_, _≤_}
+use Prim.Native.Nat.{ℕ, zero, suc, _+_, _*_, _^_, _<_, _≤_}
 use native.Mathlib.Omega.{arith}
 use lib.Dec.{eqb}
 use lib.ListN.{length, getD, take, drop, length-take, length-drop}
-use borrow.Author.Tests.{eqb-false}
+use borrow.Author.Tests.{eqb-false, le-leb, lt-leb}
 use Rattle.wire.proofs.Picks.{pick-split}
+use Rattle.value_scalars.proofs.Times.{time-number, time-length}
 use Rattle.value_laws.proofs.Forests.{words-length}
 use Rattle.plan_nodes.proofs.Nodes.{at-root}
 use Rattle.run_plan.proofs.Numbers.{run-expected}
-use Rattle.find_path.proofs.Paths.{follow-nowhere, Within}
-use Rattle.find_path.proofs.Calls.{passed, nothing-listed, led}
+use Rattle.find_path.proofs.Paths.{follow-nowhere, Within, Accepts}
+use Rattle.find_path.proofs.Calls.{passed, nothing-listed, led, find-accepts}
 use Rattle.find_path.proofs.Indexes.{Distinct}
+use Rattle.find_number.proofs.Numbers.{scalar-permitted}
 use Rattle.run_compiled.proofs.EntryBound.{run-fits}
 use Rattle.run_compiled.proofs.Numbers.{Told, rules-told}
 use Rattle.forms.specs.declared.Answer.{Answer}
 use Rattle.theorems.specs.Terms.{Words, RunNumber, IndexesApart}
 use Rattle.theorems.proofs.Accepted.{descriptor-number}
 use Rattle.protocol.specs.Constants.{ABSENT}
+use Rattle.protocol.specs.Numbers.{bytesBe}
+use Rattle.protocol.specs.Scalars.{localTime, scalar, formatRule, formats, ruleOf}
 use Rattle.protocol.specs.Lists.{Forest, empty, tree, words, Entries}
 use Rattle.value_laws.specs.Counts.{entryCount}
 use Rattle.protocol.specs.Values.{ValueOutcome}
@@ -127,3 +131,26 @@ found-part p s path f small e k a b q = go (noType p) refl
     go : (c : Bool) → noType p ≡ c → (a + length b ≤ length s) × (b ≡ take (length b) (drop a s))
     go true n = part-of s k a b (follow path (topOf f)) (rw (nothing-listed p s f e n) (none-within (length s) path)) here
     go false n = part-of s k a b (follow path (topOf f)) (led p s f e n (getD p 1 0) refl (at-root p (passed p s f e .formed) n small) path .within) here
+
+-- ---- scalars
+
+pub found-permitted : (p s path : List ℕ) → Words p → (k a : ℕ) (b : List ℕ) → findOf p s path ≡ found k a b → getD p k 0 ≡ 1 → scalar (getD p (k + 1) 0) b ≡ true
+unfolding Accepts
+found-permitted p s path w k a b q e =
+    let x : Accepts p (found k a b) = rw q at (find-accepts p s path w) in
+    scalar-permitted p k (x .0) e (x .1 .0) a b (x .1 .1) (x .1 .2)
+
+-- the bytes of a number, by the format of a time of day
+time-is : (v : List ℕ) → scalar 13 v ≡ localTime v
+unfolding scalar formatRule formats ruleOf
+time-is v = refl
+
+module _ (n : ℕ) where
+  pub time-in-day : n < 24 * 3600 * 1000000 → scalar 13 (bytesBe 8 n) ≡ true
+  time-in-day h = time-is (bytesBe 8 n) ∙ time-number n (omega arith) ∙ le-leb n 86399999999 (omega arith)
+
+  pub time-over : 24 * 3600 * 1000000 ≤ n → n < 2 ^ 64 → scalar 13 (bytesBe 8 n) ≡ false
+  time-over h l = time-is (bytesBe 8 n) ∙ time-number n (omega arith) ∙ lt-leb n 86399999999 (omega arith)
+
+pub time-of-size : (v : List ℕ) → (length v ≡ 8 → ⊥) → scalar 13 v ≡ false
+time-of-size v h = time-is v ∙ time-length v h

@@ -1,5 +1,7 @@
 -- Each promise of specs/Theorems holds, in the order of that page.
 use mathlib.Core.Path.{refl, sym, _∙_}
+use Prim.Native.Nat.{_-_, _^_}
+use native.Mathlib.Omega.{arith}
 use Rattle.message_laws.proofs.Host.{read-then-written, written-then-read, written-then-full}
 use Rattle.run_plan.proofs.Numbers.{exact-33, exact-28, exact-31}
 use Rattle.find_path.proofs.Entries.{find-lines, found-entry}
@@ -27,12 +29,13 @@ use Rattle.c_panel.proofs.rembulfose_find_number.Met.{met as find-number-met}
 use Rattle.c_panel.proofs.rembulfose_write_value.Met.{met as write-value-met}
 use Rattle.theorems.specs.Theorems.{RoomsKept, MessageAccepted, ReadThenWritten, WrittenThenRead, DescriptorAccepted}
 use Rattle.theorems.specs.Theorems.{DescriptorNumbers, PlanGiven, NeverUnformed, DemandThree, DemandThreeBytes, RulesNumbers}
-use Rattle.theorems.specs.Theorems.{ValueAccepted, RunExact, FewEntries, FoundOnList, FoundIsEntry, OneEntry, OneNumber, FloatKept}
+use Rattle.theorems.specs.Theorems.{ValueAccepted, TimesOfDay, RunExact, FewEntries, FoundOnList, FoundIsEntry, FoundPermitted, OneEntry, OneNumber, FloatKept}
 use Rattle.theorems.specs.Theorems.{SignKept, SupplySound, SupplyComplete, SupplyUnique, SupplyExact, SupplyExactFromC, RoundTrip}
 use Rattle.theorems.specs.Theorems.{EveryCall, CompileAndRun, CutsAgree, IntakeEnds, IntakeAnswers, IntakeReads, EdgeCases}
 use Rattle.theorems.proofs.Accepted.{message-exact, descriptor-exact, no-type-exact, descriptor-number, plan-exact, full-exact}
 use Rattle.theorems.proofs.Accepted.{refused-own, value-exact}
 use Rattle.theorems.proofs.Lists.{run-number, rules-number, never-33, run-entries, call-entries, indexes-apart, found-part}
+use Rattle.theorems.proofs.Lists.{found-permitted, time-in-day, time-over, time-of-size}
 use Rattle.theorems.proofs.Bytes.{read-keeps, write-keeps, compile-keeps, run-keeps, value-keeps, runs-rules, call-runs-rules, written-bytes}
 use Rattle.theorems.proofs.Intake.{two-cuts, refusal-stays, other-room-kept, intake-answers, intake-keeps, intake-gives, intake-takes}
 use Rattle.theorems.proofs.Cases.{case-table}
@@ -91,6 +94,9 @@ rules-numbers-holds = rules-number
 pub value-accepted-holds : ValueAccepted
 value-accepted-holds = value-exact
 
+pub times-of-day-holds : TimesOfDay
+times-of-day-holds = (time-in-day, λ n h l. time-over n h (omega arith), λ n h l. time-over (2 ^ 64 - n) (omega arith) (omega arith), time-of-size)
+
 pub run-exact-holds : RunExact
 run-exact-holds p w s room = (
   exact-33 p w s room,
@@ -123,6 +129,9 @@ found-is-entry-holds p s path f w e k a b q =
       y .0,
       y .1,
     )
+
+pub found-permitted-holds : FoundPermitted
+found-permitted-holds = found-permitted
 
 pub one-entry-holds : OneEntry
 one-entry-holds p s f w e = indexes-apart f (listed-distinct p s f w e)

@@ -27,7 +27,9 @@ use Rattle.c_panel.proofs.rembulfose_find as find
 use Rattle.c_panel.proofs.rembulfose_find_number as find-number
 use Rattle.c_panel.proofs.rembulfose_write_value as write-value
 use Rattle.protocol.specs.Constants.{MESSAGE-HEAD, MOST-VALUE, VALUE-SIZE, PLAN-ROOM, LIST-ROOM, OUTPUT-ROOM, BAD-PLAN, NO-VALUE}
-use Rattle.protocol.specs.Numbers.{be}
+use Rattle.protocol.specs.Constants.{FORMAT-LOCAL-TIME, KIND-LEAF}
+use Rattle.protocol.specs.Numbers.{be, bytesBe}
+use Rattle.protocol.specs.Scalars.{scalar}
 use Rattle.protocol.specs.Answers.{refused, accepted, refusedPut, putOut, outputRoomed}
 use Rattle.protocol.specs.Messages.{read, messageCall, contents}
 use Rattle.protocol.specs.Descriptors.{Block, bareForm, DescribedType, no-type, block-type, describe}
@@ -150,6 +152,15 @@ ValueAccepted =
     (p s : List ℕ) (room : ℕ) (f : Forest)
     → (runOf p s room ≡ accepted f) ↔ ((planFormed p ≡ true) × (length s ≤ MOST-VALUE) × (valueBy p s ≡ accepted f) × (length (words f) ≤ room))
 
+-- A local_time is the number of microseconds of a time of day in eight bytes; later numbers and negative ones, in two's complement, and other
+-- sizes are none (R5.15).
+abbrev pub TimesOfDay : Type 0
+TimesOfDay =
+    ((n : ℕ) → n < 24 * 3600 * 1000000 → scalar FORMAT-LOCAL-TIME (bytesBe 8 n) ≡ true)
+    × ((n : ℕ) → 24 * 3600 * 1000000 ≤ n → n < 2 ^ 63 → scalar FORMAT-LOCAL-TIME (bytesBe 8 n) ≡ false)
+    × ((n : ℕ) → 0 < n → n ≤ 2 ^ 63 → scalar FORMAT-LOCAL-TIME (bytesBe 8 (2 ^ 64 - n)) ≡ false)
+    × ((v : List ℕ) → (length v ≡ 8 → ⊥) → scalar FORMAT-LOCAL-TIME v ≡ false)
+
 -- 33 exactly when the plan is not well formed (R4.4); 28 exactly when it is and the value is too large (R5.1); 31 exactly when the value is
 -- accepted and its list has more words than the room (R6.9). By a well-formed plan any other number is one of 20 to 27 (R1.3).
 abbrev pub RunExact : Type 0
@@ -180,6 +191,12 @@ abbrev pub FoundIsEntry : Type 0
 FoundIsEntry =
     (p s path : List ℕ) (f : Forest) → Words p → checked p s ≡ accepted f → (k a : ℕ) (b : List ℕ) → findOf p s path ≡ found k a b
     → PathEntry (words f) path k a (length b) × (a + length b ≤ length s) × (b ≡ take (length b) (drop a s))
+
+-- Whatever is found at a scalar's node is a value of its format, wherever it stands in the value: so no local_time that is found lies outside of a
+-- day (R5.15, R7.1).
+abbrev pub FoundPermitted : Type 0
+FoundPermitted =
+    (p s path : List ℕ) → Words p → (k a : ℕ) (b : List ℕ) → findOf p s path ≡ found k a b → getD p k 0 ≡ KIND-LEAF → scalar (getD p (k + 1) 0) b ≡ true
 
 -- So in the list of an accepted value a path names one entry alone (R7.2).
 abbrev pub OneEntry : Type 0

@@ -12,8 +12,9 @@ use types.Run.{OneOf}
 use lib.Dec.{eqb, ltb, leb}
 use lib.ListN.{length, take, drop, getD, length-take, length-drop}
 use borrow.Author.Tests.{eqb-true, eqb-false, ltb-false, lt-ltb, le-ltb, lt-leb, eq-eqb, ne-eqb}
-use Rattle.wire.proofs.Picks.{pick-case}
-use Rattle.value_scalars.specs.Sizes.{Fixed}
+use Rattle.wire.proofs.Picks.{pick-case, clash}
+use Rattle.value_scalars.specs.Sizes.{fixedSize, Fixed}
+use Rattle.value_scalars.proofs.Formats.{size-unknown}
 use Rattle.forms.specs.declared.Index.{Index}
 use Rattle.forms.specs.declared.Index.the-variants.{Known, Bad}
 use Rattle.forms.specs.declared.Head.{Head}
@@ -29,15 +30,15 @@ use Rattle.value_parts.specs.Walk.{leafKind, leafGood}
 use Rattle.value_parts.proofs.Nodes.{good-scalar}
 use Rattle.value_parts.proofs.Members.{known-in}
 use Rattle.value_parts.proofs.Containers.{leaf-only}
-use Rattle.value_leaves.specs.Leaves.{fixedOf, FixedAt, fixedLeaf, leafIn, leafAt, wholeOf, givenBy, givenAt}
+use Rattle.value_leaves.specs.Leaves.{formatIn, fixedOf, FixedAt, timedOf, sameGood, SameAt, fixedLeaf, leafIn, leafAt, wholeOf, givenBy, givenAt}
 use Rattle.value_leaves.specs.declared.Leaf.{Leaf}
 use Rattle.value_leaves.specs.declared.Leaf.the-variants.{Good, Other}
 use Rattle.value_leaves.specs.declared.Given.{Given}
 use Rattle.value_leaves.specs.declared.Given.the-variants.{Whole, Unknown}
 use Rattle.protocol.specs.Numbers.{pick}
-use Rattle.protocol.specs.Scalars.{ofSize as of-size}
+use Rattle.protocol.specs.Scalars.{ofSize as of-size, localTime, scalar, formatRule, formats, ruleOf}
 use Rattle.protocol.specs.Heads.{word, negative, elementIn, optional, plainHead, objectHead, requires, sparseIndex}
-use Rattle.protocol.specs.Constants.{ABSENT}
+use Rattle.protocol.specs.Constants.{ABSENT, FORMATS}
 use Rattle.protocol.specs.Nodes.{Node, enum, row, arrays, tuple, object, sparse, range, refAt}
 use Rattle.protocol.specs.Plans.{look, refsAt, pairRef, cardsAt}
 
@@ -48,32 +49,36 @@ apart e = let z : _≡_ {A = ℕ} 0 1 = cc in absurd (omega arith)
 -- ---- a leaf's size
 
 -- of a node that is no scalar
-none-sized : (b c d e f g : Bool) (p : List ℕ) (k : ℕ)
-    → 0 ≡ fixedOf (pick b (row (getD p (k + 1) 0)) (pick c (arrays (getD p (k + 1) 0)) (pick d (tuple (take (getD p (k + 1) 0) (drop (k + 2) p)))
-    (pick e (object (refsAt p k) (cardsAt p k)) (pick f (sparse (refsAt p k) (cardsAt p k)) (pick g (range (getD p (k + 1) 0)) enum))))))
-unfolding fixedOf pick
-none-sized true c d e f g p k = refl
-none-sized false true d e f g p k = refl
-none-sized false false true e f g p k = refl
-none-sized false false false true f g p k = refl
-none-sized false false false false true g p k = refl
-none-sized false false false false false true p k = refl
-none-sized false false false false false false p k = refl
+no-format : (b c d e f g : Bool) (p : List ℕ) (k : ℕ)
+    → formatIn (pick b (row (getD p (k + 1) 0)) (pick c (arrays (getD p (k + 1) 0)) (pick d (tuple (take (getD p (k + 1) 0) (drop (k + 2) p)))
+    (pick e (object (refsAt p k) (cardsAt p k)) (pick f (sparse (refsAt p k) (cardsAt p k)) (pick g (range (getD p (k + 1) 0)) enum)))))) ≡ FORMATS
+unfolding formatIn pick
+no-format true c d e f g p k = refl
+no-format false true d e f g p k = refl
+no-format false false true e f g p k = refl
+no-format false false false true f g p k = refl
+no-format false false false false true g p k = refl
+no-format false false false false false true p k = refl
+no-format false false false false false false p k = refl
+
+other-format : (p : List ℕ) (k kind : ℕ) → kind ≡ getD p k 0 → (kind ≡ 1 → ⊥) → formatIn (look p k) ≡ FORMATS
+unfolding look pick
+other-format p k kind is n =
+    rw (ne-eqb (getD p k 0) 1 (λ e. n (is ∙ e)))
+    (no-format (eqb (getD p k 0) 2) (eqb (getD p k 0) 3) (eqb (getD p k 0) 4) (eqb (getD p k 0) 5) (eqb (getD p k 0) 6) (eqb (getD p k 0) 7) p k)
 
 pub none-fixed : (p : List ℕ) (k kind : ℕ) → kind ≡ getD p k 0 → (kind ≡ 1 → ⊥) → FixedAt p k 0
-unfolding look pick
+unfolding fixedOf
 none-fixed p k kind is n =
-    let m : getD p k 0 ≡ 1 → ⊥ = λ e. n (is ∙ e) in
     record {
-      is = rw (ne-eqb (getD p k 0) 1 m)
-          (none-sized (eqb (getD p k 0) 2) (eqb (getD p k 0) 3) (eqb (getD p k 0) 4) (eqb (getD p k 0) 5) (eqb (getD p k 0) 6) (eqb (getD p k 0) 7) p k);
+      is = sym (ap fixedSize (other-format p k kind is n) ∙ size-unknown FORMATS (omega arith));
       small = omega arith;
       kind = λ h. absurd (omega arith);
       rule = λ h s. absurd (omega arith);
     }
 
 pub some-fixed : (p : List ℕ) (k kind : ℕ) → kind ≡ getD p k 0 → kind ≡ 1 → (f size : ℕ) → f ≡ getD p (k + 1) 0 → Fixed f size → FixedAt p k size
-unfolding leafKind pick of-size fixedOf
+unfolding leafKind pick of-size fixedOf formatIn
 some-fixed p k kind is e f size ef x =
     record {
       is = rw (look-leaf p k (sym is ∙ e), ← ef) (x .is);
@@ -82,15 +87,39 @@ some-fixed p k kind is e f size ef x =
       rule = λ h s. sym (good-scalar p k kind is s f ef e) ∙ x .rule h s;
     }
 
+-- of a set whose leaves are not times of day, and of one of times of day
+same-sized : (p : List ℕ) (k size : ℕ) → timedOf (look p k) ≡ false → FixedAt p k size → SameAt p k size false
+unfolding sameGood of-size pick
+same-sized p k size t f =
+    record { is = f .is; time-is = sym t; small = f .small; eight = λ e. clash e; kind = f .kind; rule = f .rule }
+
+pub same-none : (p : List ℕ) (k kind : ℕ) → kind ≡ getD p k 0 → (kind ≡ 1 → ⊥) → SameAt p k 0 false
+unfolding timedOf
+same-none p k kind is n = same-sized p k 0 (rw (other-format p k kind is n) refl) (none-fixed p k kind is n)
+
+pub same-other : (p : List ℕ) (k kind : ℕ) → kind ≡ getD p k 0 → kind ≡ 1 → (f size : ℕ) → f ≡ getD p (k + 1) 0 → (f ≡ 13 → ⊥) → Fixed f size → SameAt p k size false
+unfolding timedOf formatIn
+same-other p k kind is e f size ef n x =
+    same-sized p k size (rw (look-leaf p k (sym is ∙ e), ← ef) (ne-eqb f 13 n)) (some-fixed p k kind is e f size ef x)
+
+pub same-timed : (p : List ℕ) (k kind : ℕ) → kind ≡ getD p k 0 → kind ≡ 1 → (f : ℕ) → f ≡ getD p (k + 1) 0 → f ≡ 13 → SameAt p k 8 true
+unfolding leafKind pick sameGood timedOf formatIn scalar formatRule formats ruleOf
+same-timed p k kind is e f ef et =
+    record {
+      is = refl;
+      time-is = rw (look-leaf p k (sym is ∙ e), ← ef, et) refl;
+      small = omega arith;
+      eight = λ _. refl;
+      kind = λ _. ap leafKind (sym is ∙ e);
+      rule = λ h s. sym (good-scalar p k kind is s f ef e) ∙ rw et;
+    }
+
 -- what is permitted of a leaf inside
 module _ (p : List ℕ) (k : ℕ) (s : List ℕ) (start size : ℕ) (fits : start + size ≤ length s) where
   pub fixed-is : (fixed : ℕ) → FixedAt p k fixed → 0 < fixed → eqb size fixed ≡ leafGood (look p k) (take size (drop start s))
   fixed-is fixed f z =
       let e : length (take size (drop start s)) ≡ size = simp (length-take, length-drop) (omega arith) in
       sym (f .rule z (take size (drop start s)) ∙ ap (λ (n : ℕ). eqb n fixed) e)
-
-  pub fixed-good : FixedAt p k size → 0 < size → leafGood (look p k) (take size (drop start s)) ≡ true
-  fixed-good f z = sym (fixed-is size f z) ∙ eq-eqb size size refl
 
 pub part-good : (p : List ℕ) (k : ℕ) (s : List ℕ) (start size : ℕ) (b : Bool)
     → b ≡ leafGood (look p k) (take (start + size - start) (drop start s)) → b ≡ leafGood (look p k) (take size (drop start s))
@@ -103,23 +132,40 @@ pub record Standing (s : List ℕ) (at size : ℕ) : Type 0 where
   pub fits : size + 4 ≤ length s - at
   pub is : word s at ≡ size
 
-pub standing : (s : List ℕ) (at size : ℕ) (r : Leaf) → r ≡ fixedLeaf s at size → (start n : ℕ) → r ≡ Good start n → Standing s at size × (start ≡ at + 4) × (n ≡ size)
+-- its bytes are a time of day or not, or any of that size
+module _ (s : List ℕ) (at size : ℕ) (time : Bool) where
+  pub timed-good : time ≡ true → size ≡ 8 → (b : Bool) → b ≡ localTime (take 8 (drop (at + 4) s)) → sameGood time size (take size (drop (at + 4) s)) ≡ b
+  unfolding sameGood pick
+  timed-good t e b eb = rw (t, e) (sym eb)
+
+  pub any-good : time ≡ false → at ≤ length s → size + 4 ≤ length s - at → sameGood time size (take size (drop (at + 4) s)) ≡ true
+  unfolding sameGood of-size pick
+  any-good t h fits =
+      let e : length (take size (drop (at + 4) s)) ≡ size = simp (length-take, length-drop) (omega arith) in
+      rw t (eq-eqb (length (take size (drop (at + 4) s))) size e)
+
+pub standing : (s : List ℕ) (at size : ℕ) (time : Bool) (r : Leaf) → r ≡ fixedLeaf s at size time → (start n : ℕ) → r ≡ Good start n
+    → Standing s at size × (sameGood time size (take size (drop (at + 4) s)) ≡ true) × (start ≡ at + 4) × (n ≡ size)
 unfolding fixedLeaf
-standing s at size r er start n e =
+standing s at size time r er start n e =
     pick-case (λ (x : Leaf). x ≡ Good start n → Goal) (eqb size 0) Other _ (λ _. apart)
     (λ z. pick-case (λ (x : Leaf). x ≡ Good start n → Goal) (ltb (length s - at) (size + 4)) Other _ (λ _. apart)
-    (λ w. pick-case (λ (x : Leaf). x ≡ Good start n → Goal) (eqb (word s at) size) (Good (at + 4) size) Other (λ v q. done z w v q) (λ _. apart)))
+    (λ w. pick-case (λ (x : Leaf). x ≡ Good start n → Goal) (eqb (word s at) size) _ Other
+    (λ v. pick-case (λ (x : Leaf). x ≡ Good start n → Goal) good (Good (at + 4) size) Other (λ g q. done z w v g q) (λ _. apart)) (λ _. apart)))
     (sym er ∙ e)
   where
-    Goal : Type 0
-    Goal = Standing s at size × (start ≡ at + 4) × (n ≡ size)
+    good : Bool
+    good = sameGood time size (take size (drop (at + 4) s))
 
-    done : eqb size 0 ≡ false → ltb (length s - at) (size + 4) ≡ false → eqb (word s at) size ≡ true → Good (at + 4) size ≡ Good start n → Goal
-    done z w v q =
+    Goal : Type 0
+    Goal = Standing s at size × (good ≡ true) × (start ≡ at + 4) × (n ≡ size)
+
+    done : eqb size 0 ≡ false → ltb (length s - at) (size + 4) ≡ false → eqb (word s at) size ≡ true → good ≡ true → Good (at + 4) size ≡ Good start n → Goal
+    done z w v g q =
         let m : size ≡ 0 → ⊥ = eqb-false size 0 z in
         let a : at + 4 ≡ start = cc in
         let b : size ≡ n = cc in
-        (record { some = omega (arith, m); fits = ltb-false (length s - at) (size + 4) w; is = eqb-true (word s at) size v }, sym a, sym b)
+        (record { some = omega (arith, m); fits = ltb-false (length s - at) (size + 4) w; is = eqb-true (word s at) size v }, g, sym a, sym b)
 
 -- ---- an element's head
 

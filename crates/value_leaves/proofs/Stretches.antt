@@ -1,7 +1,7 @@
 -- The laws of a stretch of leaves in a container whose elements come in order: each of
 -- them is an element that the walk would list, and what is left leads to the same place.
 use mathlib.Core.Path.{_≡_, refl, ap, sym, _∙_}
-use mathlib.Core.Bool.{true}
+use mathlib.Core.Bool.{Bool, true}
 use mathlib.Core.List.{List}
 use mathlib.Core.Logic.{⊎-elim}
 use mathlib.Core.Option.{some}
@@ -17,10 +17,10 @@ use Rattle.plan_nodes.specs.Readers.{Refers, At}
 use Rattle.plan_nodes.proofs.Looks.{look-row}
 use Rattle.plan_nodes.proofs.Nodes.{at-ref}
 use Rattle.value_parts.specs.Walk.{walkOf, led, leafKind, leafGood}
-use Rattle.value_leaves.specs.Leaves.{FixedAt, Ordered, gapOf, fixedLeaf, leafAt, Stretched}
+use Rattle.value_leaves.specs.Leaves.{SameAt, Ordered, gapOf, fixedLeaf, leafAt, Stretched}
 use Rattle.value_leaves.specs.declared.Leaf.{Leaf}
 use Rattle.value_leaves.specs.declared.Leaf.the-variants.{Good}
-use Rattle.value_leaves.proofs.Single.{Standing, standing, standing-head, object-plain, fixed-good, leaf-in}
+use Rattle.value_leaves.proofs.Single.{Standing, standing, standing-head, object-plain, leaf-in}
 use Rattle.value_parts.specs.declared.Step.the-variants.{Reached}
 use Rattle.value_parts.proofs.Nodes.{head-tuple, head-object, head-plain}
 use Rattle.value_parts.proofs.Members.{leaf-good, member-present}
@@ -122,17 +122,17 @@ module _ (p : List ℕ) (k base : ℕ) (s : List ℕ) (n first from at : ℕ) (l
       )
 
     -- the next element of a set or an array
-    pub going-same : 0 < left → getD p k 0 ≡ 2 → At p k → (size child j : ℕ) → FixedAt p child size → refAt (look p k) j ≡ some child
-        → (r : Leaf) → r ≡ fixedLeaf s pos size → (start m : ℕ) → r ≡ Good start m
+    pub going-same : 0 < left → getD p k 0 ≡ 2 → At p k → (size : ℕ) (time : Bool) (child j : ℕ) → SameAt p child size time → refAt (look p k) j ≡ some child
+        → (r : Leaf) → r ≡ fixedLeaf s pos size time → (start m : ℕ) → r ≡ Good start m
         → (l″ : List ℕ) → l″ ≡ sets l′ to (entryWords (entryOf child i (base + start) m) 0) → length l″ ≡ length l′
         → Going p k base s n first from at l (left - 1) (i + 1) (start + m) (to + 5) l″
-    going-same z e a size child j f r leaf el start m em l″ es same =
-        let x = standing s pos size leaf el start m em in
+    going-same z e a size time child j f r leaf el start m em l″ es same =
+        let x = standing s pos size time leaf el start m em in
         let b = x .0 .fits in
         let fits : pos + 4 + size ≤ length s = omega arith in
         let after : pos + 4 ≤ pos + 4 = omega arith in
-        rw (x .1, x .2) (going-next z (pos + 4) size child (same-head p k e s i pos size (f .small) (x .0)) after fits (same-ref p k e j i child r) (at-ref p k j child a r .0)
-        (f .kind (x .0 .some)) (fixed-good p child s (pos + 4) size fits f (x .0 .some)) l″ (rw (x .1, x .2) at es) same)
+        rw (x .2, x .3) (going-next z (pos + 4) size child (same-head p k e s i pos size (f .small) (x .0)) after fits (same-ref p k e j i child r) (at-ref p k j child a r .0)
+        (f .kind (x .0 .some)) (f .rule (x .0 .some) (take size (drop (pos + 4) s)) ∙ x .1) l″ (rw (x .2, x .3) at es) same)
 
     -- the next element of any container but a set of arrays
     pub going-other : 0 < left → Ordered p k → (getD p k 0 ≡ 3 → ⊥) → (gap : ℕ) → gap ≡ gapOf (getD p k 0) → (child : ℕ) → refAt (look p k) i ≡ some child

@@ -16,23 +16,29 @@ use Rattle.value_leaves.specs.declared.Leaf.{Leaf}
 use Rattle.value_leaves.specs.declared.Leaf.the-variants.{Good, Other}
 use Rattle.value_leaves.specs.declared.Given.{Given}
 use Rattle.value_leaves.specs.declared.Given.the-variants.{Whole, Unknown}
+use Rattle.protocol.specs.Constants.{FORMATS, FORMAT-LOCAL-TIME}
 use Rattle.protocol.specs.Numbers.{pick}
+use Rattle.protocol.specs.Scalars.{ofSize, localTime}
 use Rattle.protocol.specs.Heads.{word, plainHead, optional, requires, sparseIndex}
 use Rattle.protocol.specs.Nodes.{Node, leaf, enum, row, arrays, tuple, object, sparse, range, refAt}
 use Rattle.protocol.specs.Values.{elements, rowForm, sparseForm, noMarks, valueOf}
 use Rattle.protocol.specs.Plans.{look, pairRef, cardsAt}
 use Rattle.plan_nodes.specs.Readers.{At}
 
+-- the format of a leaf, and of each other node one that is not there
+unfoldable pub formatIn : Node → ℕ
+formatIn (leaf f) = f
+formatIn enum = FORMATS
+formatIn (row r) = FORMATS
+formatIn (arrays r) = FORMATS
+formatIn (tuple refs) = FORMATS
+formatIn (object refs cards) = FORMATS
+formatIn (sparse refs cards) = FORMATS
+formatIn (range r) = FORMATS
+
 -- the size of a leaf whose values are any bytes of that size, and 0 for each other node
 unfoldable pub fixedOf : Node → ℕ
-fixedOf (leaf f) = fixedSize f
-fixedOf enum = 0
-fixedOf (row r) = 0
-fixedOf (arrays r) = 0
-fixedOf (tuple refs) = 0
-fixedOf (object refs cards) = 0
-fixedOf (sparse refs cards) = 0
-fixedOf (range r) = 0
+fixedOf v = fixedSize (formatIn v)
 
 -- what it says of the node's values
 pub record FixedAt (p : List ℕ) (k size : ℕ) : Type 0 where
@@ -41,10 +47,29 @@ pub record FixedAt (p : List ℕ) (k size : ℕ) : Type 0 where
   pub kind : 0 < size → leafKind (getD p k 0) ≡ true
   pub rule : 0 < size → (s : List ℕ) → leafGood (look p k) s ≡ eqb (length s) size
 
--- an element of a size that is not 0 that stands at a position, its length before it
-unfoldable pub fixedLeaf : List ℕ → ℕ → ℕ → Leaf
-fixedLeaf s at size =
-    pick (eqb size 0) Other (pick (ltb (length s - at) (size + 4)) Other (pick (eqb (word s at) size) (Good (at + 4) size) Other))
+-- a leaf whose values are a time of day
+unfoldable pub timedOf : Node → Bool
+timedOf v = eqb (formatIn v) FORMAT-LOCAL-TIME
+
+-- what is asked of a value in a set of times of day, or of any bytes of a size
+unfoldable pub sameGood : Bool → ℕ → List ℕ → Bool
+sameGood time size v = pick time (localTime v) (ofSize size v)
+
+-- the size of such a set's values, and 0 for each other node; whether they are times of day; and what both say of them
+pub record SameAt (p : List ℕ) (k size : ℕ) (time : Bool) : Type 0 where
+  pub is : size ≡ pick time 8 (fixedOf (look p k))
+  pub time-is : time ≡ timedOf (look p k)
+  pub small : size ≤ 16
+  pub eight : time ≡ true → size ≡ 8
+  pub kind : 0 < size → leafKind (getD p k 0) ≡ true
+  pub rule : 0 < size → (s : List ℕ) → leafGood (look p k) s ≡ sameGood time size s
+
+-- an element of a size that is not 0 that stands at a position, its length before it, and is permitted
+unfoldable pub fixedLeaf : List ℕ → ℕ → ℕ → Bool → Leaf
+fixedLeaf s at size time =
+    pick (eqb size 0) Other
+    (pick (ltb (length s - at) (size + 4)) Other
+    (pick (eqb (word s at) size) (pick (sameGood time size (take size (drop (at + 4) s))) (Good (at + 4) size) Other) Other))
 
 -- the reserved bytes before an element's length, by the kind of its container (R5.7, R5.8)
 unfoldable pub gapOf : ℕ → ℕ

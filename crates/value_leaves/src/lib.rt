@@ -12,7 +12,7 @@ ghost use mathlib.Core.Path.{_≡_};
 ghost use Prim.Native.Nat.{_+_, _*_, _^_, _<_, _≤_};
 ghost use lib.ListN.{length, take, drop, getD};
 ghost use Rattle.value_parts.specs.Walk.{Holds, leafGood, leafKind};
-ghost use Rattle.value_leaves.specs.Leaves.{FixedAt, Ordered, Stretched, leafAt, fixedLeaf, givenAt, Gathers, gapOf};
+ghost use Rattle.value_leaves.specs.Leaves.{FixedAt, SameAt, Ordered, Stretched, leafAt, fixedLeaf, givenAt, Gathers, gapOf};
 ghost use mathlib.Core.Bool.{true};
 ghost use Rattle.protocol.specs.Plans.{look};
 ghost use Rattle.plan_nodes.specs.Readers.{At};
@@ -43,6 +43,12 @@ pub enum Given {
     Unknown,
 }
 
+// How the leaves of a set are told: by their size, and whether they are a time of day.
+struct Same {
+    size: usize,
+    timed: bool,
+}
+
 // The size of a leaf whose values are any bytes of that size, and 0 for every other node.
 fn fixed_at(plan: &[u32], node: usize) -> usize
     requires { ⌜ At (now plan) node ⌝ }
@@ -55,27 +61,56 @@ fn fixed_at(plan: &[u32], node: usize) -> usize
     0
 }
 
-// The element at `pos`, its length before it, where it is of this size; none is of size 0.
-fn fixed_leaf(part: &[u8], pos: usize, size: usize) -> Leaf
-    requires { ⌜ (pos ≤ length (now part)) × (size ≤ 16) ⌝ }
-    ensures { λ r. ⌜ r ≡ fixedLeaf (now (part .entry)) pos size ⌝ }
+// How the leaves of a set are told, if they are any bytes of a size or a time of day; of every other node size 0.
+fn same_at(plan: &[u32], node: usize) -> Same
+    requires { ⌜ At (now plan) node ⌝ }
+    ensures { λ r. ⌜ SameAt (now (plan .entry)) node (r .size) (r .timed) ⌝ }
 {
+    let kind = plan_nodes::node::kind_at(plan, node);
+    if kind != constants::KIND_LEAF {
+        return Same {
+            size: 0,
+            timed: false,
+        };
+    }
+    let format = plan_nodes::node::second_at(plan, node) as u32;
+    if format == constants::FORMAT_LOCAL_TIME {
+        return Same {
+            size: 8,
+            timed: true,
+        };
+    }
+    Same {
+        size: value_scalars::format::fixed_size(format),
+        timed: false,
+    }
+}
+
+// The element at `pos`, its length before it, where it is of this size and permitted; none is of size 0.
+fn fixed_leaf(part: &[u8], pos: usize, same: Same) -> Leaf
+    requires { ⌜ (pos ≤ length (now part)) × (same .size ≤ 16) × (same .timed ≡ true → same .size ≡ 8) ⌝ }
+    ensures { λ r. ⌜ r ≡ fixedLeaf (now (part .entry)) pos (same .size) (same .timed) ⌝ }
+{
+    let size = same.size;
     if size == 0 {
         return Leaf::Other;
     }
     if part.len() - pos < size + 4 {
         return Leaf::Other;
     }
-    if wire::be::u32_at(part, pos) == size as u32 {
-        return Leaf::Good {
-            start: pos + 4,
-            size,
-        };
+    if wire::be::u32_at(part, pos) != size as u32 {
+        return Leaf::Other;
     }
-    Leaf::Other
+    let start = pos + 4;
+    if same.timed {
+        if !value_scalars::in_day(part, start) {
+            return Leaf::Other;
+        }
+    }
+    Leaf::Good { start, size }
 }
 
-// Elements of a set or an array, which share one node and so one size.
+// Elements of a set or an array, which share one node and so one format.
 fn same_leaves(
     plan: &[u32],
     node: usize,
@@ -92,19 +127,19 @@ fn same_leaves(
     ensures { λ r. ⌜ Stretched (now (plan .entry)) node base (now (part .entry)) (first + count) count first from at (now (list .entry)) (r .left) (r .pos) (r .at) (now (list .exit)) ⌝ }
 {
     let child = plan_nodes::node::ref_of(plan, node, first);
-    let size = fixed_at(plan, child);
+    let same = same_at(plan, child);
     let mut left = count;
     let mut i = first;
     let mut pos = from;
     let mut to = at;
     while 0 < left {
-        let leaf = fixed_leaf(part, pos, size);
-        let Leaf::Good { start, size: n } = leaf else {
+        let leaf = fixed_leaf(part, pos, same);
+        let Leaf::Good { start, size } = leaf else {
             return Stretch { left, pos, at: to };
         };
-        entry::put_entry(list, to, child, i, base + start, n, 0);
+        entry::put_entry(list, to, child, i, base + start, size, 0);
         to += constants::ENTRY_WORDS;
-        pos = start + n;
+        pos = start + size;
         i += 1;
         left -= 1;
     }
@@ -224,7 +259,8 @@ pub fn walk_leaves(
     }
     if kind == constants::KIND_SET_OR_ARRAY {
         let child = plan_nodes::node::ref_of(plan, node, first);
-        if 0 < fixed_at(plan, child) {
+        let same = same_at(plan, child);
+        if 0 < same.size {
             return same_leaves(plan, node, count, first, base, from, part, list, at);
         }
     }

@@ -4,3 +4,4 @@ pub mod Parts
 pub mod Formats
 pub mod Decimals
 pub mod Leaves
+pub mod Times

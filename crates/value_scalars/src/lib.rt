@@ -3,8 +3,10 @@ pub mod format;
 pub mod number;
 
 ghost use mathlib.Core.Path.{_≡_};
+ghost use Prim.Native.Nat.{_+_, _≤_};
+ghost use lib.ListN.{length, take, drop};
 ghost use Rattle.value_scalars.specs.Sizes.{Fixed};
-ghost use Rattle.protocol.specs.Scalars.{boolean, duration, json, scalar, enumeration};
+ghost use Rattle.protocol.specs.Scalars.{boolean, duration, localTime, json, scalar, enumeration};
 
 // Whether the bytes are a bool: one byte, 0 or 1.
 fn bool_ok(v: &[u8]) -> bool
@@ -26,6 +28,28 @@ fn duration_ok(v: &[u8]) -> bool
     wire::be::uint_at(v, 8, 8) == 0
 }
 
+// Whether the eight bytes from `at` on are a time of day. A day has 256 times 337,500,000 microseconds, so the last byte may be anything; of a
+// negative number the first is not zero. If the number of all eight is compared, the compiler reads each by itself, and a set takes a third longer.
+pub fn in_day(s: &[u8], at: usize) -> bool
+    requires { ⌜ at + 8 ≤ length (now s) ⌝ }
+    ensures { λ r. ⌜ r ≡ localTime (take 8 (drop at (now (s .entry)))) ⌝ }
+{
+    if 255 < wire::be::u32_at(s, at) {
+        return false;
+    }
+    (wire::be::u32_at(s, at + 3) as u64) <= constants::MOST_LOCAL_TIME / 256
+}
+
+// Whether the bytes are a local_time: eight bytes, a time of day.
+fn local_time_ok(v: &[u8]) -> bool
+    ensures { λ r. ⌜ r ≡ localTime (now (v .entry)) ⌝ }
+{
+    if v.len() != 8 {
+        return false;
+    }
+    in_day(v, 0)
+}
+
 // Whether the bytes are json: its encoding, of which there is one, and then text.
 fn json_ok(v: &[u8]) -> bool
     ensures { λ r. ⌜ r ≡ json (now (v .entry)) ⌝ }
@@ -39,9 +63,10 @@ fn json_ok(v: &[u8]) -> bool
     wire::text::is_utf8(&v[1..])
 }
 
-// Whether the bytes are a value of a format that has no fixed size and is not bool; of a format that is not there none are.
+// Whether the bytes are a value of a format that has a rule beside its size, or none; of a format that is not there none are. Bool and local_time
+// are told before.
 fn ruled_ok(format: u32, v: &[u8]) -> bool
-    requires { ⌜ (Fixed format 0) × (format ≡ 9 → ⊥) ⌝ }
+    requires { ⌜ (Fixed format 0) × (format ≡ 9 → ⊥) × (format ≡ 13 → ⊥) ⌝ }
     ensures { λ r. ⌜ r ≡ scalar format (now (v .entry)) ⌝ }
 {
     match format {
@@ -65,6 +90,9 @@ pub fn scalar_ok(format: u32, v: &[u8]) -> bool
     }
     if format == constants::FORMAT_BOOL {
         return bool_ok(v);
+    }
+    if format == constants::FORMAT_LOCAL_TIME {
+        return local_time_ok(v);
     }
     ruled_ok(format, v)
 }

@@ -3,6 +3,7 @@
 use crate::expected::Expected;
 use crate::lending::Lending;
 use crate::report::Hex;
+use crate::times::counts::{Tried, Trying};
 use second::crossing::NumberAnswer;
 use std::fmt;
 
@@ -15,6 +16,8 @@ pub struct Case {
     pub number: Option<NumberAnswer>,
     /// The entry of the value's list that the path names, where that is known.
     pub entry: Option<usize>,
+    /// The local_time that it tries, where it is of those.
+    pub time: Option<Tried>,
 }
 
 /// `rembulfose_find` and `rembulfose_find_number`, which are lent the same.
@@ -22,6 +25,12 @@ pub struct FindCall {
     pub plan: Vec<u8>,
     pub value: Vec<u8>,
     pub path: Vec<u8>,
+}
+
+impl Trying for Case {
+    fn time(&mut self) -> &mut Option<Tried> {
+        &mut self.time
+    }
 }
 
 impl fmt::Display for Case {

@@ -81,6 +81,7 @@ impl Cases {
             expected,
             number,
             entry,
+            time: None,
         });
     }
 }

@@ -10,6 +10,7 @@ use crate::memory::{Lent, Memory};
 use crate::program::Judge;
 use crate::report::report;
 use crate::tally::{Counted, Tally};
+use crate::times::counts;
 use second::crossing::{self, Answer};
 use std::fmt::Debug;
 
@@ -34,6 +35,7 @@ impl Judge for Finding {
             "find_number",
             &[20, 21, 22, 23, 24, 25, 26, 27, 28, 33, 35, 36, 37],
         ),
+        counts::COUNTED,
     ];
 
     fn new(seed: u64) -> Finding {
@@ -58,6 +60,7 @@ impl Judge for Finding {
         }
         tallies[0].count(found.number);
         tallies[1].count(number.number);
+        counts::count(&case.time, &mut tallies[2]);
         Ok(found)
     }
 }

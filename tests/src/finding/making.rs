@@ -29,6 +29,7 @@ pub fn make(rng: &mut Rng) -> Case {
         expected: expected(known, path.names, &entries),
         number: None,
         entry,
+        time: None,
     }
 }
 

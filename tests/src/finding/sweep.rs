@@ -7,7 +7,6 @@ use super::fixed::Cases;
 use crate::crossed::words;
 use crate::entries::{entries, path_to};
 use crate::expected::Expected;
-use crate::program::Comparison;
 use crate::value::case::RunCall;
 use crate::value::sweep::{rich_list, rich_value, RICH};
 use crate::value::Values;
@@ -28,9 +27,9 @@ fn rich_paths() -> Vec<Vec<u32>> {
 
 /// A good value by each of its entries. One that is refused is refused alike by finding, whatever
 /// the path is, but for 31; of others nothing is known. Of the rooms that each was run with one will
-/// do.
+/// do. Those that try local times have cases of their own.
 fn values(cases: &mut Cases, paths: &[Vec<u32>]) {
-    for (number, case) in Values::fixed().into_iter().enumerate() {
+    for (number, case) in Values::besides_times().enumerate() {
         let RunCall { plan, value, room } = case.call;
         match case.expected {
             Expected::Written(words) if room == 4 * words.len() => {

@@ -37,11 +37,9 @@ pub fn date(days: i64) -> String {
     format!("{sign}{:04}-{month:02}-{:02}", year.abs(), left + 1)
 }
 
-/// The time of day, or that it is none.
+/// The time of day: an accepted local_time lies within it (R5.15).
 pub fn time(microseconds: i64) -> String {
-    if !(0..DAY).contains(&microseconds) {
-        return format!("{microseconds} microseconds (outside of a day)");
-    }
+    assert!((0..DAY).contains(&microseconds), "a time within a day");
     let seconds = microseconds / SECOND;
     let (hours, minutes) = (seconds / 3600, seconds / 60 % 60);
     let part = part_of_second(microseconds % SECOND);

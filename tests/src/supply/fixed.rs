@@ -34,8 +34,12 @@ impl Cases {
         }
     }
 
+    pub fn known(&mut self, supplied: Supplied, room: usize, expected: Expected) {
+        self.push(call(supplied, room), Edge::Back, expected);
+    }
+
     pub fn unknown(&mut self, supplied: Supplied) {
-        self.push(call(supplied, ROOM), Edge::Back, Expected::Unknown);
+        self.known(supplied, ROOM, Expected::Unknown);
     }
 }
 

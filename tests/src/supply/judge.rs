@@ -13,6 +13,7 @@ use crate::memory::{Lent, Memory};
 use crate::program::Judge;
 use crate::report::report;
 use crate::tally::{Counted, Tally};
+use crate::times::counts;
 use second::crossing::{self, Answer};
 
 /// The comparison of `rembulfose_write_value`.
@@ -24,7 +25,10 @@ pub struct Supplies {
 impl Judge for Supplies {
     type Case = Case;
     type Answer = Answer;
-    const COUNTED: &'static [Counted] = &[Counted::Answers("write_value", &[32, 33, 34])];
+    const COUNTED: &'static [Counted] = &[
+        Counted::Answers("write_value", &[32, 33, 34]),
+        counts::COUNTED,
+    ];
 
     fn new(seed: u64) -> Supplies {
         Supplies {
@@ -49,6 +53,7 @@ impl Judge for Supplies {
             self.read_back(case, answer)?;
         }
         tallies[0].count(answer.number);
+        counts::count(&case.time, &mut tallies[1]);
         Ok(answer)
     }
 }

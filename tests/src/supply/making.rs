@@ -51,6 +51,7 @@ pub fn make(rng: &mut Rng) -> Case {
         },
         lending: Lending::random(rng),
         expected,
+        time: None,
     }
 }
 

@@ -6,7 +6,6 @@ use super::having::Kinds;
 use crate::crossed::words;
 use crate::entries::entries;
 use crate::expected::Expected;
-use crate::program::Comparison;
 use crate::value::case::RunCall;
 use crate::value::sweep::{rich_list, rich_value, RICH};
 use crate::value::Values;
@@ -19,9 +18,9 @@ pub fn add(cases: &mut Cases) {
 }
 
 /// A good value comes back from its own list. Of others each is tried as a leaf or an empty
-/// container of the plan's root.
+/// container of the plan's root. Those that try local times have cases of their own.
 fn values(cases: &mut Cases) {
-    for case in Values::fixed() {
+    for case in Values::besides_times() {
         let RunCall { plan, value, room } = case.call;
         let plan = words(&plan);
         match case.expected {

@@ -6,6 +6,7 @@ use crate::ffi;
 use crate::memory::{Lent, Memory};
 use crate::program::Judge;
 use crate::tally::{Counted, Tally};
+use crate::times::counts;
 use second::crossing::{self, Answer};
 
 /// The comparison of `rembulfose_run`.
@@ -14,10 +15,10 @@ pub struct Values(Memory<2>);
 impl Judge for Values {
     type Case = Case;
     type Answer = Answer;
-    const COUNTED: &'static [Counted] = &[Counted::Answers(
-        "run",
-        &[20, 21, 22, 23, 24, 25, 26, 27, 28, 31, 33],
-    )];
+    const COUNTED: &'static [Counted] = &[
+        Counted::Answers("run", &[20, 21, 22, 23, 24, 25, 26, 27, 28, 31, 33]),
+        counts::COUNTED,
+    ];
 
     fn new(seed: u64) -> Values {
         Values(Memory::new(seed))
@@ -35,6 +36,7 @@ impl Judge for Values {
         let answer = self.0.compare(call, lent, library, second)?;
         case.expected.hold(call, answer, self.0.left())?;
         tallies[0].count(answer.number);
+        counts::count(&case.time, &mut tallies[1]);
         Ok(answer)
     }
 }

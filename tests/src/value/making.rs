@@ -29,6 +29,7 @@ pub fn make(rng: &mut Rng) -> Case {
         },
         lending: Lending::random(rng),
         expected: expected(known, laid.words, room),
+        time: None,
     }
 }
 

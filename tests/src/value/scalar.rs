@@ -2,16 +2,21 @@
 
 use crate::rng::Rng;
 use crate::text;
+use crate::times::numbers;
 
 pub const STR: u32 = 1;
 pub const BYTES: u32 = 2;
 pub const INT64: u32 = 5;
 pub const DECIMAL: u32 = 8;
 pub const BOOL: u32 = 9;
+pub const LOCAL_TIME: u32 = 13;
 pub const DURATION: u32 = 14;
 pub const JSON: u32 = 15;
 pub const BIGINT: u32 = 16;
 pub const FORMATS: u32 = 20;
+
+/// int64, float64, datetime, local_datetime and memory: eight bytes, of which any pass (R5.15).
+pub const FREE: [u32; 5] = [INT64, 7, 10, 11, 19];
 
 /// The size of each format that has but one, in the order of their numbers.
 const SIZES: [Option<usize>; FORMATS as usize] = [
@@ -63,6 +68,7 @@ pub fn good(rng: &mut Rng, format: u32, most: usize) -> Vec<u8> {
         BOOL => vec![rng.below(2) as u8],
         DECIMAL => decimal(rng, most),
         BIGINT => bigint(rng, most),
+        LOCAL_TIME => numbers::within(rng).to_be_bytes().to_vec(),
         DURATION => {
             let mut content = rng.bytes(8);
             content.extend([0; 8]);
@@ -145,6 +151,7 @@ pub fn spoil(rng: &mut Rng, format: u32, content: &mut Vec<u8>) {
         DECIMAL => spoil_numeric(rng, content),
         BIGINT => spoil_bigint(rng, content),
         BOOL if rng.once_in(2) => content[0] = rng.between(2, 255) as u8,
+        LOCAL_TIME if rng.below(4) > 0 => *content = numbers::outside(rng).to_be_bytes().to_vec(),
         DURATION if rng.once_in(2) => content[rng.between(8, 15)] ^= 1 << rng.below(8),
         _ => resize(rng, content),
     }

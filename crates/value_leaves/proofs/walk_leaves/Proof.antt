@@ -16,8 +16,8 @@ ref-of-requires : tie.Need-ref-of-requires
 ref-of-requires c κs =
     (c .before .before .before .before .before .before .pre .0 .node, row-refers _ _ (sym (c .before .before .kind-at .ensures .is) ∙ c .if2 .taken) _)
 
-fixed-at-requires : tie.Need-fixed-at-requires
-fixed-at-requires c κs =
+same-at-requires : tie.Need-same-at-requires
+same-at-requires c κs =
     at-ref _ _ _ _ (c .before .before .before .before .before .before .before .pre .0 .node) (c .ref-of .ensures) .0
 
 pub walk-leaves-spec : {M : Type 1} → statement M
@@ -27,7 +27,7 @@ walk-leaves-spec =
     kind-at-requires
     returns
     ref-of-requires
-    fixed-at-requires
+    same-at-requires
     (λ c κs. search needs)
     (λ c. search needs)
     (λ c. search needs)

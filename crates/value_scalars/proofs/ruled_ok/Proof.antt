@@ -35,7 +35,7 @@ returns-6 c = scalar-at 16 _ _ _ (c .before .match .keys6) (c .bigint-ok .ensure
 returns-7 : tie.Need-returns-7
 unfolding fixedSize formatRule formats sizeOf pick
 returns-7 c =
-    scalar-none ((9 ∷ []) ∷ (16 ∷ []) ∷ (15 ∷ []) ∷ (14 ∷ []) ∷ (8 ∷ []) ∷ (2 ∷ []) ∷ (1 ∷ []) ∷ []) refl _ _ (c .before .before .pre .0) (c .match .rest, c .before .before .pre .1)
+    scalar-none ((13 ∷ []) ∷ (9 ∷ []) ∷ (16 ∷ []) ∷ (15 ∷ []) ∷ (14 ∷ []) ∷ (8 ∷ []) ∷ (2 ∷ []) ∷ (1 ∷ []) ∷ []) refl _ _ (c .before .before .pre .0) ((c .match .rest, c .before .before .pre .1), c .before .before .pre .2)
 
 pub ruled-ok-spec : {M : Type 1} → statement M
 ruled-ok-spec =

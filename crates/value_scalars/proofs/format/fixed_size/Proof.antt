@@ -17,7 +17,7 @@ returns-2 c = size-is 4 (4 ∷ 6 ∷ 12 ∷ []) refl _ (c .match .keys2)
 
 returns-3 : tie.Need-returns-3
 unfolding fixedSize formatRule formats sizeOf pick
-returns-3 c = size-is 8 (5 ∷ 7 ∷ 10 ∷ 13 ∷ 19 ∷ []) refl _ (c .match .keys3)
+returns-3 c = size-is 8 (5 ∷ 7 ∷ 10 ∷ 19 ∷ []) refl _ (c .match .keys3)
 
 returns-4 : tie.Need-returns-4
 unfolding fixedSize formatRule formats sizeOf pick
@@ -34,7 +34,7 @@ returns-6 c = size-is 16 (18 ∷ []) refl _ (c .match .keys6)
 returns-7 : tie.Need-returns-7
 unfolding fixedSize formatRule formats sizeOf pick
 returns-7 c =
-    size-none ((18 ∷ []) ∷ (0 ∷ 17 ∷ []) ∷ (11 ∷ []) ∷ (5 ∷ 7 ∷ 10 ∷ 13 ∷ 19 ∷ []) ∷ (4 ∷ 6 ∷ 12 ∷ []) ∷ (3 ∷ []) ∷ []) refl _ (c .match .rest)
+    size-none ((18 ∷ []) ∷ (0 ∷ 17 ∷ []) ∷ (11 ∷ []) ∷ (5 ∷ 7 ∷ 10 ∷ 19 ∷ []) ∷ (4 ∷ 6 ∷ 12 ∷ []) ∷ (3 ∷ []) ∷ []) refl _ (c .match .rest)
 
 pub fixed-size-spec : {M : Type 1} → statement M
 fixed-size-spec =
