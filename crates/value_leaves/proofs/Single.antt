@@ -132,17 +132,21 @@ pub record Standing (s : List ℕ) (at size : ℕ) : Type 0 where
   pub fits : size + 4 ≤ length s - at
   pub is : word s at ≡ size
 
--- its bytes are a time of day or not, or any of that size
-module _ (s : List ℕ) (at size : ℕ) (time : Bool) where
-  pub timed-good : time ≡ true → size ≡ 8 → (b : Bool) → b ≡ localTime (take 8 (drop (at + 4) s)) → sameGood time size (take size (drop (at + 4) s)) ≡ b
-  unfolding sameGood pick
-  timed-good t e b eb = rw (t, e) (sym eb)
+-- an element that stands there is told by its bytes alone: they are a time of day or not, or any of that size
+module _ (s : List ℕ) (at size : ℕ) (time : Bool) (n : ℕ) (some : size ≡ 0 → ⊥) (fits : size + 4 ≤ length s - at) (en : n ≡ word s at) (is : n ≡ size) where
+  told : (b : Bool) → sameGood time size (take size (drop (at + 4) s)) ≡ b → pick b (Good (at + 4) size) Other ≡ fixedLeaf s at size time
+  unfolding fixedLeaf pick
+  told b g = rw (ne-eqb size 0 some, le-ltb (length s - at) (size + 4) fits, eq-eqb (word s at) size (sym en ∙ is), g)
 
-  pub any-good : time ≡ false → at ≤ length s → size + 4 ≤ length s - at → sameGood time size (take size (drop (at + 4) s)) ≡ true
+  pub told-time : time ≡ true → size ≡ 8 → (b c : Bool) → b ≡ localTime (take 8 (drop (at + 4) s)) → b ≡ c → pick c (Good (at + 4) size) Other ≡ fixedLeaf s at size time
+  unfolding sameGood pick
+  told-time t e b c eb ec = told c (rw (t, e) (sym eb ∙ ec))
+
+  pub told-any : time ≡ false → at ≤ length s → Good (at + 4) size ≡ fixedLeaf s at size time
   unfolding sameGood of-size pick
-  any-good t h fits =
+  told-any t h =
       let e : length (take size (drop (at + 4) s)) ≡ size = simp (length-take, length-drop) (omega arith) in
-      rw t (eq-eqb (length (take size (drop (at + 4) s))) size e)
+      told true (rw t (eq-eqb (length (take size (drop (at + 4) s))) size e))
 
 pub standing : (s : List ℕ) (at size : ℕ) (time : Bool) (r : Leaf) → r ≡ fixedLeaf s at size time → (start n : ℕ) → r ≡ Good start n
     → Standing s at size × (sameGood time size (take size (drop (at + 4) s)) ≡ true) × (start ≡ at + 4) × (n ≡ size)

@@ -1,9 +1,9 @@
 -- `value_leaves::fixed_leaf` meets its contract: its tests are those of `fixedLeaf`, in its order.
-use mathlib.Core.Path.{_∙_}
+use mathlib.Core.Bool.{true, false}
 use native.Mathlib.Omega.{arith}
 use borrow.Author.Tests.{eq-eqb, ne-eqb, lt-ltb, le-ltb, not-true, not-false}
 use Rattle.value_leaves.specs.Leaves.{fixedLeaf}
-use Rattle.value_leaves.proofs.Single.{timed-good, any-good}
+use Rattle.value_leaves.proofs.Single.{told-time, told-any}
 use borrow.Author.Needs.{needs}
 use Rattle.value_leaves.proofs.fixed_leaf.Statement.{statement}
 use Rattle.value_leaves.proofs.fixed_leaf.Tie as tie
@@ -33,43 +33,27 @@ in-day-requires c κs =
     )
 
 returns-4 : tie.Need-returns-4
-unfolding fixedLeaf pick word
+unfolding pick word
 returns-4 c =
-    let a = c .before .before .before .before .before .before .before .before .args in
-    rw (
-      ne-eqb _ _ (c .before .before .before .before .before .before .if1 .left),
-      le-ltb _ _ (c .before .before .before .before .before .if2 .left),
-      ← c .before .before .before .before .u32-at .ensures,
-      eq-eqb _ _ (c .before .before .before .if3 .left),
-      timed-good (a .part .now) (a .pos) _ _ (c .before .before .if4 .taken)
-          (c .before .before .before .before .before .before .before .before .pre .2 (c .before .before .if4 .taken)) _ (c .before .in-day .ensures)
-          ∙ not-true _ (c .if5 .taken),
-    )
+    let o = c .before .before .before in
+    told-time _ _ _ _ _ (o .before .before .before .if1 .left) (o .before .before .if2 .left) (o .before .u32-at .ensures) (o .if3 .left)
+    (c .before .before .if4 .taken) (o .before .before .before .before .before .pre .2 (c .before .before .if4 .taken)) _ false
+    (c .before .in-day .ensures) (not-true _ (c .if5 .taken))
 
 returns-5 : tie.Need-returns-5
-unfolding fixedLeaf pick word
+unfolding pick word
 returns-5 c =
-    let a = c .before .before .before .before .before .before .before .before .args in
-    rw (
-      ne-eqb _ _ (c .before .before .before .before .before .before .if1 .left),
-      le-ltb _ _ (c .before .before .before .before .before .if2 .left),
-      ← c .before .before .before .before .u32-at .ensures,
-      eq-eqb _ _ (c .before .before .before .if3 .left),
-      timed-good (a .part .now) (a .pos) _ _ (c .before .before .if4 .taken)
-          (c .before .before .before .before .before .before .before .before .pre .2 (c .before .before .if4 .taken)) _ (c .before .in-day .ensures)
-          ∙ not-false _ (c .if5 .left),
-    )
+    let o = c .before .before .before in
+    told-time _ _ _ _ _ (o .before .before .before .if1 .left) (o .before .before .if2 .left) (o .before .u32-at .ensures) (o .if3 .left)
+    (c .before .before .if4 .taken) (o .before .before .before .before .before .pre .2 (c .before .before .if4 .taken)) _ true
+    (c .before .in-day .ensures) (not-false _ (c .if5 .left))
 
 returns-6 : tie.Need-returns-6
-unfolding fixedLeaf pick word
+unfolding word
 returns-6 c =
-    rw (
-      ne-eqb _ _ (c .before .before .before .before .if1 .left),
-      le-ltb _ _ (c .before .before .before .if2 .left),
-      ← c .before .before .u32-at .ensures,
-      eq-eqb _ _ (c .before .if3 .left),
-      any-good _ _ _ _ (c .if4 .left) (c .before .before .before .before .before .before .pre .0) (c .before .before .before .if2 .left),
-    )
+    let o = c .before in
+    told-any _ _ _ _ _ (o .before .before .before .if1 .left) (o .before .before .if2 .left) (o .before .u32-at .ensures) (o .if3 .left)
+    (c .if4 .left) (o .before .before .before .before .before .pre .0)
 
 pub fixed-leaf-spec : {M : Type 1} → statement M
 fixed-leaf-spec =
