@@ -5,8 +5,8 @@
 //!   `byte_damage` those that were put together.
 //! * `making` makes a case from them at random.
 //! * [`bytes`] has blocks by hand. `exact`, `contents`, `references`, `identities`, `order`,
-//!   `heights` and `limits` have cases by construction whose answers are known, and `sweep` every
-//!   value of what has few; `fixed` puts them together.
+//!   `heights` and `limits` have cases by construction whose answers are known, `times` those of
+//!   local times, and `sweep` every value of what has few; `fixed` puts them together.
 //! * `judge` makes the calls and compares.
 
 mod between;
@@ -29,6 +29,7 @@ mod naming;
 mod order;
 mod references;
 mod sweep;
+mod times;
 
 use crate::ffi;
 use crate::program::Comparison;
@@ -81,6 +82,7 @@ impl<T: Tested> Comparison for Descriptors<T> {
             order::add,
             heights::add,
             limits::add,
+            times::add,
             sweep::add,
         ])
     }

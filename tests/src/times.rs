@@ -1,5 +1,6 @@
 //! Local times for the comparison (R5.15, L2): within a day and outside of it, wherever one can
-//! stand. They are listed by `value`, found by `finding` and written by `supply`.
+//! stand. They are listed by `value`, found by `finding`, written by `supply`, and listed by what
+//! `descriptor` compiles.
 //!
 //! * [`numbers`] has the microseconds that are tried.
 //! * `by_hand` has values with local times in them and their lists, worked out by hand, and `drafted`

@@ -3,6 +3,7 @@
 use crate::expected::Expected;
 use crate::lending::Lending;
 use crate::report::Hex;
+use crate::times::counts::{Tried, Trying};
 use std::fmt;
 
 pub struct Case {
@@ -11,6 +12,14 @@ pub struct Case {
     pub expected: Expected,
     /// What is run by the plan if the descriptor is compiled.
     pub running: Option<Running>,
+    /// The local_time that is tried in the value, where the case is of those.
+    pub time: Option<Tried>,
+}
+
+impl Trying for Case {
+    fn time(&mut self) -> &mut Option<Tried> {
+        &mut self.time
+    }
 }
 
 /// `rembulfose_compile`.

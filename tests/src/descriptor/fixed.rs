@@ -68,6 +68,23 @@ impl Cases {
         self.at_edges(call, Expected::Unknown, Some(running));
     }
 
+    /// A descriptor and its plan, for which there is just enough room, and a value that is run by it:
+    /// with its bytes of room for the list, and what is known of it.
+    pub fn planned(
+        &mut self,
+        (descriptor, root, plan): (&[u8], &[u8], &[u32]),
+        (value, room, expected): (&[u8], usize, Expected),
+    ) {
+        let call = call(descriptor, root, 4 * plan.len());
+        let running = running(value, room, expected);
+        self.push(
+            call,
+            Edge::Back,
+            Expected::Written(plan.to_vec()),
+            Some(running),
+        );
+    }
+
     pub fn known(&mut self, descriptor: &[u8], root: &[u8], room: usize, expected: Expected) {
         self.push(call(descriptor, root, room), Edge::Back, expected, None);
     }
@@ -92,6 +109,7 @@ impl Cases {
             lending,
             expected,
             running,
+            time: None,
         });
     }
 }

@@ -12,6 +12,7 @@ use crate::lending::Lending;
 use crate::memory::{Lent, Memory};
 use crate::program::Judge;
 use crate::tally::{Counted, Tally};
+use crate::times::counts;
 use second::crossing::{self, Answer};
 use std::marker::PhantomData;
 
@@ -41,6 +42,7 @@ impl<T: Tested> Judge for Descriptors<T> {
     const COUNTED: &'static [Counted] = &[
         Counted::Answers("compile", &[10, 11, 12, 13, 14, 15, 16, 17, 18, 30]),
         Counted::Answers("run", &[20, 21, 22, 23, 24, 25, 26, 27, 28, 31]),
+        counts::COUNTED,
     ];
 
     fn new(seed: u64) -> Descriptors<T> {
@@ -61,6 +63,7 @@ impl<T: Tested> Judge for Descriptors<T> {
                 let plan = self.memory.left()[..4 * compiled.first as usize].to_vec();
                 let answer = self.run(case, &plan, running)?;
                 tallies[1].count(answer.number);
+                counts::count(&case.time, &mut tallies[2]);
                 Ok(answer)
             }
             _ => Ok(compiled),

@@ -52,6 +52,7 @@ pub fn make(rng: &mut Rng) -> Case {
         running: Some(running(rng, pair, made.known)),
         lending: Lending::random(rng),
         expected,
+        time: None,
     }
 }
 

@@ -1,8 +1,11 @@
-//! Values with local times in each kind of container, and their lists, worked out by hand. The node
-//! of the local times is the one at 2.
+//! Values with local times in each kind of container, their plans and their lists, worked out by
+//! hand. The node of the local times is the one at 2.
 
+use super::drafted::over_time;
 use super::timed::Template;
 use crate::crossed::hex;
+use crate::value::plan::Shape;
+use crate::value::scalar::INT64;
 
 /// The last microsecond of a day, and the tenth after midnight.
 const LAST: &str = "000000141dd75fff";
@@ -22,8 +25,12 @@ pub fn templates() -> Vec<Template> {
     templates
 }
 
-fn template(plan: &[u32], value: &str, list: &[[u32; 5]]) -> Template {
+/// Of these nodes over a local_time, whose plan has these words.
+fn template(shapes: &[Shape], plan: &[u32], value: &str, list: &[[u32; 5]]) -> Template {
+    let draft = over_time(shapes);
+    assert_eq!(draft.words(), plan, "the words of the same plan");
     Template {
+        draft,
         plan: plan.to_vec(),
         value: hex(value),
         words: list.as_flattened().to_vec(),
@@ -31,7 +38,7 @@ fn template(plan: &[u32], value: &str, list: &[[u32; 5]]) -> Template {
 }
 
 fn alone() -> Template {
-    template(&[4, 2, 1, 13], TEN_PAST, &[[2, 0, 0, 8, 0]])
+    template(&[], &[4, 2, 1, 13], TEN_PAST, &[[2, 0, 0, 8, 0]])
 }
 
 fn set() -> Template {
@@ -42,7 +49,7 @@ fn set() -> Template {
         [2, 1, 36, 8, 0],
         [2, 2, 48, 8, 0],
     ];
-    template(&[6, 4, 1, 13, 2, 2], &value, &list)
+    template(&[Shape::Set(0)], &[6, 4, 1, 13, 2, 2], &value, &list)
 }
 
 /// A set of an array of three and an array of two: array at 4, set at 6.
@@ -63,7 +70,8 @@ fn arrays() -> Template {
         [2, 0, 132, 8, 0],
         [2, 1, 144, 8, 0],
     ];
-    template(&[8, 6, 1, 13, 2, 2, 3, 4], &value, &list)
+    let shapes = [Shape::Set(0), Shape::SetOfArrays(1)];
+    template(&shapes, &[8, 6, 1, 13, 2, 2, 3, 4], &value, &list)
 }
 
 /// A tuple, an output object and a sparse object of three: all have the same bytes, as reserved
@@ -83,29 +91,32 @@ fn objects() -> Vec<Template> {
             [2, third, 44, 8, 0],
         ]
     };
-    let plans: [&[u32]; 3] = [
-        &[9, 4, 1, 13, 4, 3, 2, 2, 2],
-        &[12, 4, 1, 13, 5, 3, 2, 0x41, 2, 0x6f, 2, 0x6d],
-        &[12, 4, 1, 13, 6, 3, 2, 0x41, 2, 0x6f, 2, 0x4d],
-    ];
-    let (sent, turned) = ([0, 1, 2], [2, 0, 1]);
-    let mut templates = plans
-        .map(|plan| template(plan, &value(sent), &list(sent)))
-        .to_vec();
-    templates.push(template(plans[2], &value(turned), &list(turned)));
-    templates
+    let made =
+        |shape: Shape, plan: &[u32], order| template(&[shape], plan, &value(order), &list(order));
+    let tuple = Shape::Tuple(vec![0; 3]);
+    let output = Shape::Output(vec![(0, 0x41), (0, 0x6f), (0, 0x6d)]);
+    let input = Shape::Input(vec![(0, 0x41), (0, 0x6f), (0, 0x4d)]);
+    let of_output = [12, 4, 1, 13, 5, 3, 2, 0x41, 2, 0x6f, 2, 0x6d];
+    let of_input = [12, 4, 1, 13, 6, 3, 2, 0x41, 2, 0x6f, 2, 0x4d];
+    vec![
+        made(tuple, &[9, 4, 1, 13, 4, 3, 2, 2, 2], [0, 1, 2]),
+        made(output, &of_output, [0, 1, 2]),
+        made(input.clone(), &of_input, [0, 1, 2]),
+        made(input, &of_input, [2, 0, 1]),
+    ]
 }
 
 /// A lower bound, an upper bound, and both.
 fn ranges() -> Vec<Template> {
-    let plan = [6, 4, 1, 13, 7, 2];
+    let (shapes, plan) = ([Shape::Range(0)], [6, 4, 1, 13, 7, 2]);
     let lower = format!("12 00000008 {TEN_PAST}");
     let upper = format!("0c 00000008 {LAST}");
     let both = format!("02 00000008 {TENTH} 00000008 {TEN_PAST}");
     vec![
-        template(&plan, &lower, &[[4, 0, 0, 13, 1], [2, 0, 5, 8, 0]]),
-        template(&plan, &upper, &[[4, 0, 0, 13, 1], [2, 1, 5, 8, 0]]),
+        template(&shapes, &plan, &lower, &[[4, 0, 0, 13, 1], [2, 0, 5, 8, 0]]),
+        template(&shapes, &plan, &upper, &[[4, 0, 0, 13, 1], [2, 1, 5, 8, 0]]),
         template(
+            &shapes,
             &plan,
             &both,
             &[[4, 0, 0, 25, 2], [2, 0, 5, 8, 0], [2, 1, 17, 8, 0]],
@@ -116,6 +127,13 @@ fn ranges() -> Vec<Template> {
 /// A sparse object with a set of tuples of an int64, a local_time and a range: int64 at 4, range at
 /// 6, tuple at 8, set at 13, object at 15. The int64 are the numbers that a local_time may not have.
 fn nested() -> Template {
+    let shapes = [
+        Shape::Leaf(INT64),
+        Shape::Range(0),
+        Shape::Tuple(vec![1, 0, 2]),
+        Shape::Set(3),
+        Shape::Input(vec![(4, 0x41)]),
+    ];
     let plan = [
         19, 15, 1, 13, 1, 5, 7, 2, 4, 3, 4, 2, 6, 2, 8, 6, 1, 13, 0x41,
     ];
@@ -146,5 +164,5 @@ fn nested() -> Template {
         [2, 0, 158, 8, 0],
         [2, 1, 170, 8, 0],
     ];
-    template(&plan, &value, &list)
+    template(&shapes, &plan, &value, &list)
 }

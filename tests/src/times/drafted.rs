@@ -33,6 +33,7 @@ fn template(plan: &PlanDraft, count: usize) -> Template {
     };
     let laid = drafting::make(&mut Rng::new(count as u64), plan, size).lay();
     Template {
+        draft: plan.clone(),
         plan: plan.words(),
         value: laid.bytes,
         words: laid.words,
@@ -40,7 +41,7 @@ fn template(plan: &PlanDraft, count: usize) -> Template {
 }
 
 /// A plan of a local_time, which is number 0, and these, of which the last is the root.
-fn over_time(shapes: &[Shape]) -> PlanDraft {
+pub fn over_time(shapes: &[Shape]) -> PlanDraft {
     let mut plan = PlanDraft::default();
     plan.add(Shape::Leaf(LOCAL_TIME));
     for shape in shapes {

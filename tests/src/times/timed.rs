@@ -4,12 +4,15 @@ use super::numbers::{self, is_edge, is_within_day};
 use super::{by_hand, drafted};
 use crate::entries::{entries, path_to};
 use crate::rng::Rng;
+use crate::value::plan::PlanDraft;
 use crate::value::scalar::LOCAL_TIME;
 use second::entry::Entry;
 
 /// A value that is accepted, by its plan, and its list.
 #[derive(Clone)]
 pub struct Template {
+    /// The plan as it is made, from which descriptors are made too.
+    pub draft: PlanDraft,
     pub plan: Vec<u32>,
     pub value: Vec<u8>,
     pub words: Vec<u32>,
