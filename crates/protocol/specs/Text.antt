@@ -1,5 +1,5 @@
 -- Well-formed text (R2.6): UTF-8 by Table 3-7 of the Unicode Standard.
-use Rattle.std.specs.Prelude.{ℕ, suc, Bool, true, false, List, [], ◌∷◌, leb, drop}
+use Rattle.std.specs.Prelude.{ℕ, Bool, true, false, List, [], ◌∷◌, leb}
 use Rattle.protocol.specs.Numbers.{pick}
 
 -- a range of bytes, both ends in it
@@ -51,11 +51,3 @@ goes_on (r ∷ rs) (b ∷ s) = pick (within r b) (goes_on rs s) false
 
 unfoldable pub well_formed : List ℕ → Bool
 well_formed s = goes_on [] s
-
--- The step over plain bytes (L5): from the place i, with the bytes from there on, it ends at the first byte of 80 hex or above, or at the end.
-unfoldable pub plain_from : ℕ → List ℕ → ℕ
-plain_from i [] = i
-plain_from i (b ∷ s) = pick (leb 0x80 b) i (plain_from (suc i) s)
-
-unfoldable pub plain_end : List ℕ → ℕ → ℕ
-plain_end s i = plain_from i (drop i s)

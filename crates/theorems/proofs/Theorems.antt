@@ -2,12 +2,6 @@
 use mathlib.Core.Path.{refl, sym, ◌∙◌}
 use Prim.Native.Nat.{◌-◌, ◌^◌}
 use native.Mathlib.Omega.{arith}
-use Rattle.wire.proofs.PlainRuns.{step_onward, step_inside, step_plain, step_stops}
-use Rattle.wire.proofs.Sequences.{step_keeps}
-use Rattle.wire.proofs.plain.plain_end.Met.{met as plain-end-met}
-use Rattle.wire.proofs.text.is_utf8.Met.{met as is-utf8-met}
-use Rattle.wire_stepless.proofs.textbench_is_utf8_stepless.Met.{met as stepless-met}
-use Rattle.wire_stepless.proofs.alike.Met.{met as alike-met}
 use Rattle.message_laws.proofs.Host.{read_then_written, written_then_read, written_then_full}
 use Rattle.run_plan.proofs.Numbers.{exact_33, exact_28, exact_31}
 use Rattle.find_path.proofs.Entries.{find_lines, found_entry}
@@ -33,7 +27,7 @@ use Rattle.c_panel.proofs.rembulfose_run.Met.{met as run-met}
 use Rattle.c_panel.proofs.rembulfose_find.Met.{met as find-met}
 use Rattle.c_panel.proofs.rembulfose_find_number.Met.{met as find-number-met}
 use Rattle.c_panel.proofs.rembulfose_write_value.Met.{met as write-value-met}
-use Rattle.theorems.specs.Theorems.{RoomsKept, MessageAccepted, ReadThenWritten, WrittenThenRead, PlainStep, TextChecks, DescriptorAccepted}
+use Rattle.theorems.specs.Theorems.{RoomsKept, MessageAccepted, ReadThenWritten, WrittenThenRead, DescriptorAccepted}
 use Rattle.theorems.specs.Theorems.{DescriptorNumbers, PlanGiven, NeverUnformed, DemandThree, DemandThreeBytes, RulesNumbers}
 use Rattle.theorems.specs.Theorems.{ValueAccepted, TimesOfDay, RunExact, FewEntries, FoundOnList, FoundIsEntry, FoundPermitted, OneEntry, OneNumber, FloatKept}
 use Rattle.theorems.specs.Theorems.{SignKept, SupplySound, SupplyComplete, SupplyUnique, SupplyExact, SupplyExactFromC, RoundTrip}
@@ -65,20 +59,6 @@ written_then_read_holds side t list src r out out' c z s f q l l' d = (
   written_then_read side t list src r out out' c z s f q l l' d,
   written_then_full side t list src r out out' c z s f q l l' d,
 )
-
--- ---- R2.6: text
-
-pub plain_step_holds : PlainStep
-plain_step_holds s i h = (step_onward s i, step_inside s i h, step_plain s i, step_stops s i h, step_keeps s i)
-
-pub text_checks_hold : TextChecks
-text_checks_hold =
-    record {
-      step_does = λ M. plain-end-met {M = M};
-      check_does = λ M. is-utf8-met {M = M};
-      stepless_does = λ M. stepless-met {M = M};
-      alike_does = λ M. alike-met {M = M};
-    }
 
 -- ---- R3: descriptors
 

@@ -6,10 +6,6 @@ use Rattle.std.specs.Float.{Format}
 use Rattle.std.specs.Float.Ieee.{ones, hid, top, of_bits, to_bits}
 use Rattle.find_number.specs.Number.{Gives}
 use Rattle.find_number.specs.declared.Number.{Number}
-use Rattle.wire.proofs.plain.plain_end as plain_end
-use Rattle.wire.proofs.text.is_utf8 as is-utf8
-use Rattle.wire_stepless.proofs.textbench_is_utf8_stepless as stepless
-use Rattle.wire_stepless.proofs.alike as alike
 use Rattle.run_compiled.specs.Follows.{Follows}
 use Rattle.run_compiled.proofs.compile_and_run as compile-and-run
 use Rattle.forms.specs.declared.Answer.{Answer}
@@ -28,7 +24,6 @@ use Rattle.c_panel.proofs.rembulfose_write_value as write-value
 use Rattle.protocol.specs.Constants.{MESSAGE_HEAD, MOST_VALUE, VALUE_SIZE, PLAN_ROOM, LIST_ROOM, OUTPUT_ROOM, BAD_PLAN, NO_VALUE}
 use Rattle.protocol.specs.Constants.{FORMAT_LOCAL_TIME, KIND_LEAF}
 use Rattle.protocol.specs.Numbers.{be, bytes_be}
-use Rattle.protocol.specs.Text.{well_formed, plain_end}
 use Rattle.protocol.specs.Scalars.{scalar}
 use Rattle.protocol.specs.Answers.{refused, accepted, refused_put, put_out, output_roomed}
 use Rattle.protocol.specs.Messages.{read, message_call, contents}
@@ -86,27 +81,6 @@ WrittenThenRead =
     → (length list / 4 ≤ word_room (length l)
     → (q ≡ success r.first (length list / 4)) × (get_or s 0 0 ≡ t) × (contents s (words_in (take (4 * q.second) l')) ≡ contents src (words_in list)))
     × (word_room (length l) < length list / 4 → (q ≡ refusal LIST_ROOM 0) × (l' ≡ l))
-
--- ---- R2.6: text
-
--- From any place of a run, its end among them, the step over plain bytes ends exactly at the first byte of 80 hex or above, or at the run's end;
--- what is left there is well-formed exactly where what was left before is (R2.6, L5).
-abbrev pub PlainStep : Type 0
-PlainStep =
-    (s : List ℕ) (i : ℕ) → i ≤ length s
-    → (i ≤ plain_end s i)
-    × (plain_end s i ≤ length s)
-    × ((k : ℕ) → i ≤ k → k < plain_end s i → get_or s k 0 < 0x80)
-    × ((plain_end s i ≡ length s) ⊎ (0x80 ≤ get_or s (plain_end s i) 0))
-    × (well_formed (drop i s) ≡ well_formed (drop (plain_end s i) s))
-
--- The code's step is that one; the text check that all calls use, and the same check without the step, answer whether the bytes are well-formed;
--- and a routine that calls both and compares them finds them alike, on any bytes: what is accepted is the same (R2.6, L5).
-pub record TextChecks : Type 2 where
-  pub step_does : Does plain_end.ended plain_end.Symbol.routine (λ κs (s, (from, _)) r _. r ≡ plain_end s.now from)
-  pub check_does : Does is-utf8.ended is-utf8.Symbol.routine (λ κs (s, _) r _. r ≡ well_formed s.now)
-  pub stepless_does : Does stepless.ended stepless.Symbol.routine (λ κs (s, _) r _. r ≡ well_formed s.now)
-  pub alike_does : Does alike.ended alike.Symbol.routine (λ κs _ r _. r ≡ true)
 
 -- ---- R3: descriptors
 

@@ -3,5 +3,4 @@ pub mod Picks
 pub mod Tables
 pub mod Numbers
 pub mod Stores
-pub mod PlainRuns
 pub mod Sequences

@@ -1,23 +1,21 @@
--- The laws of well-formed UTF-8: bytes in ranges, letters of one row of the table, and plain bytes.
-use mathlib.Core.Path.{◌≡◌, refl, ap, sym, ◌∙◌}
-use mathlib.Core.Logic.{◌⊎◌, inl, inr, ⊎_elim}
+-- The laws of well-formed UTF-8: a first byte by the table, a sequence a byte at a time, and runs of plain bytes.
+use mathlib.Core.Path.{◌≡◌, refl, ap, ap₂, sym, ◌∙◌}
 use mathlib.Core.Bool.{Bool, true, false}
 use mathlib.Core.List.{List, [], ◌∷◌}
-use Prim.Native.Nat.{ℕ, zero, suc, ◌+◌, ◌-◌, ◌<◌, ◌≤◌, zero-le}
+use Prim.Native.Nat.{ℕ, zero, suc, ◌+◌, ◌*◌, ◌/◌, ◌-◌, ◌<◌, ◌≤◌, min, zero-le}
 use native.Mathlib.Omega.{arith}
-use native.Mathlib.Nat.{zero-add, add-zero, add_assoc, le_refl, not-suc-le-zero}
-use native.Mathlib.Numerals.{add-one}
+use native.Mathlib.Nat.{zero-add, add-zero, add-suc, suc-add, add_assoc, zero-mul, add-mul, le_refl, not-suc-le-zero, div-eq_of_lt, div-mul-le_self, add-div_left}
+use native.Mathlib.Numerals.{add-one, sub-one}
 use native.Mathlib.Decide.{dec_lt}
 use lib.Dec.{leb, ltb, eqb}
 use lib.ListN.{length, drop, get_or, length-drop, drop_of_length-le}
 use lib.Seq.{drop-cons, drop-drop}
-use borrow.Author.Tests.{leb-true, le-leb, lt-leb, ltb-true, eqb-true}
-use Rattle.wire.specs.Scan.{plain_run, follower, followers, ahead, follow, row_going, row_run, row_end, firsts, row_of, letters_run, letters_end}
+use borrow.Author.Tests.{leb-true, leb-false, le-leb, lt-leb, lt-ltb, le-ltb, ltb-true, eqb-true}
+use Rattle.wire.specs.Scan.{follower, followers, ahead, second, Begins, follow, sequence_size, plain_end, blocks_end, plain_run}
 use Rattle.wire.proofs.Picks.{pick_yes, pick_no, pick_case, both, clash}
 use Rattle.wire.proofs.Tables.{each, each_at}
-use Rattle.wire.proofs.PlainRuns.{step_run, step_inside}
 use Rattle.protocol.specs.Numbers.{pick}
-use Rattle.protocol.specs.Text.{Range, ◌to◌, within, Row, utf8_table, following, goes_on, well_formed, plain_end}
+use Rattle.protocol.specs.Text.{Range, ◌to◌, within, utf8_table, following, goes_on, well_formed}
 
 -- ---- a first byte: what the table says is computed at each byte
 
@@ -43,11 +41,15 @@ same_is (q ∷ qs) (r ∷ rs) t =
     ends : (a b c d : ℕ) → a ≡ b → c ≡ d → a to c ≡ b to d
     ends a b c d e f = cc
 
--- two lists of ranges are the same at any of the n bytes from l, where that is so, by computation, at each of them
-pub rows_same : (f g : ℕ → List Range) (l n : ℕ) → each (λ b. same (f b) (g b)) l n ≡ true → (b : ℕ) → l ≤ b → b < l + n → f b ≡ g b
-rows_same f g l n t b p q = same_is (f b) (g b) (each_at (λ b. same (f b) (g b)) l n t b p q)
+-- what is said to follow a first byte is the table's at any of the n bytes from l, where that is so, by computation, at each of them
+pub row_is : (f : ℕ → List Range) (l n : ℕ) → each (λ b. same (f b) (following utf8_table b)) l n ≡ true → (b : ℕ) → l ≤ b → b < l + n → f b ≡ following utf8_table b
+row_is f l n t b p q = same_is (f b) (following utf8_table b) (each_at (λ b. same (f b) (following utf8_table b)) l n t b p q)
 
--- ---- bytes in ranges, in their order
+-- ---- a sequence, a byte at a time
+
+-- the first k bytes at i begin a sequence of which n are yet to come, the first of them in r
+pub record Going (s : List ℕ) (i k n : ℕ) (r : Range) : Type 0 where
+  pub is : sequence_size (drop i s) ≡ pick (follow (ahead n r) (drop (i + k) s)) (k + n) 0
 
 ahead_followers : (n : ℕ) → followers n ≡ ahead n follower
 unfolding followers ahead
@@ -59,51 +61,75 @@ unfolding followers
 length-followers zero = refl
 length-followers (suc n) = ap suc (length-followers n)
 
-pub length-ahead : (n : ℕ) (r : Range) → length (ahead n r) ≡ n
+length-ahead : (n : ℕ) (r : Range) → length (ahead n r) ≡ n
 unfolding ahead
 length-ahead zero r = refl
 length-ahead (suc n) r = ap suc (length-followers n)
 
-pub follow_next : (s : List ℕ) (j : ℕ) (r : Range) (rs : List Range) → j < length s → follow (r ∷ rs) (drop j s) ≡ pick (within r (get_or s j 0)) (follow rs (drop (j + 1) s)) false
-unfolding follow
-follow_next s j r rs h = rw (add-one, drop-cons s j 0)
-
-pub ahead_none : (n : ℕ) (r : Range) (l : List ℕ) → n ≡ 0 → follow (ahead n r) l ≡ true
-unfolding ahead follow
-ahead_none n r l e = rw e
-
--- what is left of a letter, k bytes after its first: n bytes, the first of them in r
-module _ (s : List ℕ) (i k n : ℕ) (r : Range) (p : 0 < n) (h : i + k < length s) where
-  ahead-next : (m : ℕ) → n ≡ suc m → follow (ahead n r) (drop (i + k) s) ≡ pick (within r (get_or s (i + k) 0)) (follow (ahead (n - 1) follower) (drop (i + (k + 1)) s)) false
-  unfolding ahead
-  ahead-next m e =
-      let f : n - 1 ≡ m = omega arith in
-      rw (f, e, ← ahead_followers m, ← add_assoc i k 1) (follow_next s (i + k) r (followers m) h)
-
-  pub ahead_yes : within r (get_or s (i + k) 0) ≡ true → follow (ahead n r) (drop (i + k) s) ≡ follow (ahead (n - 1) follower) (drop (i + (k + 1)) s)
-  ahead_yes w =
-      ahead-next (n - 1) (omega arith) ∙ pick_yes (within r (get_or s (i + k) 0)) (follow (ahead (n - 1) follower) (drop (i + (k + 1)) s)) false w
-
-  pub ahead_no : within r (get_or s (i + k) 0) ≡ false → follow (ahead n r) (drop (i + k) s) ≡ false
-  ahead_no w =
-      ahead-next (n - 1) (omega arith) ∙ pick_no (within r (get_or s (i + k) 0)) (follow (ahead (n - 1) follower) (drop (i + (k + 1)) s)) false w
-
-  -- the last byte
-  pub ahead_last : n ≡ 1 → follow (ahead n r) (drop (i + k) s) ≡ within r (get_or s (i + k) 0)
-  ahead_last e = go (within r (get_or s (i + k) 0)) ahead_yes ahead_no
-    where
-      go : (t : Bool) → (t ≡ true → follow (ahead n r) (drop (i + k) s) ≡ follow (ahead (n - 1) follower) (drop (i + (k + 1)) s)) → (t ≡ false → follow (ahead n r) (drop (i + k) s) ≡ false) → follow (ahead n r) (drop (i + k) s) ≡ t
-      go true f g = f refl ∙ ahead_none (n - 1) follower (drop (i + (k + 1)) s) (omega arith)
-      go false f g = g refl
+-- a next byte
+next : (s : List ℕ) (j : ℕ) (r : Range) (n : ℕ) → 0 < n → j < length s → follow (ahead n r) (drop j s) ≡ pick (within r (get_or s j 0)) (follow (ahead (n - 1) follower) (drop (j + 1) s)) false
+unfolding follow ahead
+next s j r zero p h = absurd (not-suc-le-zero p)
+next s j r (suc n) p h = rw (add-one, sub-one, drop-cons s j 0, ahead_followers n)
 
 -- too few bytes
-pub follow_short : (rs : List Range) (l : List ℕ) → length l < length rs → follow rs l ≡ false
+short : (rs : List Range) (l : List ℕ) → length l < length rs → follow rs l ≡ false
 unfolding follow pick
-follow_short [] l h = absurd (not-suc-le-zero h)
-follow_short (r ∷ rs) [] h = refl
-follow_short (r ∷ rs) (b ∷ l) h = pick_case (λ (t : Bool). t ≡ false) (within r b) (follow rs l) false (λ _. follow_short rs l (omega arith)) (λ _. refl)
+short [] l h = absurd (not-suc-le-zero h)
+short (r ∷ rs) [] h = refl
+short (r ∷ rs) (b ∷ l) h = pick_case (λ (t : Bool). t ≡ false) (within r b) (follow rs l) false (λ _. short rs l (omega arith)) (λ _. refl)
 
-pub follow_goes : (rs : List Range) (l : List ℕ) → goes_on rs l ≡ pick (follow rs l) (goes_on [] (drop (length rs) l)) false
+module _ (s : List ℕ) (i : ℕ) where
+  pub begun : (n : ℕ) (r : Range) → i < length s → ahead n r ≡ following utf8_table (get_or s i 0) → Going s i 1 n r
+  unfolding sequence_size
+  begun n r h e =
+      let l : suc (length (ahead n r)) ≡ 1 + n = ap suc (length-ahead n r) ∙ omega arith in
+      record { is = rw (add-one, drop-cons s i 0, ← e, l) }
+
+  module _ (k n : ℕ) (r : Range) (g : Going s i k n r) where
+    pub passed : 0 < n → i + k < length s → within r (get_or s (i + k) 0) ≡ true → Going s i (k + 1) (n - 1) follower
+    passed p h w =
+        let e : k + n ≡ k + 1 + (n - 1) = omega arith in
+        let f : follow (ahead n r) (drop (i + k) s) ≡ follow (ahead (n - 1) follower) (drop (i + (k + 1)) s) =
+        next s (i + k) r n p h ∙ pick_yes (within r (get_or s (i + k) 0)) (follow (ahead (n - 1) follower) (drop (i + k + 1) s)) false w ∙ rw add_assoc
+        in
+        record { is = g.is ∙ ap₂ (λ (t : Bool) (m : ℕ). pick t m 0) f e }
+
+    none : follow (ahead n r) (drop (i + k) s) ≡ false → 0 ≡ sequence_size (drop i s)
+    none f = sym (g.is ∙ pick_no (follow (ahead n r) (drop (i + k) s)) (k + n) 0 f)
+
+    pub broken : 0 < n → i + k < length s → within r (get_or s (i + k) 0) ≡ false → 0 ≡ sequence_size (drop i s)
+    broken p h w =
+        none (next s (i + k) r n p h ∙ pick_no (within r (get_or s (i + k) 0)) (follow (ahead (n - 1) follower) (drop (i + k + 1) s)) false w)
+
+    pub cut : i + k ≤ length s → length s < i + k + n → 0 ≡ sequence_size (drop i s)
+    cut p h = none (short (ahead n r) (drop (i + k) s) (simp (length-drop, length-ahead) (omega arith)))
+
+    pub whole : n ≡ 0 → k ≡ sequence_size (drop i s)
+    unfolding ahead follow pick
+    whole e = sym (g.is ∙ rw e (add-zero k))
+
+-- the first byte at i is one of the m bytes from l
+module _ (s : List ℕ) (i l m : ℕ) where
+  -- n bytes follow it, which is computed at each of them
+  pub begins : (n : ℕ) → each (λ b. same (ahead n (second b)) (following utf8_table b)) l m ≡ true → i < length s → 0 < n → n < 4 → l ≤ get_or s i 0 → get_or s i 0 < l + m → Begins s i n
+  begins n t h p q f g =
+      record { inside = h; some = p; few = q; row = row_is (λ b. ahead n (second b)) l m t (get_or s i 0) f g }
+
+  -- no row has it: then a range that no byte is in is to follow
+  pub stray : each (λ b. same ((1 to 0) ∷ []) (following utf8_table b)) l m ≡ true → i < length s → l ≤ get_or s i 0 → get_or s i 0 < l + m → 0 ≡ sequence_size (drop i s)
+  unfolding ahead followers within
+  stray t h f g =
+      let b = get_or s (i + 1) 0 in
+      let o = begun s i 1 (1 to 0) h (row_is (λ _. (1 to 0) ∷ []) l m t (get_or s i 0) f g) in
+      elim (dec_lt (i + 1) (length s)) [
+        | yes p ↦ broken s i 1 1 (1 to 0) o (omega arith) p (pick_case (λ (t : Bool). t ≡ false) (leb 1 b) (leb b 0) false (λ q. lt-leb b 0 (leb-true 1 b q)) (λ _. refl))
+        | no p ↦ cut s i 1 1 (1 to 0) o (omega arith) (omega arith)
+      ]
+
+-- ---- what a sequence, or none, says of the text from i on
+
+follow_goes : (rs : List Range) (l : List ℕ) → goes_on rs l ≡ pick (follow rs l) (goes_on [] (drop (length rs) l)) false
 unfolding goes_on follow pick
 follow_goes [] l = refl
 follow_goes (r ∷ rs) [] = refl
@@ -119,184 +145,74 @@ follow_inside [] l e = zero-le
 follow_inside (r ∷ rs) [] e = clash e
 follow_inside (r ∷ rs) (b ∷ l) e = let h = follow_inside rs l (both (within r b) (follow rs l) e).1 in omega arith
 
--- a range that no byte is in
-follow_none : (l : List ℕ) → follow ((1 to 0) ∷ []) l ≡ false
-unfolding follow within pick
-follow_none [] = refl
-follow_none (b ∷ l) =
-    elim (dec_lt 0 b) [
-      | yes p ↦ rw (le-leb 1 b p, lt-leb b 0 p)
-      | no p ↦ rw (lt-leb 1 b (omega arith))
-    ]
+size_inside : (l : List ℕ) → sequence_size l ≤ length l
+unfolding sequence_size
+size_inside [] = zero-le
+size_inside (b ∷ l) =
+    pick_case (λ (n : ℕ). n ≤ suc (length l)) (follow (following utf8_table b) l) (suc (length (following utf8_table b))) 0
+    (λ e. let h = follow_inside (following utf8_table b) l e in omega arith)
+    (λ _. zero-le)
 
--- ---- letters of one row
-
-module _ (rs : List Range) where
-  going_inside : (k : ℕ) (l : List ℕ) → row_going rs k l ≤ length l
-  unfolding row_going
-  going_inside k [] = zero-le
-  going_inside zero (b ∷ l) = pick_case (λ (n : ℕ). n ≤ suc (length l)) (follow rs (b ∷ l)) (suc (row_going rs (length rs - 1) l)) 0 (λ _. let h = going_inside (length rs - 1) l in omega arith) (λ _. zero-le)
-  going_inside (suc k) (b ∷ l) = let h = going_inside k l in omega arith
-
-  going_on : (k : ℕ) (l : List ℕ) → k ≤ length l → row_going rs k l ≡ k + row_run rs (drop k l)
-  unfolding row_going
-  going_on zero l h = sym (zero-add (row_run rs l))
-  going_on (suc k) [] h = absurd (not-suc-le-zero h)
-  going_on (suc k) (b ∷ l) h = let e = going_on k l (omega arith) in omega arith
-
-  run-stop : (l : List ℕ) → follow rs l ≡ false → row_run rs l ≡ 0
-  unfolding row_going
-  run-stop [] e = refl
-  run-stop (b ∷ l) e = pick_no (follow rs (b ∷ l)) (suc (row_going rs (length rs - 1) l)) 0 e
-
-run_next : (r : Range) (rs : List Range) (l : List ℕ) → follow (r ∷ rs) l ≡ true → row_run (r ∷ rs) l ≡ suc (length rs) + row_run (r ∷ rs) (drop (suc (length rs)) l)
-unfolding row_going follow
-run_next r rs [] e = clash e
-run_next r rs (b ∷ l) e =
-    let h : length rs ≤ length l = omega (arith, follow_inside (r ∷ rs) (b ∷ l) e) in
-    let n : length (r ∷ rs) - 1 ≡ length rs = omega arith in
-    let g = going_on (r ∷ rs) (length rs) l h in
-    pick_yes (follow (r ∷ rs) (b ∷ l)) (suc (row_going (r ∷ rs) (length (r ∷ rs) - 1) l)) 0 e ∙ rw n (omega arith)
-
--- as a loop has them
-module _ (s : List ℕ) (i : ℕ) (r : Range) (rs : List Range) where
-  pub row_next : (n : ℕ) → length rs ≡ n → follow (r ∷ rs) (drop i s) ≡ true → row_end (r ∷ rs) s i ≡ row_end (r ∷ rs) s (i + (n + 1))
-  row_next n q e =
-      let k : suc (length rs) ≡ n + 1 = omega arith in
-      let g : row_run (r ∷ rs) (drop i s) ≡ n + 1 + row_run (r ∷ rs) (drop (i + (n + 1)) s) = run_next r rs (drop i s) e ∙ rw (k, drop-drop) in
-      omega arith
-
-  pub row_stop : follow (r ∷ rs) (drop i s) ≡ false → row_end (r ∷ rs) s i ≡ i
-  row_stop e = rw (run-stop (r ∷ rs) (drop i s) e) (add-zero i)
-
-  -- too few bytes are left for one
-  pub row_short : (n : ℕ) → length rs ≡ n → length s - i ≤ n → row_end (r ∷ rs) s i ≡ i
-  row_short n q h = row_stop (follow_short (r ∷ rs) (drop i s) (rw (length-drop i s) (omega arith)))
-
--- ---- the row of a first byte, by the table
-
-first_has : (rows : List Row) (b : ℕ) → within (firsts rows b) b ≡ true
-unfolding firsts within
-first_has [] b = pick_yes (leb b b) (leb b b) false (le-leb b b (le_refl b)) ∙ le-leb b b (le_refl b)
-first_has (r ∷ rows) b = pick_case (λ (f : Range). within f b ≡ true) (within r.first b) r.first (firsts rows b) (λ e. e) (λ _. first_has rows b)
-
--- each first byte of a row has what follows in that row, which is computed at each of them
-sound : List Row → Bool
-sound [] = true
-sound (r ∷ rows) = pick (each (λ c. same r.rest (following utf8_table c)) r.first.low (suc r.first.high - r.first.low)) (sound rows) false
-
-within_ends : (r : Range) (c : ℕ) → within r c ≡ true → (r.low ≤ c) × (c ≤ r.high)
-unfolding within
-within_ends r c e =
-    let t = both (leb r.low c) (leb c r.high) e in
-    (leb-true r.low c t.0, leb-true c r.high t.1)
-
-shared : (rows : List Row) → sound rows ≡ true → (b c : ℕ) → within (firsts rows b) c ≡ true → (following utf8_table c ≡ following rows b) ⊎ (c ≡ b)
-unfolding firsts following sound pick
-shared [] t b c e = let p = within_ends (b to b) c e in inr (omega arith)
-shared (r ∷ rows) t b c e =
-    let n = suc r.first.high - r.first.low in
-    let u = both (each (λ c. same r.rest (following utf8_table c)) r.first.low n) (sound rows) t in
-    go (within r.first b) (λ f. let p = within_ends r.first c f in sym (rows_same (λ _. r.rest) (following utf8_table) r.first.low n u.0 c p.0 (omega arith))) (shared rows u.1 b c) e
-  where
-    go :
-        (w : Bool)
-        → (within r.first c ≡ true → following utf8_table c ≡ r.rest)
-        → (within (firsts rows b) c ≡ true → (following utf8_table c ≡ following rows b) ⊎ (c ≡ b))
-        → within (pick w r.first (firsts rows b)) c ≡ true
-        → (following utf8_table c ≡ pick w r.rest (following rows b)) ⊎ (c ≡ b)
-    go true f g e = inl (f e)
-    go false f g e = g e
-
-row_shared : (b c : ℕ) → within (firsts utf8_table b) c ≡ true → following utf8_table c ≡ following utf8_table b
-unfolding sound utf8_table following within pick
-row_shared b c e = ⊎_elim (λ q. q) (λ q. ap (following utf8_table) q) (shared utf8_table refl b c e)
-
--- ---- what letters, or none, say of the text from i on
-
-letter_goes : (b : ℕ) (l : List ℕ) → follow (row_of b) l ≡ true → goes_on [] l ≡ goes_on [] (drop (suc (length (following utf8_table b))) l)
-unfolding goes_on follow
-letter_goes b [] e = clash e
-letter_goes b (c ∷ l) e =
-    let t = both (within (firsts utf8_table b) c) (follow (following utf8_table b) l) e in
-    ap (λ (rs : List Range). goes_on rs l) (row_shared b c t.0)
-    ∙ follow_goes (following utf8_table b) l
-    ∙ pick_yes (follow (following utf8_table b) l) (goes_on [] (drop (length (following utf8_table b)) l)) false t.1
-
-row_goes : (b n : ℕ) (l : List ℕ) → length l ≤ n → goes_on [] l ≡ goes_on [] (drop (row_run (row_of b) l) l)
-unfolding row_going
-row_goes b zero [] h = refl
-row_goes b zero (c ∷ l) h = absurd (not-suc-le-zero h)
-row_goes b (suc n) l h =
-    let k = suc (length (following utf8_table b)) in
-    go (follow (row_of b) l) (row_goes b n (drop k l) (rw (length-drop k l) (omega arith))) refl
+size_goes : (l : List ℕ) → 0 < length l → goes_on [] l ≡ pick (ltb 0 (sequence_size l)) (goes_on [] (drop (sequence_size l) l)) false
+unfolding sequence_size goes_on pick
+size_goes [] h = absurd (not-suc-le-zero h)
+size_goes (b ∷ l) h = go (follow (following utf8_table b) l) refl
   where
     go :
         (t : Bool)
-        → (let m = drop (suc (length (following utf8_table b))) l in goes_on [] m ≡ goes_on [] (drop (row_run (row_of b) m) m))
-        → follow (row_of b) l ≡ t
-        → goes_on [] l ≡ goes_on [] (drop (row_run (row_of b) l) l)
-    go true f e = letter_goes b l e ∙ f ∙ rw (drop-drop, ← run_next (firsts utf8_table b) (following utf8_table b) l e)
-    go false f e = rw (run-stop (row_of b) l e)
+        → follow (following utf8_table b) l ≡ t
+        → goes_on (following utf8_table b) l ≡ pick (ltb 0 (pick t (suc (length (following utf8_table b))) 0)) (goes_on [] (drop (pick t (suc (length (following utf8_table b))) 0) (b ∷ l))) false
+    go true e = follow_goes (following utf8_table b) l ∙ rw (e, lt-ltb 0 (suc (length (following utf8_table b))) (omega arith))
+    go false e = follow_goes (following utf8_table b) l ∙ rw e
 
-letters_go : (l : List ℕ) → goes_on [] l ≡ goes_on [] (drop (letters_run l) l)
-unfolding letters_run
-letters_go [] = refl
-letters_go (b ∷ l) = row_goes b (length (b ∷ l)) (b ∷ l) (le_refl (length (b ∷ l)))
+module _ (s : List ℕ) (i n : ℕ) (h : i < length s) (q : n ≡ sequence_size (drop i s)) where
+  same-on : goes_on [] (drop i s) ≡ pick (ltb 0 n) (goes_on [] (drop (i + n) s)) false
+  same-on = size_goes (drop i s) (rw (length-drop i s) (omega arith)) ∙ rw (← q, drop-drop)
 
-no_letter : (l : List ℕ) → 0 < length l → letters_run l ≡ 0 → goes_on [] l ≡ false
-unfolding letters_run goes_on follow
-no_letter [] h e = absurd (not-suc-le-zero h)
-no_letter (b ∷ l) h e = go (follow (row_of b) (b ∷ l)) refl
-  where
-    go : (t : Bool) → follow (row_of b) (b ∷ l) ≡ t → goes_on (following utf8_table b) l ≡ false
-    go true f = let n = run_next (firsts utf8_table b) (following utf8_table b) (b ∷ l) f in absurd (omega arith)
-    go false f =
-        follow_goes (following utf8_table b) l
-        ∙ pick_no (follow (following utf8_table b) l) (goes_on [] (drop (length (following utf8_table b)) l)) false
-        (sym (pick_yes (within (firsts utf8_table b) b) (follow (following utf8_table b) l) false (first_has utf8_table b)) ∙ f)
+  pub sequence_inside : i + n ≤ length s
+  sequence_inside = let p = size_inside (drop i s) in omega (arith, length-drop i s)
 
-letters_length : (l : List ℕ) → letters_run l ≤ length l
-unfolding letters_run
-letters_length [] = zero-le
-letters_length (b ∷ l) = going_inside (row_of b) 0 (b ∷ l)
+  pub sequence_none : n ≡ 0 → goes_on [] (drop i s) ≡ false
+  sequence_none e = same-on ∙ pick_no (ltb 0 n) (goes_on [] (drop (i + n) s)) false (le-ltb 0 n (omega arith))
+
+  pub sequence_on : (n ≡ 0 → ⊥) → goes_on [] (drop i s) ≡ goes_on [] (drop (i + n) s)
+  sequence_on e = same-on ∙ pick_yes (ltb 0 n) (goes_on [] (drop (i + n) s)) false (lt-ltb 0 n (omega (arith, e)))
+
+pub ended : (s : List ℕ) (i : ℕ) → length s ≤ i → goes_on [] (drop i s) ≡ true
+unfolding goes_on
+ended s i h = rw (drop_of_length-le s h)
+
+-- ---- runs of plain bytes
+
+-- the bytes from i to r are plain
+pub record Plain (s : List ℕ) (i r : ℕ) : Type 0 where
+  pub onward : i ≤ r
+  pub inside : r ≤ length s
+  pub same : plain_end s i ≡ plain_end s r
 
 module _ (s : List ℕ) (i : ℕ) where
-  -- by the row of the first byte
-  pub letters_row : (rs : List Range) → i < length s → row_of (get_or s i 0) ≡ rs → letters_end s i ≡ row_end rs s i
-  unfolding letters_run
-  letters_row rs h e = rw (drop-cons s i 0, e)
+  pub plain_next : i < length s → get_or s i 0 < 0x80 → plain_end s i ≡ plain_end s (i + 1)
+  unfolding plain_run pick
+  plain_next h p = rw (add-one, drop-cons s i 0, lt-ltb (get_or s i 0) 0x80 p) (rw (add-suc, suc-add))
 
-  -- a row that all m first bytes from l have, which is computed at each of them
-  pub letters_are :
-      (l m : ℕ) (rs : List Range)
-      → each (λ b. same (row_of b) rs) l m ≡ true
-      → i < length s
-      → l ≤ get_or s i 0
-      → get_or s i 0 < l + m
-      → (e : ℕ) → e ≡ row_end rs s i → e ≡ letters_end s i
-  letters_are l m rs t h f g e p = p ∙ sym (letters_row rs h (rows_same row_of (λ _. rs) l m t (get_or s i 0) f g))
+  pub plain_stop : i < length s → 0x80 ≤ get_or s i 0 → plain_end s i ≡ i
+  unfolding plain_run pick
+  plain_stop h p = rw (drop-cons s i 0, le-ltb (get_or s i 0) 0x80 p) (add-zero i)
 
-  -- no row has it
-  no_row : i < length s → following utf8_table (get_or s i 0) ≡ (1 to 0) ∷ [] → letters_end s i ≡ i
-  unfolding pick
-  no_row h e =
-      letters_row (firsts utf8_table (get_or s i 0) ∷ ((1 to 0) ∷ [])) h (rw e)
-      ∙ row_stop s i (firsts utf8_table (get_or s i 0)) ((1 to 0) ∷ [])
-      (follow_next s i (firsts utf8_table (get_or s i 0)) ((1 to 0) ∷ []) h ∙ pick_case (λ (t : Bool). t ≡ false) (within (firsts utf8_table (get_or s i 0)) (get_or s i 0)) (follow ((1 to 0) ∷ []) (drop (i + 1) s)) false (λ _. follow_none (drop (i + 1) s)) (λ _. refl))
+  pub plain_over : length s ≤ i → plain_end s i ≡ i
+  unfolding plain_run
+  plain_over h = rw (drop_of_length-le s h) (add-zero i)
 
-  pub letters_stray : (l m : ℕ) → each (λ b. same (following utf8_table b) ((1 to 0) ∷ [])) l m ≡ true → i < length s → l ≤ get_or s i 0 → get_or s i 0 < l + m → i ≡ letters_end s i
-  letters_stray l m t h f g = sym (no_row h (rows_same (following utf8_table) (λ _. (1 to 0) ∷ []) l m t (get_or s i 0) f g))
-
-  pub letters_inside : i ≤ length s → letters_end s i ≤ length s
-  letters_inside h = let p = letters_length (drop i s) in omega (arith, length-drop i s)
-
--- ---- plain bytes are letters
+plain_length : (l : List ℕ) → plain_run l ≤ length l
+unfolding plain_run
+plain_length [] = omega arith
+plain_length (b ∷ l) = pick_case (λ (n : ℕ). n ≤ suc (length l)) (ltb b 0x80) (suc (plain_run l)) 0 (λ _. let h = plain_length l in omega arith) (λ _. omega arith)
 
 plain_first : (b : ℕ) → b < 0x80 → following utf8_table b ≡ []
 unfolding following utf8_table within pick
-plain_first b h = rows_same (following utf8_table) (λ _. []) 0 0x80 refl b (omega arith) (omega arith)
+plain_first b h = sym (row_is (λ _. []) 0 0x80 refl b (omega arith) (omega arith))
 
+-- plain bytes are sequences
 plain_go : (l : List ℕ) → goes_on [] l ≡ goes_on [] (drop (plain_run l) l)
 unfolding plain_run goes_on pick
 plain_go [] = refl
@@ -305,39 +221,90 @@ plain_go (b ∷ l) =
     (λ e. ap (λ (r : List Range). goes_on r l) (plain_first b (ltb-true b 0x80 e)) ∙ plain_go l)
     (λ _. refl)
 
--- the step (L5) leaves what is well-formed where that was left before
-pub step_keeps : (s : List ℕ) (i : ℕ) → well_formed (drop i s) ≡ well_formed (drop (plain_end s i) s)
+module _ (s : List ℕ) (i : ℕ) where
+  pub plain_inside : i ≤ length s → plain_end s i ≤ length s
+  plain_inside h = let p = plain_length (drop i s) in omega (arith, length-drop i s)
+
+  pub plain_goes : goes_on [] (drop i s) ≡ goes_on [] (drop (plain_end s i) s)
+  plain_goes = plain_go (drop i s) ∙ rw drop-drop
+
+-- ---- blocks of plain bytes
+
+-- the plain bytes past the first n of them
+run_past : (l : List ℕ) (n : ℕ) → n ≤ plain_run l → plain_run l ≡ n + plain_run (drop n l)
+unfolding plain_run
+run_past l zero h = sym (zero-add (plain_run l))
+run_past [] (suc n) h = absurd (not-suc-le-zero h)
+run_past (b ∷ l) (suc n) h =
+    pick_case (λ (m : ℕ). suc n ≤ m → m ≡ suc n + plain_run (drop n l)) (ltb b 0x80) (suc (plain_run l)) 0
+    (λ _ g. let e = run_past l n (omega arith) in omega arith)
+    (λ _ g. absurd (not-suc-le-zero g))
+    h
+
+module _ (s : List ℕ) (i : ℕ) where
+  pub plain_past : (n : ℕ) → n ≤ plain_run (drop i s) → plain_end s i ≡ plain_end s (i + n)
+  plain_past n h =
+      let e : plain_run (drop i s) ≡ n + plain_run (drop (i + n) s) = run_past (drop i s) n h ∙ rw drop-drop in
+      omega arith
+
+  -- the plain bytes up to an end
+  pub prefix_plain : (end r : ℕ) → i ≤ end → end ≤ length s → r ≡ min end (plain_end s i) → Plain s i r
+  prefix_plain end r h l e =
+      let k : i + (r - i) ≡ r = omega arith in
+      record { onward = omega arith; inside = omega arith; same = plain_past (r - i) (omega arith) ∙ ap (plain_end s) k }
+
+  -- what a byte says of whether k + 1 bytes are plain, with g the greater of it and of h, which tells that of the k bytes before it
+  pub plain_more :
+      (k h g : ℕ)
+      → i + k < length s
+      → ltb h 0x80 ≡ leb k (plain_run (drop i s))
+      → h ≤ g
+      → get_or s (i + k) 0 ≤ g
+      → (h < 0x80 → get_or s (i + k) 0 < 0x80 → g < 0x80)
+      → ltb g 0x80 ≡ leb (k + 1) (plain_run (drop i s))
+  plain_more k h g l e p q f =
+      elim (dec_lt g 0x80) [
+        | yes w ↦
+            let a : k ≤ plain_run (drop i s) = leb-true k (plain_run (drop i s)) (sym e ∙ lt-ltb h 0x80 (omega arith)) in
+            let o = plain_past k a in
+            let m = plain_next s (i + k) l (omega arith) in
+            lt-ltb g 0x80 w ∙ sym (le-leb (k + 1) (plain_run (drop i s)) (omega arith))
+        | no w ↦ le-ltb g 0x80 (omega arith) ∙ sym (lt-leb (k + 1) (plain_run (drop i s)) (ends (dec_lt h 0x80) w))
+      ]
+    where
+      ends : Dec (h < 0x80) → (g < 0x80 → ⊥) → plain_run (drop i s) < k + 1
+      ends (yes v) w =
+          let a : k ≤ plain_run (drop i s) = leb-true k (plain_run (drop i s)) (sym e ∙ lt-ltb h 0x80 v) in
+          let o = plain_past k a in
+          let b : 0x80 ≤ get_or s (i + k) 0 = elim (dec_lt (get_or s (i + k) 0) 0x80) [ yes t ↦ absurd (w (f v t)) | no t ↦ omega arith ] in
+          let m = plain_stop s (i + k) l b in
+          omega arith
+      ends (no v) w =
+          let a : plain_run (drop i s) < k = leb-false k (plain_run (drop i s)) (sym e ∙ le-ltb h 0x80 (omega arith)) in
+          omega arith
+
+  module _ (n : ℕ) (p : 0 < n) where
+    -- a block that is plain, and one that is not, or has not n bytes
+    pub blocks_next : n ≤ plain_run (drop i s) → blocks_end s n i ≡ blocks_end s n (i + n)
+    blocks_next h =
+        let m = plain_run (drop (i + n) s) in
+        let e : plain_run (drop i s) ≡ n + m = omega (arith, plain_past n h) in
+        rw (e, add-div_left m p, add-mul) (omega arith)
+
+    pub blocks_stop : plain_run (drop i s) < n → blocks_end s n i ≡ i
+    blocks_stop h = rw (div-eq_of_lt h, zero-mul) (add-zero i)
+
+    pub blocks_plain : i ≤ length s → (r : ℕ) → r ≡ blocks_end s n i → Plain s i r
+    blocks_plain h r e =
+        let l : plain_run (drop i s) / n * n ≤ plain_run (drop i s) = div-mul-le_self (plain_run (drop i s)) n in
+        rw e
+        (record {
+          onward = omega arith;
+          inside = omega (arith, plain_inside s i h);
+          same = plain_past (plain_run (drop i s) / n * n) l;
+        })
+
+-- text that is all plain
+pub plain_well : (s : List ℕ) → plain_run s ≡ length s → well_formed s ≡ true
 unfolding well_formed
-step_keeps s i = plain_go (drop i s) ∙ rw (drop-drop, ← step_run s i)
-
--- ---- what is left of a text at i: the whole is well-formed where that is
-
-abbrev pub Left : List ℕ → ℕ → Type 0
-Left s i = (i ≤ length s) × (well_formed s ≡ goes_on [] (drop i s))
-
-pub left_all : (s : List ℕ) → Left s 0
-unfolding well_formed
-left_all s = (zero-le, refl)
-
-module _ (s : List ℕ) (i : ℕ) (l : Left s i) where
-  -- past letters of one row, of which there may be none
-  pub left_letters : (e : ℕ) → e ≡ letters_end s i → Left s e
-  left_letters e q =
-      (omega (arith, letters_inside s i l.0), l.1 ∙ letters_go (drop i s) ∙ rw (drop-drop, ← q))
-
-  pub left_none : i < length s → letters_end s i ≡ i → false ≡ well_formed s
-  left_none h e = sym (l.1 ∙ no_letter (drop i s) (rw (length-drop i s) (omega arith)) (omega arith))
-
-  -- past plain bytes: by the step (L5), and one of them
-  pub left_step : (e : ℕ) → e ≡ plain_end s i → Left s e
-  left_step e q =
-      (omega (arith, step_inside s i l.0), l.1 ∙ plain_go (drop i s) ∙ rw (drop-drop, ← step_run s i, ← q))
-
-  pub left_plain : i < length s → get_or s i 0 < 0x80 → Left s (i + 1)
-  unfolding goes_on
-  left_plain h p =
-      (omega arith, l.1 ∙ ap (goes_on []) (drop-cons s i 0 h) ∙ ap (λ (rs : List Range). goes_on rs (drop (suc i) s)) (plain_first (get_or s i 0) p) ∙ rw add-one)
-
-  pub left_end : length s ≤ i → true ≡ well_formed s
-  unfolding goes_on
-  left_end h = sym (l.1 ∙ rw (drop_of_length-le s h))
+plain_well s e = plain_go s ∙ rw e (ended s (length s) (le_refl (length s)))

@@ -1,6 +1,5 @@
 // Numbers, text, words and copies of bytes, as EdgeDB's messages and values have them.
 pub mod be;
 pub mod copy;
-pub mod plain;
 pub mod text;
 pub mod words;

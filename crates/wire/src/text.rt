@@ -1,9 +1,7 @@
 // Well-formed UTF-8: the sequences of bytes of the Unicode Standard's Table 3-7.
-ghost use Rattle.std.specs.Prelude.{◌≡◌, ◌∷◌, ◌+◌, ◌≤◌, ◌<◌, length, drop, get_or};
-ghost use Rattle.wire.specs.Scan.{ahead, follow, row_end, letters_end};
+ghost use Rattle.std.specs.Prelude.{◌≡◌, ◌+◌, ◌≤◌, ◌<◌, min, leb, length, drop, get_or};
+ghost use Rattle.wire.specs.Scan.{second, Begins, sequence_size, plain_end, blocks_end, plain_run};
 ghost use Rattle.protocol.specs.Text.{◌to◌, within, well_formed};
-
-use super::plain::plain_end;
 
 // Whether a byte is in a range, both ends in it.
 fn is_within(b: u8, low: u8, high: u8) -> bool
@@ -15,100 +13,144 @@ fn is_within(b: u8, low: u8, high: u8) -> bool
     b <= high
 }
 
-// Whether a letter of a row of the table stands at `i`. A row whose letters are not plain has the ranges of their
-// first and of their second byte, and how many bytes are left after the first. Those after the second are in the
-// same range in every
-fn is_letter(s: &[u8], i: usize, first: u8, last: u8, low: u8, high: u8, left: usize) -> bool
-    requires { (i + left < length s.now) × (0 < left) × (left < 4) }
-    ensures { result ≡ follow ((first to last) ∷ ahead left (low to high)) (drop i s.now) }
+// Whether `c` may follow the first byte `b`. Four first bytes narrow the range of what follows them: to
+// leave out sequences that are longer than their letter needs (e0, f0), the surrogates (ed), and
+// what is past the last letter (f4).
+fn may_follow(b: u8, c: u8) -> bool
+    ensures { result ≡ within (second b) c }
 {
-    if !is_within(s[i], first, last) {
-        return false;
+    if b == 0xe0 {
+        return is_within(c, 0xa0, 0xbf);
     }
-    if !is_within(s[i + 1], low, high) {
-        return false;
+    if b == 0xed {
+        return is_within(c, 0x80, 0x9f);
+    }
+    if b == 0xf0 {
+        return is_within(c, 0x90, 0xbf);
+    }
+    if b == 0xf4 {
+        return is_within(c, 0x80, 0x8f);
+    }
+    is_within(c, 0x80, 0xbf)
+}
+
+// The length of the sequence at `i`, whose first byte has `left` bytes after it, or 0 where those do
+// not stand there.
+fn rest_at(s: &[u8], i: usize, left: usize) -> usize
+    requires { Begins s.now i left }
+    ensures { result ≡ sequence_size (drop i s.now) }
+{
+    if s.len() - i <= left {
+        return 0;
+    }
+    if !may_follow(s[i], s[i + 1]) {
+        return 0;
     }
     if left == 1 {
-        return true;
+        return 2;
     }
     if !is_within(s[i + 2], 0x80, 0xbf) {
-        return false;
+        return 0;
     }
     if left == 2 {
-        return true;
+        return 3;
     }
-    is_within(s[i + 3], 0x80, 0xbf)
+    if !is_within(s[i + 3], 0x80, 0xbf) {
+        return 0;
+    }
+    4
 }
 
-// The end of the letters of one row at `from`.
-fn row_end(s: &[u8], from: usize, first: u8, last: u8, low: u8, high: u8, left: usize) -> usize
-    requires { (from ≤ length s.now) × (0 < left) × (left < 4) }
-    ensures { result ≡ row_end ((first to last) ∷ ahead left (low to high)) s.now from }
-{
-    let mut i = from;
-    while left < s.len() - i {
-        if !is_letter(s, i, first, last, low, high, left) {
-            return i;
-        }
-        i += left + 1;
-    }
-    i
-}
-
-// The end of the letters at `i` that have the row of the first of them, one of three bytes. To leave out letters that could be
-// shorter (e0) and the surrogates (ed), two first bytes narrow the range of the second.
-fn threes_end(s: &[u8], i: usize) -> usize
-    requires { (i < length s.now) × (0xe0 ≤ get_or s.now i 0) × (get_or s.now i 0 < 0xf0) }
-    ensures { result ≡ letters_end s.now i }
-{
-    let b = s[i];
-    if b < 0xe1 {
-        return row_end(s, i, 0xe0, 0xe0, 0xa0, 0xbf, 2);
-    }
-    if b < 0xed {
-        return row_end(s, i, 0xe1, 0xec, 0x80, 0xbf, 2);
-    }
-    if b < 0xee {
-        return row_end(s, i, 0xed, 0xed, 0x80, 0x9f, 2);
-    }
-    row_end(s, i, 0xee, 0xef, 0x80, 0xbf, 2)
-}
-
-// The same of four bytes: narrowed where a letter could be shorter (f0), and past the last letter (f4).
-fn fours_end(s: &[u8], i: usize) -> usize
-    requires { (i < length s.now) × (0xf0 ≤ get_or s.now i 0) × (get_or s.now i 0 < 0xf5) }
-    ensures { result ≡ letters_end s.now i }
-{
-    let b = s[i];
-    if b < 0xf1 {
-        return row_end(s, i, 0xf0, 0xf0, 0x90, 0xbf, 3);
-    }
-    if b < 0xf4 {
-        return row_end(s, i, 0xf1, 0xf3, 0x80, 0xbf, 3);
-    }
-    row_end(s, i, 0xf4, 0xf4, 0x80, 0x8f, 3)
-}
-
-// The end of the letters at `i`, the first of which is not plain, that have the row of that one; `i` where no letter stands there.
-// Letters of one script mostly share a row, and each row has its own call, with constants, so that it becomes its own short loop.
-pub fn letters_end(s: &[u8], i: usize) -> usize
+// The length of the sequence at `i`, where the byte is not plain, or 0 where none stands there. Each
+// length has its own call, with a constant, so that each becomes its own short row of tests.
+fn sequence_at(s: &[u8], i: usize) -> usize
     requires { (i < length s.now) × (0x80 ≤ get_or s.now i 0) }
-    ensures { result ≡ letters_end s.now i }
+    ensures { result ≡ sequence_size (drop i s.now) }
 {
     let b = s[i];
     if b < 0xc2 {
-        return i;
+        return 0;
     }
     if b < 0xe0 {
-        return row_end(s, i, 0xc2, 0xdf, 0x80, 0xbf, 1);
+        return rest_at(s, i, 1);
     }
     if b < 0xf0 {
-        return threes_end(s, i);
+        return rest_at(s, i, 2);
     }
     if b < 0xf5 {
-        return fours_end(s, i);
+        return rest_at(s, i, 3);
+    }
+    0
+}
+
+// The first index from `from` up to `end` whose byte is not plain, or `end`.
+fn plain_prefix(s: &[u8], from: usize, end: usize) -> usize
+    requires { (from ≤ end) × (end ≤ length s.now) }
+    ensures { result ≡ min end (plain_end s.now from) }
+{
+    let mut i = from;
+    while i < end {
+        if 0x80 <= s[i] {
+            return i;
+        }
+        i += 1;
     }
     i
+}
+
+// Whether the `n` bytes at `i` are plain. The loop looks for their greatest, and so has no way out
+// before its end: for a number of bytes that is known when it is compiled, the compiler makes it
+// one of vectors.
+fn plain_block(s: &[u8], i: usize, n: usize) -> bool
+    requires { i + n ≤ length s.now }
+    ensures { result ≡ leb n (plain_run (drop i s.now)) }
+{
+    let mut high: u8 = 0;
+    let mut k = 0;
+    while k < n {
+        let b = s[i + k];
+        if high < b {
+            high = b;
+        }
+        k += 1;
+    }
+    high < 0x80
+}
+
+// The end of the whole blocks of `n` plain bytes at `from`.
+fn plain_blocks(s: &[u8], from: usize, n: usize) -> usize
+    requires { (from ≤ length s.now) × (0 < n) }
+    ensures { result ≡ blocks_end s.now n from }
+{
+    let mut i = from;
+    while n <= s.len() - i {
+        if !plain_block(s, i, n) {
+            return i;
+        }
+        i += n;
+    }
+    i
+}
+
+// The end of the plain bytes at `from`. The first sixteen are looked at one by one, so that a short
+// run costs no block; then large blocks are passed over, small ones, and what is left.
+pub fn plain_end(s: &[u8], from: usize) -> usize
+    ensures { result ≡ from + plain_run (drop from s.now) }
+{
+    if s.len() <= from {
+        return from;
+    }
+    if s.len() - from < 16 {
+        return plain_prefix(s, from, s.len());
+    }
+    let near = from + 16;
+    let i = plain_prefix(s, from, near);
+    if i < near {
+        return i;
+    }
+    let large = plain_blocks(s, i, 128);
+    let small = plain_blocks(s, large, 16);
+    plain_prefix(s, small, s.len())
 }
 
 // Whether the bytes are well-formed UTF-8.
@@ -120,11 +162,11 @@ pub fn is_utf8(s: &[u8]) -> bool
         if s[i] < 0x80 {
             i = plain_end(s, i);
         } else {
-            let end = letters_end(s, i);
-            if end == i {
+            let n = sequence_at(s, i);
+            if n == 0 {
                 return false;
             }
-            i = end;
+            i += n;
         }
     }
     true

@@ -1,4 +1,4 @@
--- `wire::plain::plain_block` meets its contract. The invariant: `high` is plain where each byte passed is.
+-- `wire::text::plain_block` meets its contract. The invariant: `high` is plain where each byte passed is.
 use mathlib.Core.Path.{◌≡◌, ap, sym, ◌∙◌}
 use mathlib.Core.Logic.{⊎_elim}
 use Prim.Native.Nat.{ℕ, ◌+◌, ◌-◌, ◌≤◌, ◌<◌, zero-le}
@@ -7,9 +7,9 @@ use lib.Dec.{leb, ltb}
 use lib.ListN.{drop, get_or}
 use borrow.Author.Tests.{le-leb}
 use borrow.Author.Rules.{rules}
-use Rattle.wire.proofs.PlainRuns.{plain_more}
-use Rattle.wire.proofs.plain.plain_block.Statement.{statement}
-use Rattle.wire.proofs.plain.plain_block.Tie as tie
+use Rattle.wire.proofs.Sequences.{plain_more}
+use Rattle.wire.proofs.text.plain_block.Statement.{statement}
+use Rattle.wire.proofs.text.plain_block.Tie as tie
 use Rattle.wire.specs.Scan.{plain_run}
 
 abbrev invariant-loop : tie.invariant-loop

@@ -1,4 +1,4 @@
--- `wire::plain::plain_blocks` meets its contract. The invariant: the blocks at `i` end where those at `from` do.
+-- `wire::text::plain_blocks` meets its contract. The invariant: the blocks at `i` end where those at `from` do.
 use mathlib.Core.Path.{◌≡◌, refl, sym, ◌∙◌}
 use Prim.Native.Nat.{◌-◌, ◌≤◌}
 use native.Mathlib.Omega.{arith}
@@ -6,9 +6,9 @@ use lib.ListN.{length}
 use borrow.Author.Tests.{not-true, not-false, leb-true, leb-false}
 use borrow.Author.Rules.{rules}
 use Rattle.wire.specs.Scan.{blocks_end}
-use Rattle.wire.proofs.PlainRuns.{plain_inside, blocks_next, blocks_stop}
-use Rattle.wire.proofs.plain.plain_blocks.Statement.{statement}
-use Rattle.wire.proofs.plain.plain_blocks.Tie as tie
+use Rattle.wire.proofs.Sequences.{plain_inside, blocks_next, blocks_stop}
+use Rattle.wire.proofs.text.plain_blocks.Statement.{statement}
+use Rattle.wire.proofs.text.plain_blocks.Tie as tie
 
 abbrev invariant-loop : tie.invariant-loop
 invariant-loop s from n i₀ i = (i ≤ length s) × (blocks_end s n from ≡ blocks_end s n i)

@@ -1,21 +1,20 @@
--- `wire::plain::bytes_end` meets its contract. The invariant: all bytes up to `i` are plain.
+-- `wire::text::plain_prefix` meets its contract. The invariant: all bytes up to `i` are plain.
 use mathlib.Core.Path.{refl, ◌∙◌}
 use Prim.Native.Nat.{◌-◌, ◌≤◌}
 use native.Mathlib.Omega.{arith}
-use lib.ListN.{length}
 use borrow.Author.Rules.{rules}
-use Rattle.wire.proofs.PlainRuns.{Plain, plain_next, plain_stop, plain_over}
-use Rattle.wire.proofs.plain.bytes_end.Statement.{statement}
-use Rattle.wire.proofs.plain.bytes_end.Tie as tie
+use Rattle.wire.proofs.Sequences.{Plain, plain_next, plain_stop}
+use Rattle.wire.proofs.text.plain_prefix.Statement.{statement}
+use Rattle.wire.proofs.text.plain_prefix.Tie as tie
 
 abbrev invariant-loop : tie.invariant-loop
-invariant-loop s from i₀ i = (i ≤ length s) × (Plain s from i)
+invariant-loop s from end i₀ i = (i ≤ end) × (Plain s from i)
 
 abbrev decreases-loop : tie.decreases-loop
-decreases-loop s from i₀ i = length s - i
+decreases-loop s from end i₀ i = end - i
 
 loop-holds : tie.Need-loop-init invariant-loop decreases-loop
-loop-holds c = (c.requires, record { onward = omega arith; inside = omega arith; same = refl })
+loop-holds c = (c.requires.0, record { onward = omega arith; inside = omega arith; same = refl })
 
 returns : tie.Need-returns invariant-loop decreases-loop
 returns c =
@@ -35,10 +34,10 @@ loop-again c =
     )
 
 returns-2 : tie.Need-returns-2 invariant-loop decreases-loop
-returns-2 c = omega (arith, c.before.loop.invariant.1.same, plain_over c.before.before.args.s.now c.before.loop.i c.loop-test.false)
+returns-2 c = omega (arith, c.before.loop.invariant.1.same)
 
-pub bytes-end-spec : {M : Type 1} → statement M
-bytes-end-spec =
+pub plain-prefix-spec : {M : Type 1} → statement M
+plain-prefix-spec =
     tie.close
     (tie.spec
     invariant-loop
