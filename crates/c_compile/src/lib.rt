@@ -1,4 +1,6 @@
 // Compiling a descriptor's plan.
+#![tactic(auto)]
+
 ghost use Rattle.std.specs.Prelude.{◌≤◌, length};
 ghost use Rattle.protocol.specs.Crossing.{CompilesPlan};
 

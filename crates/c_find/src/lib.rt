@@ -1,4 +1,6 @@
 // Finding an element of a value by a path.
+#![tactic(auto)]
+
 ghost use Rattle.std.specs.Prelude.{◌≡◌, true, ◌+◌, ◌-◌, ◌*◌, ◌≤◌, length, take, drop};
 ghost use Rattle.protocol.specs.Running.{checked};
 ghost use Rattle.protocol.specs.Finding.{find_of};

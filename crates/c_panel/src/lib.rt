@@ -1,4 +1,6 @@
 // The calls of the panel's C host, under their C names. Each is one call of the crate of its subject, whose contract it has.
+#![tactic(auto)]
+
 ghost use Rattle.std.specs.Prelude.{◌≡◌};
 ghost use Rattle.protocol.specs.Crossing.{ReadsMessage, WritesMessage, RunsValue, CompilesPlan, find_from, find_answer, number_from, number_answer, WritesValue};
 ghost use Rattle.protocol.specs.Intake.{intake_start, intake_reset, TakesDelivery};

@@ -1,4 +1,6 @@
 // Checking and listing a value by a plan.
+#![tactic(auto)]
+
 ghost use Rattle.std.specs.Prelude.{◌≡◌, true, ◌≤◌, length};
 ghost use Rattle.c_run.specs.Runs.{Roomy};
 ghost use Rattle.protocol.specs.Running.{run_of};

@@ -1,4 +1,6 @@
 // Writing a value from a supply, by a plan.
+#![tactic(auto)]
+
 ghost use Rattle.std.specs.Prelude.{◌≡◌, true, ◌+◌, ◌*◌, ◌-◌, ◌≤◌, length, take, drop};
 ghost use Rattle.c_supply.specs.Supplies.{BothCross};
 ghost use Rattle.protocol.specs.Building.{write_of};

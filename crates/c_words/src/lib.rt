@@ -1,4 +1,6 @@
 // How numbers, byte runs and words cross to the panel's C host: what a call answers (R9.8), and words as bytes (R9.3).
+#![tactic(auto)]
+
 ghost use Rattle.std.specs.Prelude.{◌≡◌, ◌++◌, ◌+◌, ◌*◌, ◌≤◌, leb, length, take};
 ghost use Rattle.std.proofs.lemmas.List.Edits.{sets};
 ghost use Rattle.c_words.specs.Answers.{WordsOut};

@@ -1,4 +1,5 @@
 // Numbers that have a name: the same names are in the header and, for the definitions, in protocol/specs/Constants.
+#![tactic(auto)]
 
 // ---- Largest sizes (R1.4)
 

@@ -1,4 +1,6 @@
 // Compiling a descriptor's plan (R4.7 to R4.9), in the order of R1.8.
+#![tactic(auto)]
+
 ghost use Rattle.std.specs.Prelude.{◌≡◌, ◌≤◌, length};
 ghost use Rattle.descriptor_fields.specs.Fields.{id_at};
 ghost use Rattle.protocol.specs.Descriptors.{bare_form};

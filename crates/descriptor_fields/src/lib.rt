@@ -1,4 +1,6 @@
 // The fields of a descriptor's blocks, each by itself: which fields a block has, their sizes, and the rules of numbers.
+#![tactic(auto)]
+
 pub mod kinds;
 pub mod number;
 

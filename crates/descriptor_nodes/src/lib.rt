@@ -1,4 +1,6 @@
 // The words of a block's node in the plan, stored as far as the plan has room.
+#![tactic(auto)]
+
 ghost use Rattle.std.specs.Prelude.{◌≡◌, ◌∷◌, [], map, ◌≤◌, get_or};
 ghost use Rattle.std.proofs.lemmas.List.Edits.{sets};
 ghost use Rattle.descriptor_fields.specs.Fields.{no_block};

@@ -1,4 +1,6 @@
 // References to earlier blocks.
+#![tactic(auto)]
+
 ghost use Rattle.std.specs.Prelude.{◌≡◌, false, ◌≤◌, ◌<◌, eqb, get_or};
 ghost use Rattle.descriptor_fields.specs.Layouts.{valued};
 ghost use Rattle.descriptor_fields.specs.Fields.{no_block, decides, format_by, fits, kind_fault, ref_fault};

@@ -1,5 +1,7 @@
 // The blocks of a descriptor, one after another. What the rules ask of an earlier block is kept in three words; its node's words go into the
 // plan, as far as it has room.
+#![tactic(auto)]
+
 ghost use Rattle.std.specs.Prelude.{◌≡◌, ◌+◌, ◌*◌, ◌≤◌, ◌<◌, length};
 ghost use Rattle.descriptor_blocks.specs.Descriptor.{blocksOf};
 ghost use Rattle.descriptor_fields.specs.Arrays.{Told, Roomy, elements_of};

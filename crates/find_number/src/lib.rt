@@ -1,4 +1,6 @@
 // The number of the element that a path leads to.
+#![tactic(auto)]
+
 ghost use Rattle.std.specs.Prelude.{◌≡◌, true, ◌+◌, ◌^◌, ◌<◌, get_or};
 ghost use Rattle.find_number.specs.Number.{Width, Gives};
 ghost use Rattle.protocol.specs.Scalars.{scalar};

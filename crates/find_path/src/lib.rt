@@ -1,4 +1,6 @@
 // Finds the element that a path leads to, and gives it back as a part of the slice that was lent, so that no byte is moved (R7.3).
+#![tactic(auto)]
+
 pub mod child;
 
 ghost use Rattle.std.specs.Prelude.{◌≡◌, ◌+◌, ◌≤◌, length};

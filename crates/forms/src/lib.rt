@@ -1,4 +1,6 @@
 // The enums and structs that the code and the definitions share, and the methods that make an intake's states and answers.
+#![tactic(auto)]
+
 ghost use Rattle.std.specs.Prelude.{◌≡◌};
 
 // What stands at a position of a message: a field that runs past the end, one whose content is not permitted, or its content.

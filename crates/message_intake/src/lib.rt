@@ -1,4 +1,6 @@
 // The intake: joins the deliveries of one side in room that the caller lends, and gives each message when it is whole (R10).
+#![tactic(auto)]
+
 ghost use Rattle.std.specs.Prelude.{◌≡◌, ◌++◌, ◌+◌, ◌-◌, ◌≤◌, ◌<◌, length, take, drop, get_or};
 ghost use Rattle.protocol.specs.Numbers.{be};
 ghost use Rattle.protocol.specs.Intake.{at_hand, take_by, SettlesTaken, TakesDelivery};

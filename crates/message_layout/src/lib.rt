@@ -1,4 +1,6 @@
 // The ten messages' layouts as tables of codes, for the reader and the writer to go by.
+#![tactic(auto)]
+
 ghost use Rattle.std.specs.Prelude.{◌≡◌, ◌+◌, ◌≤◌, ◌<◌, length, take, drop};
 ghost use Rattle.message_layout.specs.Tables.{codes, allowed_of, width_of, values_of, WidthOf, PartOf, CodeOf, server_start, client_start, start_of};
 ghost use Rattle.protocol.specs.Messages.{permits};

@@ -1,5 +1,7 @@
 // Reading a message: one interpreter over the layouts' table. A first pass judges and counts, a second puts the words into the list.
 // Where the caller lends scratch room, the first pass leaves the words there.
+#![tactic(auto)]
+
 ghost use Rattle.std.specs.Prelude.{◌≡◌, true, false, ◌+◌, ◌*◌, ◌≤◌, ◌<◌, length};
 ghost use Rattle.std.proofs.lemmas.List.Edits.{sets};
 ghost use Rattle.message_layout.specs.Tables.{codes, field_of, layout_at};

@@ -1,4 +1,6 @@
 // Writing a message: one interpreter over the layouts' table. A first pass judges and measures, a second puts the bytes out.
+#![tactic(auto)]
+
 ghost use Rattle.std.specs.Prelude.{◌≡◌, true, false, ◌+◌, ◌^◌, ◌≤◌, ◌<◌, length, drop};
 ghost use Rattle.message_layout.specs.Tables.{codes, field_of, layout_at};
 ghost use Rattle.message_layout.specs.Judged.{judged, judged_all};

@@ -1,5 +1,7 @@
 // Whether a plan is well formed (R4.4). The nodes are read once, in order. The starts of those read are kept, and so are their heights: a
 // start is found again by halving, so the time is that of the plan's words but for a logarithm.
+#![tactic(auto)]
+
 ghost use Rattle.std.specs.Prelude.{◌≡◌, ◌+◌, ◌-◌, ◌^◌, ◌≤◌, ◌<◌, min, length, get_or};
 ghost use Rattle.plan_check.specs.Reading.{Reads};
 ghost use Rattle.protocol.specs.Plans.{nodes_of, starts_in, without_type, plan_formed};

@@ -1,4 +1,6 @@
 // The height of a plan's node, by the starts and heights of the nodes before it, to which alone it may refer. A start is found by halving.
+#![tactic(auto)]
+
 ghost use Rattle.std.specs.Prelude.{◌≡◌, ◌+◌, ◌-◌, ◌*◌, ◌≤◌, ◌<◌, length, get_or};
 ghost use Rattle.plan_heights.specs.Scan.{known_of, Rising, Scanned, Among};
 ghost use Rattle.protocol.specs.Plans.{may_refer, all_cardinalities, pair_ref, pair_card, refer, refer_all, node_size, node_height, many_height};

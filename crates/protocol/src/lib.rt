@@ -1,1 +1,2 @@
 // The rules as definitions, in specs/: no code.
+#![tactic(auto)]

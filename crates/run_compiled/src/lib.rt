@@ -1,4 +1,6 @@
 // Compiling a descriptor and then running its plan (R4.14). The two share no more than the plan's words.
+#![tactic(auto)]
+
 ghost use Rattle.run_compiled.specs.Follows.{Follows};
 
 // Compiles a descriptor, and then runs the plan alone: one function, so that its contract is R4.14.

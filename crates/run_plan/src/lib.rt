@@ -1,4 +1,6 @@
 // Runs a plan over a value: checks it and lists it.
+#![tactic(auto)]
+
 ghost use Rattle.std.specs.Prelude.{◌≡◌, length, ◌≤◌, true};
 ghost use Rattle.plan_nodes.specs.Memo.{Memo};
 ghost use Rattle.run_plan.specs.Run.{early_fault, Gives, Checks};

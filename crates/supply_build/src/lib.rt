@@ -1,5 +1,7 @@
 // Builds a value from a supply: a value and its container's elements call each other. The elements of a container are a loop, so that the
 // stack grows with nesting only. Whatever the list claims, nothing is looked at that would pass the largest value.
+#![tactic(auto)]
+
 ghost use Rattle.std.specs.Prelude.{◌≡◌, true, List, ℕ, ◌+◌, ◌^◌, ◌<◌, ◌≤◌, length, get_or, drop};
 ghost use Rattle.plan_nodes.specs.Memo.{Memo};
 ghost use Rattle.plan_nodes.specs.Readers.{Refers, At};

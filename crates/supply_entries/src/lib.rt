@@ -1,5 +1,7 @@
 // What a value is built of from a supply (R8.1): the entries that are read, the heads that are put out before elements, the heads of
 // containers, and leaves.
+#![tactic(auto)]
+
 pub mod front;
 pub mod head;
 pub mod leaf;

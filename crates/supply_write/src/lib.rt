@@ -1,5 +1,7 @@
 // Writes a value from a supply: the value of R8.4, with reserved fields zero (R8.5). The bytes go into scratch room first, since a refusal may
 // change no byte of the output (R1.1).
+#![tactic(auto)]
+
 ghost use Rattle.std.specs.Prelude.{◌≡◌, true, length};
 ghost use Rattle.plan_nodes.specs.Memo.{Memo};
 ghost use Rattle.supply_entries.specs.Emitting.{put_at, stand_of};

@@ -1,1 +1,2 @@
 // No code: what this repository promises stands in specs/, and that it holds in proofs/.
+#![tactic(auto)]

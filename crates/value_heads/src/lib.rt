@@ -1,4 +1,6 @@
 // The heads of containers and of their elements, read from a container's own bytes. Each read answers an enum.
+#![tactic(auto)]
+
 pub mod element;
 pub mod parts;
 pub mod sparse;

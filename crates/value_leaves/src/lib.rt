@@ -1,6 +1,8 @@
 // Elements that are leaves, as most are: a loop over them spares each the calls of the walk. It ends before the first element that is no
 // leaf, not there or not permitted, and there the walk goes on. So nothing is refused here, and how far a stretch goes is a matter of
 // time alone: what is left after it leads to the same place.
+#![tactic(auto)]
+
 ghost use Rattle.std.specs.Prelude.{◌≡◌, ◌+◌, ◌*◌, ◌^◌, ◌<◌, ◌≤◌, length, take, drop, get_or, true};
 ghost use Rattle.value_parts.specs.Walk.{Holds, leaf_good, leaf_kind};
 ghost use Rattle.value_leaves.specs.Leaves.{FixedAt, SameAt, Ordered, Stretched, leaf_at, fixed_leaf, given_at, Gathers, gap_of};

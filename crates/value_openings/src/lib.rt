@@ -1,4 +1,6 @@
 // A container's own head, by the kind of the container.
+#![tactic(auto)]
+
 ghost use Rattle.std.specs.Prelude.{◌≡◌, false, ◌<◌};
 ghost use Rattle.protocol.specs.Numbers.{pick};
 ghost use Rattle.protocol.specs.Heads.{set_opening, count_opening, sparse_opening, flag, range_flags, bounds, range_opening, dimension};

@@ -1,4 +1,6 @@
 // What a walk over a value is made of: the heads of a node's values, the entries of the list, and where the walk stands.
+#![tactic(auto)]
+
 pub mod entry;
 pub mod node;
 

@@ -1,4 +1,6 @@
 // Whether a value's bytes are permitted: the twenty scalar formats, and enumerations.
+#![tactic(auto)]
+
 pub mod format;
 pub mod number;
 

@@ -1,6 +1,8 @@
 // The walk over a value, which checks it and lists it; stores past the end of the list do nothing, so that a walk with no list only checks
 // and counts. The function for a value and those for the elements that are left of a container call each other (R5.2, R9.11). The elements of
 // a container are a loop, so that the stack grows with nesting only.
+#![tactic(auto)]
+
 ghost use Rattle.std.specs.Prelude.{◌≡◌, true, ◌+◌, ◌*◌, ◌^◌, ◌<◌, ◌≤◌, length, get_or};
 ghost use Rattle.std.proofs.Math.Option.{some};
 ghost use Rattle.plan_nodes.specs.Memo.{Memo};

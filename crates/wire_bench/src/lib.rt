@@ -1,4 +1,6 @@
 // The text check for the benchmark to call by itself: the panel's library reaches it only through messages.
+#![tactic(auto)]
+
 ghost use Rattle.std.specs.Prelude.{◌≡◌};
 ghost use Rattle.protocol.specs.Text.{well_formed};
 
