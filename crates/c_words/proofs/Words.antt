@@ -80,7 +80,7 @@ part_stored l vs n k e h =
     let q : length (drop n l) ≤ k = omega arith in
     let z : drop k (drop n l) ≡ [] = drop_of_length-le (drop n l) q in
     let o : n + (0 + length vs) ≡ n + length vs = omega arith in
-    rw (t, z, append-nil, sets-eq vs (drop n l) 0 (omega arith), drop-drop, o, sets-eq vs l n (omega arith), append_assoc)
+    rw (t, z, append-nil, sets-eq vs (drop n l) 0 (omega arith), drop-drop, o, sets-eq vs l n (omega arith)) (simp append_assoc)
 
 module _ (first second words : List ℕ) (h : length first + length second ≤ 4 * length words) where
   pub both_taken : (w : List ℕ) → w ≡ sets words 0 (words_in first) → (part : List ℕ)
