@@ -4,7 +4,7 @@
 ghost use Rattle.std.specs.Prelude.{◌≡◌};
 
 // What stands at a position of a message: a field that runs past the end, one whose content is not permitted, or its content.
-#[derive(Drop)]
+#[derive(Clone, Copy)]
 pub enum FieldRead {
     Short,
     Barred,
@@ -12,7 +12,7 @@ pub enum FieldRead {
 }
 
 // A container's head: how many elements follow, the index of the first and where it stands; or the number of a refusal.
-#[derive(Drop)]
+#[derive(Clone, Copy)]
 pub enum Opening {
     Elements {
         count: usize,
@@ -24,7 +24,7 @@ pub enum Opening {
 
 // An element's head: its index, where its bytes start and how many they are; its index and the place past its head where it is absent;
 // or the number of a refusal.
-#[derive(Drop)]
+#[derive(Clone, Copy)]
 pub enum Head {
     Present {
         index: usize,
@@ -39,7 +39,7 @@ pub enum Head {
 }
 
 // A sparse element's index: one that is known and new, or the number of a refusal.
-#[derive(Drop)]
+#[derive(Clone, Copy)]
 pub enum Index {
     Known(usize),
     Bad(u32),
@@ -47,7 +47,7 @@ pub enum Index {
 
 // What a C call answers: a refusal's number and place, or two results.
 #[repr(C)]
-#[derive(Drop)]
+#[derive(Clone, Copy)]
 pub struct Answer {
     pub number: u32,
     pub place: u32,
@@ -57,7 +57,7 @@ pub struct Answer {
 
 // What the C call for the number of an element answers: a refusal's number and place, or its format and its bits.
 #[repr(C)]
-#[derive(Drop)]
+#[derive(Clone, Copy)]
 pub struct Number {
     pub number: u32,
     pub place: u32,
@@ -67,7 +67,7 @@ pub struct Number {
 
 // What the bytes at hand of an intake come to, before a message is judged (R10.3): so many are lacking; the number of a refusal, whose place is
 // 0; or a message of so many bytes is whole.
-#[derive(Drop)]
+#[derive(Clone, Copy)]
 pub enum AtHand {
     Lacking(usize),
     Unfit(u32),
@@ -77,7 +77,7 @@ pub enum AtHand {
 // The state of an intake (R10.1): the length of its room, the side whose messages it joins, how many bytes wait in the room, and number and
 // place of the refusal that ended it, or 0.
 #[repr(C)]
-#[derive(Drop)]
+#[derive(Clone, Copy)]
 pub struct Intake {
     pub room: u64,
     pub side: u32,
@@ -166,7 +166,7 @@ impl Intake {
 // What an intake answers to a delivery (R10.4, R10.5): its next state, a refusal's number and place, how many bytes were taken, the size of the
 // message that is whole now, or 0, and how many bytes are lacking. The header calls the size `length`.
 #[repr(C)]
-#[derive(Drop)]
+#[derive(Clone, Copy)]
 pub struct Delivery {
     pub intake: Intake,
     pub number: u32,
