@@ -1,6 +1,6 @@
 -- Nobody has to believe these definitions: they are the state of the code's check of a plan, the starts and the heights of the nodes read so
 -- far, as two lists of numbers.
-use Rattle.std.specs.Prelude.{◌≡◌, ℕ, zero, suc, ◌+◌, ◌≤◌, ◌<◌, List, [], ◌∷◌, ◌++◌, length, get_or}
+use Rattle.std.specs.Prelude.{◌≡◌, ℕ, zero, suc, ◌≤◌, ◌<◌, List, [], ◌∷◌, ◌++◌, length, get_or}
 use Rattle.protocol.specs.Plans.{PlanNode}
 
 -- what is known of the i-th node (R4.4, R4.5): its kind stands in the plan
