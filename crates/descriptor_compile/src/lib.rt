@@ -15,7 +15,7 @@ use descriptor_names::id;
 use descriptor_scan::Scan;
 
 // What compiling answers: refused, with number and place; or the words of the plan.
-#[derive(Drop)]
+#[derive(Clone, Copy)]
 pub enum Answer {
     Refused { no: u32, place: u32 },
     Words { words: u32 },

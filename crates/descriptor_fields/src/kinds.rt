@@ -46,7 +46,7 @@ pub const RANGE_ELEMENT: u8 = 20;
 
 // The kinds of a block's fields, each run of them up to the first END: the first fields, those of each item that they count, and the
 // same once more.
-#[derive(Drop)]
+#[derive(Clone, Copy)]
 pub struct BlockFields {
     pub head: [u8; 6],
     pub first: [u8; 6],

@@ -9,7 +9,7 @@ pub const NO_FORMAT: u32 = constants::FORMATS;
 
 // What is kept of a block while its fields are read: where the next field starts, how many items are left of a run, whether the shape
 // is free, the format (or NO_FORMAT), the height, the last cardinality, where the last name starts, and how many elements there are.
-#[derive(Drop)]
+#[derive(Clone, Copy)]
 pub struct Draft {
     pub at: usize,
     pub left: u32,

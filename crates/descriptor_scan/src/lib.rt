@@ -11,7 +11,7 @@ use descriptor_blocks::{Part, block};
 use descriptor_fields::{Draft, kinds};
 
 // Where the reading of the blocks ends: refused, with number and place; or how many there are, and where the plan ends.
-#[derive(Drop)]
+#[derive(Clone, Copy)]
 pub enum Scan {
     Refused { no: u32, place: u32 },
     Done { n: usize, to: usize },

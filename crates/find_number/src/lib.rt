@@ -10,7 +10,7 @@ ghost use Rattle.protocol.specs.Finding.{integral, extended, numbered, of_format
 
 // The number of an element: refused, with number and place; an integer's format and its bits, with its sign in all 64; a truth value; a float;
 // or the bits of a float that is a NaN.
-#[derive(Drop)]
+#[derive(Clone, Copy)]
 pub enum Number {
     Refused { no: u32, place: u32 },
     Integer { format: u32, bits: u64 },

@@ -161,7 +161,7 @@ pub fn width_of(code: u8) -> usize
 }
 
 // A code's permitted values: where they start and end in VALUES.
-#[derive(Drop)]
+#[derive(Clone, Copy)]
 pub struct Part {
     pub from: usize,
     pub to: usize,

@@ -13,7 +13,7 @@ ghost use Rattle.protocol.specs.Messages.{lengthened, textual, field_at, field_o
 use forms::FieldRead;
 
 // Where a walk over a layout ends: refused, with number and place; or past its last field, with the words of the list so far.
-#[derive(Drop)]
+#[derive(Clone, Copy)]
 pub enum Step {
     Refused { no: u32, place: u32 },
     Reached { at: usize, words: usize },
@@ -218,7 +218,7 @@ fn walk(
 }
 
 // What reading a message gives: refused, with number and place; or the bytes used and the words of the list.
-#[derive(Drop)]
+#[derive(Clone, Copy)]
 pub enum Answer {
     Refused { no: u32, place: u32 },
     Read { used: u32, words: u32 },

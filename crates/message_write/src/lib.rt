@@ -12,7 +12,7 @@ ghost use Rattle.protocol.specs.Messages.{fitting, field_bytes, next_field, fiel
 const LIMIT: usize = constants::MOST_MESSAGE + 1;
 
 // A writing so far: a fault, or the next word of the list and the next byte of the output.
-#[derive(Drop)]
+#[derive(Clone, Copy)]
 pub enum Emit {
     Faulty,
     Done { word: usize, at: usize },
@@ -185,7 +185,7 @@ fn emit_walk(
 }
 
 // What writing a message gives: refused, with the number; or the bytes of the message.
-#[derive(Drop)]
+#[derive(Clone, Copy)]
 pub enum Wrote {
     Refused { no: u32 },
     Whole { len: u32 },

@@ -11,7 +11,7 @@ use plan_nodes::words::size_at;
 use wire::words::wide;
 
 // What reading the nodes gives: the plan is not well formed, or how many there are.
-#[derive(Drop)]
+#[derive(Clone, Copy)]
 pub enum Count {
     Faulty,
     Nodes(usize),

@@ -10,7 +10,7 @@ ghost use Rattle.protocol.specs.Running.{list_roomed, value_by, checked, run_of}
 use value_parts::Step;
 
 // What a run answers: refused, with number and place; or the words of the list.
-#[derive(Drop)]
+#[derive(Clone, Copy)]
 pub enum Answer {
     Refused { no: u32, place: u32 },
     Listed { words: u32 },

@@ -10,7 +10,7 @@ pub mod list;
 use value_heads::sparse::Seen;
 
 // The five words of a list's entry.
-#[derive(Drop)]
+#[derive(Clone, Copy)]
 pub struct Entry {
     pub node: u32,
     pub index: u32,
@@ -20,28 +20,28 @@ pub struct Entry {
 }
 
 // The next entry of a list, if its words are all there.
-#[derive(Drop)]
+#[derive(Clone, Copy)]
 pub enum Read {
     Short,
     Whole(Entry),
 }
 
 // A container's head that was put out: the index of its first element, and the next byte of the output; or a fault.
-#[derive(Drop)]
+#[derive(Clone, Copy)]
 pub enum Opened {
     Shut,
     Open { first: usize, at: usize },
 }
 
 // A building so far: a fault, or the next word of the list and the next byte of the output.
-#[derive(Drop)]
+#[derive(Clone, Copy)]
 pub enum Built {
     Failed,
     Done { word: usize, at: usize },
 }
 
 // Where a row of elements stands: the index of its next element, the next word of the list and the next byte of the output.
-#[derive(Drop)]
+#[derive(Clone, Copy)]
 pub struct Place {
     pub index: usize,
     pub word: usize,
@@ -49,7 +49,7 @@ pub struct Place {
 }
 
 // A leaf that was put out, and how many bytes it has with its head; or another element, and nothing was put out.
-#[derive(Drop)]
+#[derive(Clone, Copy)]
 pub enum Emitted {
     Leaf { size: usize },
     Other,
@@ -57,7 +57,7 @@ pub enum Emitted {
 
 // Where the leaves that a sparse object starts with end: the set of their indexes and how many of those are required, how many elements are
 // left, the next word of the list and the next byte of the output.
-#[derive(Drop)]
+#[derive(Clone, Copy)]
 pub struct Gathered {
     pub seen: Seen,
     pub given: usize,

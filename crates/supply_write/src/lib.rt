@@ -13,7 +13,7 @@ ghost use Rattle.protocol.specs.Building.{buildOf, made_by, write_of};
 use supply_entries::{Built, Read, list};
 
 // What writing a value gives: refused, with the number; or the bytes of the value.
-#[derive(Drop)]
+#[derive(Clone, Copy)]
 pub enum Answer {
     Refused { no: u32 },
     Written { bytes: u32 },

@@ -14,7 +14,7 @@ use value_heads::sparse::Seen;
 use value_parts::{Gathered, entry, gather, node};
 
 // An element that is a leaf, is there and is permitted: where its bytes start, and how many they are. Or another.
-#[derive(Drop)]
+#[derive(Clone, Copy)]
 pub enum Leaf {
     Good { start: usize, size: usize },
     Other,
@@ -22,7 +22,7 @@ pub enum Leaf {
 
 // Where a stretch of elements ends: how many of the container's elements are left, where the next one's head stands, and the words of the
 // list so far.
-#[derive(Drop)]
+#[derive(Clone, Copy)]
 pub struct Stretch {
     pub left: usize,
     pub pos: usize,
@@ -31,7 +31,7 @@ pub struct Stretch {
 
 // An element of a sparse object that is a leaf, is there and is permitted: its index, its node, where its bytes start and how many they are.
 // Or another.
-#[derive(Drop)]
+#[derive(Clone, Copy)]
 pub enum Given {
     Whole {
         index: usize,
@@ -43,7 +43,7 @@ pub enum Given {
 }
 
 // How the leaves of a set are told: by their size, and whether they are a time of day.
-#[derive(Drop)]
+#[derive(Clone, Copy)]
 struct Same {
     size: usize,
     timed: bool,

@@ -9,7 +9,7 @@ ghost use Rattle.std.specs.Prelude.{◌≡◌};
 use value_heads::sparse::Seen;
 
 // Where a walk over a value ends: refused, with number and place; or past the last word of its entries.
-#[derive(Drop)]
+#[derive(Clone, Copy)]
 pub enum Step {
     Refused { no: u32, place: u32 },
     Reached { at: u32 },
@@ -17,7 +17,7 @@ pub enum Step {
 
 // Where a stretch of a sparse object's elements ends: the set of their indexes and how many of those are required, how many elements
 // are left, where the next one stands, and the words of the list so far.
-#[derive(Drop)]
+#[derive(Clone, Copy)]
 pub struct Gathered {
     pub seen: Seen,
     pub given: usize,
