@@ -17,7 +17,7 @@ pub enum Step {
 
 // Where a stretch of a sparse object's elements ends: the set of their indexes and how many of those are required, how many elements
 // are left, where the next one stands, and the words of the list so far.
-#[derive(Clone, Copy)]
+#[derive(Drop)]
 pub struct Gathered {
     pub seen: Seen,
     pub given: usize,
