@@ -57,7 +57,7 @@ pub enum Emitted {
 
 // Where the leaves that a sparse object starts with end: the set of their indexes and how many of those are required, how many elements are
 // left, the next word of the list and the next byte of the output.
-#[derive(Clone, Copy)]
+#[derive(Drop)]
 pub struct Gathered {
     pub seen: Seen,
     pub given: usize,
