@@ -1,0 +1,54 @@
+-- `descriptor_blocks::field::fault` meets its contract.
+use mathlib.Core.Path.{sym, ap, ◌∙◌}
+use native.Mathlib.Omega.{arith}
+use Rattle.descriptor_fields.specs.Fields.{number_fault, count_fault, ref_fault}
+use Rattle.descriptor_fields.proofs.Extents.{extent_id, extent_number}
+use Rattle.descriptor_blocks.proofs.Rules.{fault_id, fault_text, fault_number, fault_count, fault_reference}
+use Rattle.descriptor_blocks.proofs.field.fault.Goals as goal
+
+pub fault-requires : goal.fault-requires
+fault-requires c = (
+  c.requires.0,
+  omega (
+    arith,
+    c.requires.2,
+    extent_id c.args.d.now c.args.code c.args.x.at c.if-code-eq-ID.true,
+  ),
+)
+
+pub returns-then-code-eq-ID : goal.returns-then-code-eq-ID
+returns-then-code-eq-ID c = c.fault.ensures ∙ sym (fault_id _ _ _ _ _ _ c.if-code-eq-ID.true)
+
+pub returns-then-code-le-NAME : goal.returns-then-code-le-NAME
+returns-then-code-le-NAME c =
+    c.fault-then-code-le-NAME.ensures ∙ sym (fault_text _ _ _ _ _ _ c.if-code-eq-ID.false c.if-code-le-NAME.true)
+
+pub number_at-v-requires : goal.number_at-v-requires
+number_at-v-requires c =
+    omega (
+      arith,
+      c.requires.2,
+      extent_number c.args.d.now c.args.code
+          c.args.x.at c.if-code-le-NAME.false,
+    )
+
+pub returns-then-code-le-DIMENSIONS : goal.returns-then-code-le-DIMENSIONS
+returns-then-code-le-DIMENSIONS c =
+    c.fault-then-code-le-DIMENSIONS.ensures
+    ∙ ap (number_fault _) c.number_at-v.ensures
+    ∙ sym (fault_number _ _ _ _ _ _ c.if-code-eq-ID.false c.if-code-le-NAME.false c.if-code-le-DIMENSIONS.true)
+
+pub returns-then-code-le-COUNT : goal.returns-then-code-le-COUNT
+returns-then-code-le-COUNT c =
+    c.count_fault.ensures
+    ∙ ap (count_fault _ _ _) c.number_at-v.ensures
+    ∙ sym (fault_count _ _ _ _ _ _ c.if-code-eq-ID.false c.if-code-le-NAME.false c.if-code-le-DIMENSIONS.false c.if-code-le-COUNT.true)
+
+pub fault-requires-2 : goal.fault-requires-2
+fault-requires-2 c = c.requires.0
+
+pub returns : goal.returns
+returns c =
+    c.fault-2.ensures
+    ∙ ap (ref_fault _ _ _ _ _) c.number_at-v.ensures
+    ∙ sym (fault_reference _ _ _ _ _ _ c.if-code-eq-ID.false c.if-code-le-NAME.false c.if-code-le-DIMENSIONS.false c.if-code-le-COUNT.false)
