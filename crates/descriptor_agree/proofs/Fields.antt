@@ -3,7 +3,7 @@ use mathlib.Core.Path.{◌≡◌, refl, ap, sym, ◌∙◌}
 use mathlib.Core.Bool.{Bool, true, false, not}
 use mathlib.Core.List.{List, [], ◌∷◌, map}
 use mathlib.Core.Option.{none, some}
-use Prim.Native.Nat.{ℕ, zero, suc, ◌+◌, ◌-◌, ◌≤◌, ◌<◌}
+use Prim.Native.Nat.{ℕ, zero, suc, ◌+◌, ◌≤◌, ◌<◌}
 use native.Mathlib.Omega.{arith}
 use native.Mathlib.Nat.{not-suc-le-zero}
 use lib.Dec.{leb, ltb, eqb}
@@ -42,6 +42,8 @@ module _ (d : List ℕ) where
 
   pub pairs_length : (ks : List Known) (bs : List Block) → Pairs ks bs → length ks ≡ length bs
   pairs_length [] [] p = refl
+  pairs_length [] (b ∷ bs) p = elim p [ ]
+  pairs_length (k ∷ ks) [] p = elim p [ ]
   pairs_length (k ∷ ks) (b ∷ bs) p = ap suc (pairs_length ks bs p.1)
 
   pub pairs_at : (ks : List Known) (bs : List Block) → Pairs ks bs → (t : ℕ) → t < length ks → (b : Block) × (get_elem? bs t ≡ some b) × Pair d (get_or ks t no_block) b
@@ -52,17 +54,23 @@ module _ (d : List ℕ) where
 
   pub pairs_past : (ks : List Known) (bs : List Block) → Pairs ks bs → (t : ℕ) → length ks ≤ t → get_elem? bs t ≡ none
   pairs_past [] [] p t h = refl
+  pairs_past [] (b ∷ bs) p t h = elim p [ ]
+  pairs_past (k ∷ ks) [] p t h = elim p [ ]
   pairs_past (k ∷ ks) (b ∷ bs) p zero h = absurd (not-suc-le-zero h)
   pairs_past (k ∷ ks) (b ∷ bs) p (suc t) h = pairs_past ks bs p.1 t (omega arith)
 
   pub pairs_height : (ks : List Known) (bs : List Block) → Pairs ks bs → (t : ℕ) → (get_or ks t no_block).height ≡ height_at bs t
   unfolding height_at
   pairs_height [] [] p t = refl
+  pairs_height [] (b ∷ bs) p t = elim p [ ]
+  pairs_height (k ∷ ks) [] p t = elim p [ ]
   pairs_height (k ∷ ks) (b ∷ bs) p zero = p.0.heights
   pairs_height (k ∷ ks) (b ∷ bs) p (suc t) = pairs_height ks bs p.1 t
 
   pub pairs_tag : (ks : List Known) (bs : List Block) → Pairs ks bs → (t : ℕ) → (get_or ks t no_block).tag ≡ get_or (map (λ (b : Block). b.tag) bs) t 0
   pairs_tag [] [] p t = refl
+  pairs_tag [] (b ∷ bs) p t = elim p [ ]
+  pairs_tag (k ∷ ks) [] p t = elim p [ ]
   pairs_tag (k ∷ ks) (b ∷ bs) p zero = p.0.tags
   pairs_tag (k ∷ ks) (b ∷ bs) p (suc t) = pairs_tag ks bs p.1 t
 
@@ -76,6 +84,8 @@ module _ (d : List ℕ) where
   pub pairs_taken : (ks : List Known) (bs : List Block) → Pairs ks bs → (i : ℕ) → taken d ks i ≡ any (eqb i) (map (λ (b : Block). b.id) bs)
   unfolding taken any
   pairs_taken [] [] p i = refl
+  pairs_taken [] (b ∷ bs) p i = elim p [ ]
+  pairs_taken (k ∷ ks) [] p i = elim p [ ]
   pairs_taken (k ∷ ks) (b ∷ bs) p i = rw (p.0.ids, eqb-sym b.id i) (ap (pick (eqb i b.id) true) (pairs_taken ks bs p.1 i))
 
 heard : (d : List ℕ) (fs : List Element) (t : Text) → any (λ e. same_bytes (text_at d e.name) t) fs ≡ any (λ o. same_bytes o t) (map (λ (e : Element). text_at d e.name) fs)

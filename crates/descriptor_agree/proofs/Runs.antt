@@ -2,7 +2,7 @@
 use mathlib.Core.Path.{◌≡◌, refl, sym, subst}
 use mathlib.Core.Bool.{false}
 use mathlib.Core.List.{List, [], ◌∷◌, ◌++◌}
-use Prim.Native.Nat.{ℕ, zero, suc, ◌+◌, ◌-◌, ◌≤◌}
+use Prim.Native.Nat.{ℕ, zero, suc, ◌+◌, ◌≤◌}
 use lib.ListN.{length, take, drop}
 use Rattle.descriptor_fields.specs.Layouts.{TEXT, BOOL, ANCESTORS, ANCESTOR}
 use Rattle.descriptor_fields.specs.Fields.{Known, Element, extent, text_at, number_at, width_of, formatless, decides, fault as fault_of, kept, grown, height_after}

@@ -3,7 +3,7 @@ use mathlib.Core.Path.{◌≡◌, refl, ap, ap₂, sym, ◌∙◌}
 use mathlib.Core.Bool.{Bool, true, false}
 use mathlib.Core.List.{List, [], ◌∷◌, ◌++◌, map, map-append, append_assoc}
 use mathlib.Core.Option.{Option, none, some}
-use Prim.Native.Nat.{ℕ, zero, suc, ◌+◌, ◌-◌, ◌≤◌, ◌<◌}
+use Prim.Native.Nat.{ℕ, zero, suc, ◌+◌, ◌≤◌, ◌<◌}
 use native.Mathlib.Omega.{arith}
 use native.Mathlib.Decide.{dec_lt}
 use native.Mathlib.Numerals.{add-one}
@@ -187,6 +187,8 @@ end_at bs = rw take-length (ap (λ (n : ℕ). 2 + n) (by_length (λ r. r) (node_
 
 pairs_more : (d : List ℕ) (ks : List Known) (bs : List Block) (k : Known) (b : Block) → Pairs d ks bs → Pair d k b → Pairs d (ks ++ (k ∷ [])) (bs ++ (b ∷ []))
 pairs_more d [] [] k b p q = (q, tt)
+pairs_more d [] (c ∷ bs) k b p q = elim p [ ]
+pairs_more d (j ∷ ks) [] k b p q = elim p [ ]
 pairs_more d (j ∷ ks) (c ∷ bs) k b p q = (p.0, pairs_more d ks bs k b p.1 q)
 
 module _ (d : List ℕ) (os : List OldBlock) (bs : List Block) (t : Twins d os bs) (o : OldBlock) (b : Block) (p : Pair d (summary o) b)
