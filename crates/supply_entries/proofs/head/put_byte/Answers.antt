@@ -1,0 +1,7 @@
+-- `supply_entries::head::put_byte` meets its contract: a store past the end does nothing.
+use mathlib.Core.Path.{sym}
+use lib.Seq.{set_out}
+use Rattle.supply_entries.proofs.head.put_byte.Goals as goal
+
+pub returns-else-at-out : goal.returns-else-at-out
+returns-else-at-out c = sym (set_out _ _ _ c.if-at-out.false)
