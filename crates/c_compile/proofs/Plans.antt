@@ -7,7 +7,7 @@ use native.Mathlib.Omega.{arith}
 use lib.Dec.{ltb}
 use lib.ListN.{length, take}
 use Rattle.protocol.specs.Descriptors.{bare_form}
-use Rattle.descriptor_blocks.specs.Descriptor.{plan, description_of, plan_of, roomed, compile_of}
+use Rattle.descriptor_blocks.specs.Descriptor.{description_of, plan_of, roomed, compile_of}
 use Rattle.descriptor_agree.proofs.Whole.{refused_by_lem, planned_by}
 use Rattle.descriptor_compile.specs.Checking.{Checks}
 use Rattle.descriptor_compile.specs.declared.Answer as Compile
