@@ -40,16 +40,16 @@ module _ (o : Put) (a : Supply.Answer) (out out' : List ℕ) (p : Puts o a out o
 -- ---- the crossing of plan and list
 
 module _ (plan list src : List ℕ) (r : Answer) (out out' : List ℕ) (c : BothCross plan list) where
-  both-crossed : SettlesPut (write_of (words_in plan) (words_in list) src (length out)) r out out' → WritesValue plan list src r out out'
+  both_crossed : SettlesPut (write_of (words_in plan) (words_in list) src (length out)) r out out' → WritesValue plan list src r out out'
   unfolding write_from pick
-  both-crossed x = rw (c.plan_crosses, c.list_crosses) x
+  both_crossed x = rw (c.plan_crosses, c.list_crosses) x
 
   pub writes_crossed : (words : List ℕ) → length plan + length list ≤ 4 * length words
       → (words' : List ℕ) → words' ≡ sets words 0 (words_in plan ++ words_in list)
       → SettlesPut (write_of (take (length plan / 4) words') (take (length plan / 4 + length list / 4 - length plan / 4) (drop (length plan / 4) words')) src (length out)) r out out'
       → WritesValue plan list src r out out'
   writes_crossed words h words' e x =
-      both-crossed (rw (first_taken plan list words h words' e, second_taken plan list words h words' e (length plan / 4 + length list / 4 - length plan / 4) (omega arith)) at x)
+      both_crossed (rw (first_taken plan list words h words' e, second_taken plan list words h words' e (length plan / 4 + length list / 4 - length plan / 4) (omega arith)) at x)
 
 module _ (plan list src out : List ℕ) where
   pub plan_uncrossed : crosses (length plan) ≡ false → WritesValue plan list src (refusal 33 0) out out

@@ -10,9 +10,9 @@ use lib.ListN.{length, take, drop, get_or, set, length-take, length-drop, length
 use lib.Seq.{sets, sets-eq, length-sets, drop-cons, drop-drop, take_all, take_at, drop_at}
 use borrow.Author.Tests.{eq-eqb, le-leb, lt-leb, leb-true, leb-false, lt-ltb, le-ltb, ltb-false}
 use borrow.Rule.Slice.PartMut.{put_mid}
-use Rattle.wire.proofs.Numbers.{be_bytes, length-bytes}
+use Rattle.wire.proofs.Numbers.{be_bytes, length_bytes}
 use Rattle.wire.proofs.Picks.{pick_case, pick_yes, both}
-use Rattle.wire.proofs.Stores.{sets-append}
+use Rattle.wire.proofs.Stores.{sets_append}
 use Rattle.c_words.specs.Answers.{WordsOut}
 use Rattle.forms.specs.declared.Answer.{Answer}
 use Rattle.protocol.specs.Numbers.{pick, be, bytes_be}
@@ -91,7 +91,7 @@ module _ (first second words : List ℕ) (h : length first + length second ≤ 4
       let n : length first / 4 ≡ 0 + length (words_in first) = omega (arith, length_in first) in
       ap (put_mid (length first / 4) (length w - length first / 4) w) f
       ∙ part_stored w (words_in second) (length first / 4) (length w - length first / 4) (omega arith) (omega (arith, length_in second))
-      ∙ rw (e, n) (sets-append words 0 (words_in first) (words_in second))
+      ∙ rw (e, n) (sets_append words 0 (words_in first) (words_in second))
 
   -- the two runs' words are found again
   module _ (words' : List ℕ) (e : words' ≡ sets words 0 (words_in first ++ words_in second)) where
@@ -122,14 +122,14 @@ module _ (first second words : List ℕ) (h : length first + length second ≤ 4
 pub length_out : (ws : List ℕ) → length (bytes_out ws) ≡ 4 * length ws
 unfolding bytes_out
 length_out [] = refl
-length_out (w ∷ ws) = omega (arith, length-append (bytes_be 4 w) (bytes_out ws), length-bytes 4 w, length_out ws)
+length_out (w ∷ ws) = omega (arith, length-append (bytes_be 4 w) (bytes_out ws), length_bytes 4 w, length_out ws)
 
 -- words cross and come back
 pub words_back : (ws : List ℕ) → ((j : ℕ) → get_or ws j 0 < 2 ^ 32) → words_in (bytes_out ws) ≡ ws
 unfolding words_in bytes_out
 words_back [] h = refl
 words_back (w ∷ ws) h =
-    let n : length (bytes_be 4 w) ≡ 4 = length-bytes 4 w in
+    let n : length (bytes_be 4 w) ≡ 4 = length_bytes 4 w in
     let l : 4 ≤ length (bytes_be 4 w ++ bytes_out ws) = omega (arith, length-append (bytes_be 4 w) (bytes_out ws)) in
     words_next (bytes_be 4 w ++ bytes_out ws) l
     ∙ ap₂ (λ (a b : List ℕ). be a ∷ words_in b) (take_at (bytes_be 4 w) (bytes_out ws) 4 n) (drop_at (bytes_be 4 w) (bytes_out ws) 4 n)
@@ -140,9 +140,9 @@ module _ (words out : List ℕ) (i : ℕ) where
       → sets out (4 * i) (bytes_out (drop i words)) ≡ sets out' (4 * (i + 1)) (bytes_out (drop (i + 1) words))
   unfolding bytes_out
   put_next h out' e =
-      let k : 4 * i + length (bytes_be 4 (get_or words i 0)) ≡ 4 * (i + 1) = omega (arith, length-bytes 4 (get_or words i 0)) in
+      let k : 4 * i + length (bytes_be 4 (get_or words i 0)) ≡ 4 * (i + 1) = omega (arith, length_bytes 4 (get_or words i 0)) in
       rw (drop-cons words i 0)
-      (sym (sets-append out (4 * i) (bytes_be 4 (get_or words i 0)) (bytes_out (drop (suc i) words)))
+      (sym (sets_append out (4 * i) (bytes_be 4 (get_or words i 0)) (bytes_out (drop (suc i) words)))
       ∙ rw (k, ← e, add-one))
 
   pub put_done : length words ≤ i → sets out (4 * i) (bytes_out (drop i words)) ≡ out

@@ -35,12 +35,12 @@ module _ (d : List ℕ) where
     agree_noted is (next x es js) (unparsed m) e = e
     agree_noted is (next x es js) (parsed a s) e = e
 
-    agree-unnoted : (is : List Item) (r : Reading) (p : Parsed A) → Agree R (noted is r) p → Agree R r p
+    agree_unnoted : (is : List Item) (r : Reading) (p : Parsed A) → Agree R (noted is r) p → Agree R r p
     unfolding noted
-    agree-unnoted is (stop n) (unparsed m) e = e
-    agree-unnoted is (stop n) (parsed a s) e = e
-    agree-unnoted is (next x es js) (unparsed m) e = e
-    agree-unnoted is (next x es js) (parsed a s) e = e
+    agree_unnoted is (stop n) (unparsed m) e = e
+    agree_unnoted is (stop n) (parsed a s) e = e
+    agree_unnoted is (next x es js) (unparsed m) e = e
+    agree_unnoted is (next x es js) (parsed a s) e = e
 
   -- one after another
   module _ {A B : Type 0} (R : Draft → List Element → A → Type 0) (Q : Draft → List Element → B → Type 0) where
@@ -67,11 +67,11 @@ module _ (d : List ℕ) where
     pub agree_assoc : (r : Reading) (f g : Draft → List Element → Reading) (p : Parsed B) → Agree Q (and_then r (λ x es. and_then (f x es) g)) p → Agree Q (and_then (and_then r f) g) p
     unfolding and_then noted
     agree_assoc (stop n) f g p e = e
-    agree_assoc (next x es is) f g p e = inner is (f x es) g p (agree-unnoted Q is (and_then (f x es) g) p e)
+    agree_assoc (next x es is) f g p e = inner is (f x es) g p (agree_unnoted Q is (and_then (f x es) g) p e)
       where
         inner : (is : List Item) (r : Reading) (g : Draft → List Element → Reading) (p : Parsed B) → Agree Q (and_then r g) p → Agree Q (and_then (noted is r) g) p
         inner is (stop n) g p e = e
-        inner is (next y fs js) g p e = agree_noted Q (is ++ js) (g y fs) p (agree-unnoted Q js (g y fs) p e)
+        inner is (next y fs js) g p e = agree_noted Q (is ++ js) (g y fs) p (agree_unnoted Q js (g y fs) p e)
 
     pub agree_unassoc : (r : Reading) (f g : Draft → List Element → Reading) (p : Parsed B) → Agree Q (and_then (and_then r f) g) p → Agree Q (and_then r (λ x es. and_then (f x es) g)) p
     unfolding and_then noted
@@ -80,7 +80,7 @@ module _ (d : List ℕ) where
       where
         inner : (is : List Item) (r : Reading) (g : Draft → List Element → Reading) (p : Parsed B) → Agree Q (and_then (noted is r) g) p → Agree Q (and_then r g) p
         inner is (stop n) g p e = e
-        inner is (next y fs js) g p e = agree_noted Q js (g y fs) p (agree-unnoted Q (is ++ js) (g y fs) p e)
+        inner is (next y fs js) g p e = agree_noted Q js (g y fs) p (agree_unnoted Q (is ++ js) (g y fs) p e)
 
 -- ---- choices
 
@@ -149,8 +149,8 @@ module _ (d : List ℕ) (known : List Known) (tag : ℕ) where
 -- ---- what is whole
 
 module _ (d : List ℕ) (at : ℕ) (inside : at ≤ length d) where
-  leb-at : (n : ℕ) → leb n (length (drop at d)) ≡ leb (at + n) (length d)
-  leb-at n = go (leb (at + n) (length d)) refl
+  leb_at : (n : ℕ) → leb n (length (drop at d)) ≡ leb (at + n) (length d)
+  leb_at n = go (leb (at + n) (length d)) refl
     where
       go : (t : Bool) → leb (at + n) (length d) ≡ t → leb n (length (drop at d)) ≡ t
       go true e = le-leb n (length (drop at d)) (let h = leb-true (at + n) (length d) e in simp length-drop (omega arith))
@@ -158,7 +158,7 @@ module _ (d : List ℕ) (at : ℕ) (inside : at ≤ length d) where
 
   pub bytes_at : (n : ℕ) → some_bytes n (drop at d) ≡ judged d at n 0 (take n (drop at d))
   unfolding some_bytes judged verdict pick
-  bytes_at n = rw (leb-at n, drop-drop)
+  bytes_at n = rw (leb_at n, drop-drop)
 
   pub judged_then : {A B : Type 0} (size : ℕ) (a : A) (g : A → Reader B) → parse_then (judged d at size 0 a) g ≡ pick (leb (at + size) (length d)) (g a (drop (at + size) d)) (unparsed 10)
   unfolding judged verdict parse_then pick
@@ -192,17 +192,17 @@ module _ (d : List ℕ) (at : ℕ) (inside : at ≤ length d) where
 
 -- a text: how long it is, and then its bytes
 module _ (d : List ℕ) (at : ℕ) (inside : at ≤ length d) where
-  abbrev pub textSize : ℕ
-  textSize = pick (leb (at + 4) (length d)) (4 + be (take 4 (drop at d))) 4
+  abbrev pub text_size : ℕ
+  text_size = pick (leb (at + 4) (length d)) (4 + be (take 4 (drop at d))) 4
 
-  content-at : parse_then (number_field 4 (drop at d)) some_bytes ≡ judged d at textSize 0 (text_at d at)
+  content_at_lem : parse_then (number_field 4 (drop at d)) some_bytes ≡ judged d at text_size 0 (text_at d at)
   unfolding pick text_at judged verdict
-  content-at = rw (number_at_lem d at inside 4, judged_then d at inside 4 (be (take 4 (drop at d))) some_bytes) (go (leb (at + 4) (length d)) refl)
+  content_at_lem = rw (number_at_lem d at inside 4, judged_then d at inside 4 (be (take 4 (drop at d))) some_bytes) (go (leb (at + 4) (length d)) refl)
     where
-      go : (t : Bool) → leb (at + 4) (length d) ≡ t → pick (leb (at + 4) (length d)) (some_bytes (be (take 4 (drop at d))) (drop (at + 4) d)) (unparsed 10) ≡ judged d at textSize 0 (text_at d at)
+      go : (t : Bool) → leb (at + 4) (length d) ≡ t → pick (leb (at + 4) (length d)) (some_bytes (be (take 4 (drop at d))) (drop (at + 4) d)) (unparsed 10) ≡ judged d at text_size 0 (text_at d at)
       go true e = rw e (bytes_at d (at + 4) (leb-true (at + 4) (length d) e) (be (take 4 (drop at d))) ∙ rw add_assoc)
       go false e = rw e (rw e)
 
-  pub text_at_lem : text_field (drop at d) ≡ judged d at textSize (pick (well_formed (text_at d at)) 0 12) (text_at d at)
+  pub text_at_lem : text_field (drop at d) ≡ judged d at text_size (pick (well_formed (text_at d at)) 0 12) (text_at d at)
   unfolding text_field
-  text_at_lem = checked_at d at inside 11 well_formed (λ s. parse_then (number_field 4 s) some_bytes) textSize (text_at d at) content-at
+  text_at_lem = checked_at d at inside 11 well_formed (λ s. parse_then (number_field 4 s) some_bytes) text_size (text_at d at) content_at_lem

@@ -14,8 +14,8 @@ use Rattle.wire.proofs.Tables.{each_at}
 use Rattle.descriptor_fields.specs.Layouts.{ID, layout, known_tag}
 use Rattle.descriptor_fields.specs.Fields.{Known, Element, id_at, format_of as oldFormat, kept, grown, height_after, format_after}
 use Rattle.descriptor_fields.specs.declared.Draft.{Draft}
-use Rattle.descriptor_blocks.specs.Blocks.{Reading, and_then, field, fields, items, section, blockFrom}
-use Rattle.protocol.specs.Descriptors.{Block, BlockKind, types, Reader, parse_then, give, newId, height_over, indexedBlock, annotationBlock}
+use Rattle.descriptor_blocks.specs.Blocks.{Reading, and_then, field, fields, items, section, block_from}
+use Rattle.protocol.specs.Descriptors.{Block, BlockKind, types, Reader, parse_then, give, new_id, height_over, indexed_block, annotation_block}
 use Rattle.descriptor_agree.proofs.Agree.{Agree, agree_map, agree_assoc, agree_unassoc, agree_field}
 use Rattle.descriptor_agree.proofs.Fields.{Pairs, id_same}
 use Rattle.descriptor_agree.proofs.Runs.{rest, Fresh}
@@ -41,21 +41,21 @@ abbrev pub tags : List ℕ
 tags = 0 ∷ 1 ∷ 3 ∷ 4 ∷ 5 ∷ 6 ∷ 7 ∷ 8 ∷ 9 ∷ 10 ∷ 11 ∷ 13 ∷ []
 
 module _ (d : List ℕ) (known : List Known) (bs : List Block) (pairs : Pairs d known bs) (at : ℕ) (inside : at ≤ length d) where
-  abbrev blockBy : ℕ → (ℕ → Reader BlockKind) → Reader (Option Block)
-  blockBy tag K s = parse_then (newId bs s) (λ id s. parse_then (K id s) (λ kind. give (some (record { tag = tag; id = id; kind = kind; height = height_over bs 1 (types kind) }))))
+  abbrev block_by : ℕ → (ℕ → Reader BlockKind) → Reader (Option Block)
+  block_by tag K s = parse_then (new_id bs s) (λ id s. parse_then (K id s) (λ kind. give (some (record { tag = tag; id = id; kind = kind; height = height_over bs 1 (types kind) }))))
 
-  from-id : (tag : ℕ) (cs is : List ℕ) (k : Draft → List Element → Reading) (K : ℕ → Reader BlockKind)
+  from_id : (tag : ℕ) (cs is : List ℕ) (k : Draft → List Element → Reading) (K : ℕ → Reader BlockKind)
       → ((i : ℕ) (y : Draft) → y.at ≤ length d → Fresh y [] → y.left ≡ 0 → y.format ≡ oldFormat i → Agree d (Final known bs tag) (and_then (rest d known tag cs is y []) k) (K i (drop y.at d)))
-      → Agree d (Twin d known bs tag at) (and_then (section d known tag (ID ∷ cs) is (blank at) []) k) (blockBy tag K (drop at d))
+      → Agree d (Twin d known bs tag at) (and_then (section d known tag (ID ∷ cs) is (blank at) []) k) (block_by tag K (drop at d))
   unfolding section fields rest kept height_after format_after grown pick id_at
-  from-id tag cs is k K all =
+  from_id tag cs is k K all =
       let Q = Twin d known bs tag at in
       let x = blank at in
       let i = be (take 16 (drop at d)) in
       let last : Draft → List Element → Reading = λ y fs. items d known tag is y.left y fs in
       agree_assoc d Q (and_then (field d known tag ID x []) (fields d known tag cs)) last k _
       (agree_assoc d Q (field d known tag ID x []) (fields d known tag cs) (λ y fs. and_then (last y fs) k) _
-      (agree_field d known tag Q ID x [] (newId bs (drop at d)) i _ _ (id_same d known tag bs pairs x [] inside) (λ l z.
+      (agree_field d known tag Q ID x [] (new_id bs (drop at d)) i _ _ (id_same d known tag bs pairs x [] inside) (λ l z.
       let y = kept d known tag ID x in
       agree_unassoc d Q (fields d known tag cs y []) last k _
       (agree_map d (Final known bs tag) Q (λ kind. some (record { tag = tag; id = i; kind = kind; height = height_over bs 1 (types kind) }))
@@ -64,55 +64,55 @@ module _ (d : List ℕ) (known : List Known) (bs : List Block) (pairs : Pairs d 
       (λ w fs kind f. record { block = record { tag = tag; id = i; kind = kind; height = height_over bs 1 (types kind) }; is = refl; tags = refl; ids = refl; height = sym f.height; final = f })))))
 
   abbrev Good : ℕ → Type 0
-  Good tag = Agree d (Twin d known bs tag at) (blockFrom d known tag at) (indexedBlock bs tag (drop at d))
+  Good tag = Agree d (Twin d known bs tag at) (block_from d known tag at) (indexed_block bs tag (drop at d))
 
-  good-0 : Good 0
-  unfolding blockFrom layout indexedBlock pick
-  good-0 = from-id 0 _ _ _ _ (λ i y l f e _. set_agrees d known bs pairs i y [] l f e)
+  good_0 : Good 0
+  unfolding block_from layout indexed_block pick
+  good_0 = from_id 0 _ _ _ _ (λ i y l f e _. set_agrees d known bs pairs i y [] l f e)
 
-  good-1 : Good 1
-  unfolding blockFrom layout indexedBlock pick
-  good-1 = from-id 1 _ _ _ _ (λ i y l f e g. output_agrees d known bs pairs i y [] l f)
+  good_1 : Good 1
+  unfolding block_from layout indexed_block pick
+  good_1 = from_id 1 _ _ _ _ (λ i y l f e g. output_agrees d known bs pairs i y [] l f)
 
-  good-3 : Good 3
-  unfolding blockFrom layout indexedBlock pick
-  good-3 = from-id 3 _ _ _ _ (λ i y l f e g. scalar_agrees d known bs pairs i y [] l f g)
+  good_3 : Good 3
+  unfolding block_from layout indexed_block pick
+  good_3 = from_id 3 _ _ _ _ (λ i y l f e g. scalar_agrees d known bs pairs i y [] l f g)
 
-  good-4 : Good 4
-  unfolding blockFrom layout indexedBlock pick
-  good-4 = from-id 4 _ _ _ _ (λ i y l f e g. tuple_agrees d known bs pairs i y [] l f)
+  good_4 : Good 4
+  unfolding block_from layout indexed_block pick
+  good_4 = from_id 4 _ _ _ _ (λ i y l f e g. tuple_agrees d known bs pairs i y [] l f)
 
-  good-5 : Good 5
-  unfolding blockFrom layout indexedBlock pick
-  good-5 = from-id 5 _ _ _ _ (λ i y l f e g. named_tuple_agrees d known bs pairs i y [] l f)
+  good_5 : Good 5
+  unfolding block_from layout indexed_block pick
+  good_5 = from_id 5 _ _ _ _ (λ i y l f e g. named_tuple_agrees d known bs pairs i y [] l f)
 
-  good-6 : Good 6
-  unfolding blockFrom layout indexedBlock pick
-  good-6 = from-id 6 _ _ _ _ (λ i y l f e g. array_agrees d known bs pairs i y [] l f)
+  good_6 : Good 6
+  unfolding block_from layout indexed_block pick
+  good_6 = from_id 6 _ _ _ _ (λ i y l f e g. array_agrees d known bs pairs i y [] l f)
 
-  good-7 : Good 7
-  unfolding blockFrom layout indexedBlock pick
-  good-7 = from-id 7 _ _ _ _ (λ i y l f e g. enumeration_agrees d known bs pairs i y [] l f)
+  good_7 : Good 7
+  unfolding block_from layout indexed_block pick
+  good_7 = from_id 7 _ _ _ _ (λ i y l f e g. enumeration_agrees d known bs pairs i y [] l f)
 
-  good-8 : Good 8
-  unfolding blockFrom layout indexedBlock pick
-  good-8 = from-id 8 _ _ _ _ (λ i y l f e g. input_agrees d known bs pairs i y [] l f)
+  good_8 : Good 8
+  unfolding block_from layout indexed_block pick
+  good_8 = from_id 8 _ _ _ _ (λ i y l f e g. input_agrees d known bs pairs i y [] l f)
 
-  good-9 : Good 9
-  unfolding blockFrom layout indexedBlock pick
-  good-9 = from-id 9 _ _ _ _ (λ i y l f e g. range_agrees d known bs pairs i y [] l f)
+  good_9 : Good 9
+  unfolding block_from layout indexed_block pick
+  good_9 = from_id 9 _ _ _ _ (λ i y l f e g. range_agrees d known bs pairs i y [] l f)
 
-  good-10 : Good 10
-  unfolding blockFrom layout indexedBlock pick
-  good-10 = from-id 10 _ _ _ _ (λ i y l f e g. object_agrees d known bs pairs i y [] l f e)
+  good_10 : Good 10
+  unfolding block_from layout indexed_block pick
+  good_10 = from_id 10 _ _ _ _ (λ i y l f e g. object_agrees d known bs pairs i y [] l f e)
 
-  good-11 : Good 11
-  unfolding blockFrom layout indexedBlock pick
-  good-11 = from-id 11 _ _ _ _ (λ i y l f e g. compound_agrees d known bs pairs i y [] l f)
+  good_11 : Good 11
+  unfolding block_from layout indexed_block pick
+  good_11 = from_id 11 _ _ _ _ (λ i y l f e g. compound_agrees d known bs pairs i y [] l f)
 
-  good-13 : Good 13
-  unfolding blockFrom layout indexedBlock pick
-  good-13 = from-id 13 _ _ _ _ (λ i y l f e g. record_agrees d known bs pairs i y [] l f)
+  good_13 : Good 13
+  unfolding block_from layout indexed_block pick
+  good_13 = from_id 13 _ _ _ _ (λ i y l f e g. record_agrees d known bs pairs i y [] l f)
 
   abbrev All : (ℕ → Type 0) → List ℕ → Type 0
   All P [] = Unit {0}
@@ -128,10 +128,10 @@ module _ (d : List ℕ) (known : List Known) (bs : List Block) (pairs : Pairs d 
       go false q e k = k e
 
   pub block_agrees : (tag : ℕ) → any (eqb tag) tags ≡ true → Good tag
-  block_agrees tag e = among Good tag tags (good-0, (good-1, (good-3, (good-4, (good-5, (good-6, (good-7, (good-8, (good-9, (good-10, (good-11, (good-13, tt)))))))))))) e
+  block_agrees tag e = among Good tag tags (good_0, (good_1, (good_3, (good_4, (good_5, (good_6, (good_7, (good_8, (good_9, (good_10, (good_11, (good_13, tt)))))))))))) e
 
-  pub note_agrees : Agree d (λ y fs o. o ≡ none) (blockFrom d known 127 at) (annotationBlock bs (drop at d))
-  unfolding blockFrom layout section rest pick
+  pub note_agrees : Agree d (λ y fs o. o ≡ none) (block_from d known 127 at) (annotation_block bs (drop at d))
+  unfolding block_from layout section rest pick
   note_agrees = annotation_agrees d known bs pairs (blank at) [] inside refl
 
 -- ---- the known tags

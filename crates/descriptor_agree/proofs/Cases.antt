@@ -5,9 +5,9 @@ use Prim.Native.Nat.{ℕ}
 use Rattle.protocol.specs.Descriptors.{bare_form, BlockForm, types, height_at, height_over, has_values, of_objects, set_element, array_element}
 use Rattle.protocol.specs.Descriptors.{range_element, format_by_id, parse_then, some_bytes, passing, number_field, text_field, bool_field}
 use Rattle.protocol.specs.Descriptors.{operation, cardinal_of, output_flags, input_flags, dimensions, unbound, item_count, item_run, counted}
-use Rattle.protocol.specs.Descriptors.{new_name, newId, refersTo, reference, anyBlock, objectReference, element, outputElement, schema}
-use Rattle.protocol.specs.Descriptors.{formatGiven, formatFrom, scalarWith, tupleElement, inputElement, recordElement, annotationBlock}
-use Rattle.protocol.specs.Descriptors.{fields_of, indexedBlock, tagged, block, with_block, after_block, readBlocks, allBlocks, root_in}
+use Rattle.protocol.specs.Descriptors.{new_name, new_id, refers_to, reference, any_block, object_reference, element, output_element, schema}
+use Rattle.protocol.specs.Descriptors.{format_given, format_from, scalar_with, tuple_element, input_element, record_element, annotation_block}
+use Rattle.protocol.specs.Descriptors.{fields_of, indexed_block, tagged, block, with_block, after_block, read_blocks, all_blocks, root_in}
 use Rattle.protocol.specs.Descriptors.{rooted_at, rooted_blocks, describe}
 use Rattle.protocol.specs.Numbers.{pick, be, be_from, at_least, any, same_bytes}
 use Rattle.protocol.specs.Text.{well_formed, goes_on, following, utf8_table, within}
@@ -428,8 +428,8 @@ bare_cases =
 bare_right : map (λ (c : Case). c.gives) bare_cases ≡ map (λ (c : Case). c.expected) bare_cases
 unfolding bare_cases pick be be_from well_formed goes_on following utf8_table within is_cardinality at_least any same_bytes rename types height_at
     height_over has_values of_objects set_element array_element range_element format_by_id parse_then some_bytes passing number_field text_field
-    bool_field operation cardinal_of output_flags input_flags dimensions unbound item_count item_run counted new_name newId refersTo reference
-    anyBlock objectReference element outputElement schema formatGiven formatFrom scalarWith tupleElement inputElement recordElement
-    annotationBlock fields_of indexedBlock tagged block with_block after_block readBlocks allBlocks root_in rooted_at rooted_blocks describe
+    bool_field operation cardinal_of output_flags input_flags dimensions unbound item_count item_run counted new_name new_id refers_to reference
+    any_block object_reference element output_element schema format_given format_from scalar_with tuple_element input_element record_element
+    annotation_block fields_of indexed_block tagged block with_block after_block read_blocks all_blocks root_in rooted_at rooted_blocks describe
     block_node ref_cards node_as_words block_words words_by node_position whole_plan plan_roomed compile_by
 bare_right = refl

@@ -17,8 +17,8 @@ use Rattle.descriptor_blocks.specs.Descriptor.{node_of as oldNode, only_ref}
 use Rattle.protocol.specs.Descriptors.{Block, BlockKind, set_of, output_shape, tuple_of, named_tuple, array_of, enum_of, input_shape}
 use Rattle.protocol.specs.Descriptors.{range_of, compound_type, sql_record, types, Schema, OutputElement, InputElement, NamedElement}
 use Rattle.protocol.specs.Descriptors.{Parsed, unparsed, parsed, text_field, counted, schema, element, reference, has_values, of_objects}
-use Rattle.protocol.specs.Descriptors.{height_at, height_over, Text, outputElement, tupleElement, inputElement, recordElement}
-use Rattle.protocol.specs.Descriptors.{annotationBlock, fields_of}
+use Rattle.protocol.specs.Descriptors.{height_at, height_over, Text, output_element, tuple_element, input_element, record_element}
+use Rattle.protocol.specs.Descriptors.{annotation_block, fields_of}
 use Rattle.descriptor_agree.proofs.Agree.{Agree, agree_then, agree_map, agree_field, agree_last}
 use Rattle.descriptor_agree.proofs.Fields.{Pairs, pairs_height, pairs_tag, bool_same, free_same, operation_same, cardinal_same}
 use Rattle.descriptor_agree.proofs.Fields.{output_flags_same, input_flags_same, bound_same, dimensions_same, text_same, name_same}
@@ -78,9 +78,9 @@ named_13 true k e = refl
 named_13 false k e = let z : ◌≡◌ {A = ℕ} 0 1 = absurd (omega arith) in absurd (omega arith)
 
 module _ (d : List ℕ) (known : List Known) (bs : List Block) (pairs : Pairs d known bs) where
-  listed-none : (x : Draft) (es : List Element) → Fresh x es → Listed known bs x.height es []
+  listed_none : (x : Draft) (es : List Element) → Fresh x es → Listed known bs x.height es []
   unfolding height_over
-  listed-none x es f = record { refs = rw f.none_yet; height = f.height; below = tt }
+  listed_none x es f = record { refs = rw f.none_yet; height = f.height; below = tt }
 
   listed_more : (h : ℕ) (es : List Element) (ts : List ℕ) (e : Element) → Listed known bs h es ts → e.ref < length known
       → Listed known bs (at_least h ((get_or known e.ref no_block).height + 1)) (es ++ (e ∷ [])) (ts ++ (e.ref ∷ []))
@@ -101,10 +101,10 @@ module _ (d : List ℕ) (known : List Known) (bs : List Block) (pairs : Pairs d 
   agree_done tag R Q (next x es is) (parsed a s) e k = (e.0, e.1, k x es a e.2)
 
   module _ (tag : ℕ) where
-    tuple-step : (n : ℕ) (x : Draft) (es : List Element) (before : List ℕ) → x.at ≤ length d → Listed known bs x.height es before
+    tuple_step : (n : ℕ) (x : Draft) (es : List Element) (before : List ℕ) → x.at ≤ length d → Listed known bs x.height es before
         → Agree d (λ y fs a. Listed known bs y.height fs (before ++ (a ∷ []))) (fields d known tag (ELEMENT ∷ []) (counting (suc n) x) es) (element bs has_values (drop x.at d))
     unfolding fields kept height_after grown pick number_at width_of fault_of ref_fault
-    tuple-step n x es before h i =
+    tuple_step n x es before h i =
         agree_last d known tag _ ELEMENT (counting (suc n) x) es _ (be (take 2 (drop x.at d))) (element_same d known tag bs pairs (counting (suc n) x) es h)
         (λ l z. listed_more x.height es before (record { name = x.name; ref = be (take 2 (drop x.at d)); card = x.card }) i (ltb-true _ _ (named_13 _ _ z)))
 
@@ -114,22 +114,22 @@ module _ (d : List ℕ) (known : List Known) (bs : List Block) (pairs : Pairs d 
   unfolding items
   items_none tag Q n x es p e a = rw e a
 
-  final-set : (y : Draft) (fs : List Element) (v : ℕ) → Listed known bs y.height fs (v ∷ []) → Final known bs 0 y fs (set_of v)
+  final_set : (y : Draft) (fs : List Element) (v : ℕ) → Listed known bs y.height fs (v ∷ []) → Final known bs 0 y fs (set_of v)
   unfolding types block_node oldNode valuedTag pick
-  final-set y fs v i = record { height = i.height; node = rw (only_of fs v i.refs, pairs_tag d known bs pairs v); below = i.below }
+  final_set y fs v i = record { height = i.height; node = rw (only_of fs v i.refs, pairs_tag d known bs pairs v); below = i.below }
 
-  final-array : (y : Draft) (fs : List Element) (s : Schema) (v : ℕ) → Listed known bs y.height fs (v ∷ []) → Final known bs 6 y fs (array_of s v)
+  final_array : (y : Draft) (fs : List Element) (s : Schema) (v : ℕ) → Listed known bs y.height fs (v ∷ []) → Final known bs 6 y fs (array_of s v)
   unfolding types block_node oldNode valuedTag pick
-  final-array y fs s v i = record { height = i.height; node = rw (only_of fs v i.refs); below = i.below }
+  final_array y fs s v i = record { height = i.height; node = rw (only_of fs v i.refs); below = i.below }
 
-  final-range : (y : Draft) (fs : List Element) (s : Schema) (v : ℕ) → Listed known bs y.height fs (v ∷ []) → Final known bs 9 y fs (range_of s v)
+  final_range : (y : Draft) (fs : List Element) (s : Schema) (v : ℕ) → Listed known bs y.height fs (v ∷ []) → Final known bs 9 y fs (range_of s v)
   unfolding types block_node oldNode valuedTag pick
-  final-range y fs s v i = record { height = i.height; node = rw (only_of fs v i.refs); below = i.below }
+  final_range y fs s v i = record { height = i.height; node = rw (only_of fs v i.refs); below = i.below }
 
   -- the only element
-  listed-one : (x : Draft) (es : List Element) (v : ℕ) → Fresh x es → v < length known
+  listed_one : (x : Draft) (es : List Element) (v : ℕ) → Fresh x es → v < length known
       → Listed known bs (at_least x.height ((get_or known v no_block).height + 1)) (es ++ (record { name = x.name; ref = v; card = x.card } ∷ [])) (v ∷ [])
-  listed-one x es v f b = listed_more x.height es [] (record { name = x.name; ref = v; card = x.card }) (listed-none x es f) b
+  listed_one x es v f b = listed_more x.height es [] (record { name = x.name; ref = v; card = x.card }) (listed_none x es f) b
 
   pub set_agrees : (i : ℕ) (x : Draft) (es : List Element) → x.at ≤ length d → Fresh x es → x.left ≡ 0
       → Agree d (Final known bs 0) (and_then (rest d known 0 (SET_ELEMENT ∷ []) [] x es) (section d known 0 [] [])) (fields_of bs 0 i (drop x.at d))
@@ -140,7 +140,7 @@ module _ (d : List ℕ) (known : List Known) (bs : List Block) (pairs : Pairs d 
       (agree_field d known 0 _ SET_ELEMENT x es _ (be (take 2 (drop x.at d))) _ _ (set_element_same d known 0 bs pairs x es h) (λ l z.
       rest_end d known 0 _ [] (kept d known 0 SET_ELEMENT x) (grown d SET_ELEMENT x es) _
       (items_none 0 _ x.left (kept d known 0 SET_ELEMENT x) (grown d SET_ELEMENT x es) _ e
-      (refl, l, final-set _ _ _ (listed-one x es (be (take 2 (drop x.at d))) f (ltb-true _ _ (named_13 _ _ z))))))))
+      (refl, l, final_set _ _ _ (listed_one x es (be (take 2 (drop x.at d))) f (ltb-true _ _ (named_13 _ _ z))))))))
       (λ _ _ _ i. i)
 
   pub array_agrees : (i : ℕ) (x : Draft) (es : List Element) → x.at ≤ length d → Fresh x es
@@ -162,7 +162,7 @@ module _ (d : List ℕ) (known : List Known) (bs : List Block) (pairs : Pairs d 
       rest_cons d known 6 _ BOUND [] [] x3 gs _
       (agree_field d known 6 _ BOUND x3 gs _ (be (take 4 (drop x3.at d))) _ _ (bound_same d known 6 bs pairs x3 gs l2) (λ l3 _.
       rest_end d known 6 _ [] (kept d known 6 BOUND x3) gs _
-      (refl, l3, final-array _ _ s _ (listed-one x1 fs (be (take 2 (drop y.at d))) (record { height = g.height; free = g.free; none_yet = g.none_yet }) (ltb-true _ _ (named_13 _ _ z)))))))))))
+      (refl, l3, final_array _ _ s _ (listed_one x1 fs (be (take 2 (drop y.at d))) (record { height = g.height; free = g.free; none_yet = g.none_yet }) (ltb-true _ _ (named_13 _ _ z)))))))))))
 
   pub range_agrees : (i : ℕ) (x : Draft) (es : List Element) → x.at ≤ length d → Fresh x es
       → Agree d (Final known bs 9) (and_then (rest d known 9 (TEXT ∷ BOOL ∷ ANCESTORS ∷ []) (ANCESTOR ∷ []) x es) (section d known 9 (RANGE_ELEMENT ∷ []) [])) (fields_of bs 9 i (drop x.at d))
@@ -174,7 +174,7 @@ module _ (d : List ℕ) (known : List Known) (bs : List Block) (pairs : Pairs d 
       rest_cons d known 9 _ RANGE_ELEMENT [] [] x1 fs _
       (agree_field d known 9 _ RANGE_ELEMENT x1 fs _ (be (take 2 (drop y.at d))) _ _ (range_element_same d known 9 bs pairs x1 fs l) (λ l1 z.
       rest_end d known 9 _ [] (kept d known 9 RANGE_ELEMENT x1) (grown d RANGE_ELEMENT x1 fs) _
-      (refl, l1, final-range _ _ s _ (listed-one x1 fs (be (take 2 (drop y.at d))) (record { height = g.height; free = g.free; none_yet = g.none_yet }) (ltb-true _ _ (named_13 _ _ z)))))))
+      (refl, l1, final_range _ _ s _ (listed_one x1 fs (be (take 2 (drop y.at d))) (record { height = g.height; free = g.free; none_yet = g.none_yet }) (ltb-true _ _ (named_13 _ _ z)))))))
 
   pub tuple_agrees : (i : ℕ) (x : Draft) (es : List Element) → x.at ≤ length d → Fresh x es
       → Agree d (Final known bs 4) (and_then (rest d known 4 (TEXT ∷ BOOL ∷ ANCESTORS ∷ []) (ANCESTOR ∷ []) x es) (section d known 4 (COUNT ∷ []) (ELEMENT ∷ []))) (fields_of bs 4 i (drop x.at d))
@@ -183,8 +183,8 @@ module _ (d : List ℕ) (known : List Known) (bs : List Block) (pairs : Pairs d 
       agree_then d (λ y fs s. Fresh y fs) _ _ (schema bs (drop x.at d)) _ _ (schema_agrees d known 4 bs pairs (λ y. refl) x es h f)
       (λ y fs s l g.
       agree_map d (λ y fs ts. Listed known bs y.height fs ts) _ (tuple_of s) (rest d known 4 (COUNT ∷ []) (ELEMENT ∷ []) (counting 0 y) fs) (counted (λ _. element bs has_values) (drop y.at d))
-      (agree_run d known 4 COUNT (ELEMENT ∷ []) (λ _. element bs has_values) (λ n y fs ts. Listed known bs y.height fs ts) (tuple-step 4)
-      (counting 0 y) fs (count_same d known 4 bs pairs (counting 0 y) fs l) refl (listed-none y fs g))
+      (agree_run d known 4 COUNT (ELEMENT ∷ []) (λ _. element bs has_values) (λ n y fs ts. Listed known bs y.height fs ts) (tuple_step 4)
+      (counting 0 y) fs (count_same d known 4 bs pairs (counting 0 y) fs l) refl (listed_none y fs g))
       (λ z gs ts i. record { height = i.height; node = rw i.refs; below = i.below }))
 
   -- ---- blocks without elements
@@ -245,11 +245,11 @@ module _ (d : List ℕ) (known : List Known) (bs : List Block) (pairs : Pairs d 
 
   pub record_agrees : (i : ℕ) (x : Draft) (es : List Element) → x.at ≤ length d → Fresh x es
       → Agree d (Final known bs 13) (and_then (rest d known 13 (COUNT ∷ []) (TEXT ∷ ANY ∷ []) x es) (section d known 13 [] [])) (fields_of bs 13 i (drop x.at d))
-  unfolding fields_of recordElement pick fields kept height_after grown number_at width_of types height_over block_node valuedTag
+  unfolding fields_of record_element pick fields kept height_after grown number_at width_of types height_over block_node valuedTag
   record_agrees i x es h f =
       agree_done 13 (λ y fs k. Final known bs 13 (counting 0 y) fs k) _ _ _
-      (agree_map d (λ y fs ts. Fresh y fs) _ sql_record (rest d known 13 (COUNT ∷ []) (TEXT ∷ ANY ∷ []) x es) (counted (λ _. recordElement bs) (drop x.at d))
-      (agree_run d known 13 COUNT (TEXT ∷ ANY ∷ []) (λ _. recordElement bs) (λ n y fs ts. Fresh y fs)
+      (agree_map d (λ y fs ts. Fresh y fs) _ sql_record (rest d known 13 (COUNT ∷ []) (TEXT ∷ ANY ∷ []) x es) (counted (λ _. record_element bs) (drop x.at d))
+      (agree_run d known 13 COUNT (TEXT ∷ ANY ∷ []) (λ _. record_element bs) (λ n y fs ts. Fresh y fs)
       (λ n x es before h f.
       let x1 = counting (suc n) x in
       agree_field d known 13 _ TEXT x1 es _ (text_at d x.at) _ _ (text_same d known 13 bs pairs x1 es h) (λ l _.
@@ -262,16 +262,16 @@ module _ (d : List ℕ) (known : List Known) (bs : List Block) (pairs : Pairs d 
 
   -- ---- named elements
 
-  listed-map : {A : Type 0} (type : A → ℕ) (h : ℕ) (es : List Element) (before : List A) (e : Element) (a : A)
+  listed_map : {A : Type 0} (type : A → ℕ) (h : ℕ) (es : List Element) (before : List A) (e : Element) (a : A)
       → Listed known bs h es (map type before) → e.ref ≡ type a → e.ref < length known
       → Listed known bs (at_least h ((get_or known e.ref no_block).height + 1)) (es ++ (e ∷ [])) (map type (before ++ (a ∷ [])))
-  listed-map type h es before e a l r b = rw (map-append type before (a ∷ []), ← r) (listed_more h es (map type before) e l b)
+  listed_map type h es before e a l r b = rw (map-append type before (a ∷ []), ← r) (listed_more h es (map type before) e l b)
 
   named_step : (n : ℕ) (x : Draft) (es : List Element) (before : List NamedElement) → x.at ≤ length d
       → Named d known bs (λ (e : NamedElement). e.type) (λ (e : NamedElement). e.name) x es before
       → Agree d (λ y fs a. Named d known bs (λ (e : NamedElement). e.type) (λ (e : NamedElement). e.name) y fs (before ++ (a ∷ [])))
-      (fields d known 5 (NAME ∷ ELEMENT ∷ []) (counting (suc n) x) es) (tupleElement bs before (drop x.at d))
-  unfolding tupleElement fields kept height_after grown pick number_at width_of fault_of ref_fault
+      (fields d known 5 (NAME ∷ ELEMENT ∷ []) (counting (suc n) x) es) (tuple_element bs before (drop x.at d))
+  unfolding tuple_element fields kept height_after grown pick number_at width_of fault_of ref_fault
   named_step n x es before h i =
       let x1 = counting (suc n) x in
       agree_field d known 5 _ NAME x1 es _ (text_at d x.at) _ _ (name_same d known 5 bs pairs x1 es h (map (λ (e : NamedElement). e.name) before) i.names) (λ l _.
@@ -282,7 +282,7 @@ module _ (d : List ℕ) (known : List Known) (bs : List Block) (pairs : Pairs d 
         refl,
         l1,
         record {
-          listed = listed-map (λ (e : NamedElement). e.type) x.height es before e a i.listed refl (ltb-true _ _ (named_13 _ _ z));
+          listed = listed_map (λ (e : NamedElement). e.type) x.height es before e a i.listed refl (ltb-true _ _ (named_13 _ _ z));
           names = snoc_map (λ (e : Element). text_at d e.name) (λ (e : NamedElement). e.name) es before e a i.names refl;
         },
       )))
@@ -296,10 +296,10 @@ module _ (d : List ℕ) (known : List Known) (bs : List Block) (pairs : Pairs d 
       agree_then d (λ y fs s. Fresh y fs) _ _ (schema bs (drop x.at d)) _ _ (schema_agrees d known 5 bs pairs (λ y. refl) x es h f)
       (λ y fs s l g.
       agree_map d (λ y fs ts. Named d known bs (λ (e : NamedElement). e.type) (λ (e : NamedElement). e.name) y fs ts) _ (named_tuple s)
-      (rest d known 5 (COUNT ∷ []) (NAME ∷ ELEMENT ∷ []) (counting 0 y) fs) (counted (tupleElement bs) (drop y.at d))
-      (agree_run d known 5 COUNT (NAME ∷ ELEMENT ∷ []) (tupleElement bs)
+      (rest d known 5 (COUNT ∷ []) (NAME ∷ ELEMENT ∷ []) (counting 0 y) fs) (counted (tuple_element bs) (drop y.at d))
+      (agree_run d known 5 COUNT (NAME ∷ ELEMENT ∷ []) (tuple_element bs)
       (λ n y fs ts. Named d known bs (λ (e : NamedElement). e.type) (λ (e : NamedElement). e.name) y fs ts) named_step (counting 0 y) fs
-      (count_same d known 5 bs pairs (counting 0 y) fs l) refl (record { listed = listed-none y fs g; names = rw g.none_yet }))
+      (count_same d known 5 bs pairs (counting 0 y) fs l) refl (record { listed = listed_none y fs g; names = rw g.none_yet }))
       (λ z gs ts i. record { height = i.listed.height; node = rw i.listed.refs; below = i.listed.below }))
 
   -- ---- shapes
@@ -308,11 +308,11 @@ module _ (d : List ℕ) (known : List Known) (bs : List Block) (pairs : Pairs d 
   inputs k b x es before =
       Shaped (λ (e : InputElement). e.type) (λ (e : InputElement). e.cardinal) k b x es before × (map (λ (e : Element). text_at d e.name) es ≡ map (λ (e : InputElement). e.name) before)
 
-  input-step : (n : ℕ) (x : Draft) (es : List Element) (before : List InputElement) → x.at ≤ length d → inputs known bs x es before
+  input_step : (n : ℕ) (x : Draft) (es : List Element) (before : List InputElement) → x.at ≤ length d → inputs known bs x es before
       → Agree d (λ y fs a. inputs known bs y fs (before ++ (a ∷ [])))
-      (fields d known 8 (INPUT_FLAGS ∷ CARDINALITY ∷ NAME ∷ ELEMENT ∷ []) (counting (suc n) x) es) (inputElement bs before (drop x.at d))
-  unfolding inputElement fields kept height_after grown pick number_at width_of fault_of ref_fault
-  input-step n x es before h i =
+      (fields d known 8 (INPUT_FLAGS ∷ CARDINALITY ∷ NAME ∷ ELEMENT ∷ []) (counting (suc n) x) es) (input_element bs before (drop x.at d))
+  unfolding input_element fields kept height_after grown pick number_at width_of fault_of ref_fault
+  input_step n x es before h i =
       let x1 = counting (suc n) x in
       agree_field d known 8 _ INPUT_FLAGS x1 es _ (be (take 4 (drop x.at d))) _ _ (input_flags_same d known 8 bs pairs x1 es h) (λ l1 _.
       let x2 = kept d known 8 INPUT_FLAGS x1 in
@@ -327,7 +327,7 @@ module _ (d : List ℕ) (known : List Known) (bs : List Block) (pairs : Pairs d 
         l4,
         (
           record {
-            listed = listed-map (λ (e : InputElement). e.type) x.height es before e a i.0.listed refl (ltb-true _ _ (named_13 _ _ z));
+            listed = listed_map (λ (e : InputElement). e.type) x.height es before e a i.0.listed refl (ltb-true _ _ (named_13 _ _ z));
             cards = snoc_map (λ (e : Element). e.card) (λ (e : InputElement). e.cardinal) es before e a i.0.cards refl;
           },
           snoc_map (λ (e : Element). text_at d e.name) (λ (e : InputElement). e.name) es before e a i.1 refl,
@@ -339,23 +339,23 @@ module _ (d : List ℕ) (known : List Known) (bs : List Block) (pairs : Pairs d 
   unfolding fields_of pick kept height_after grown number_at width_of types block_node oldNode valuedTag
   input_agrees i x es h f =
       agree_done 8 (λ y fs k. Final known bs 8 (counting 0 y) fs k) _ _ _
-      (agree_map d (inputs known bs) _ input_shape (rest d known 8 (COUNT ∷ []) (INPUT_FLAGS ∷ CARDINALITY ∷ NAME ∷ ELEMENT ∷ []) x es) (counted (inputElement bs) (drop x.at d))
-      (agree_run d known 8 COUNT (INPUT_FLAGS ∷ CARDINALITY ∷ NAME ∷ ELEMENT ∷ []) (inputElement bs) (λ n y fs ts. inputs known bs y fs ts)
-      input-step x es (count_same d known 8 bs pairs x es h) refl
-      (record { listed = listed-none x es f; cards = rw f.none_yet }, rw f.none_yet))
+      (agree_map d (inputs known bs) _ input_shape (rest d known 8 (COUNT ∷ []) (INPUT_FLAGS ∷ CARDINALITY ∷ NAME ∷ ELEMENT ∷ []) x es) (counted (input_element bs) (drop x.at d))
+      (agree_run d known 8 COUNT (INPUT_FLAGS ∷ CARDINALITY ∷ NAME ∷ ELEMENT ∷ []) (input_element bs) (λ n y fs ts. inputs known bs y fs ts)
+      input_step x es (count_same d known 8 bs pairs x es h) refl
+      (record { listed = listed_none x es f; cards = rw f.none_yet }, rw f.none_yet))
       (λ z gs ts i. record { height = i.0.listed.height; node = rw (i.0.listed.refs, i.0.cards); below = i.0.listed.below }))
       (λ _ _ _ i. i)
 
   abbrev outputs : ℕ → List Known → List Block → Draft → List Element → List OutputElement → Type 0
   outputs free k b x es before = Shaped (λ (e : OutputElement). e.type) (λ (e : OutputElement). e.cardinal) k b x es before × (x.free ≡ free)
 
-  output-step : (free n : ℕ) (x : Draft) (es : List Element) (before : List OutputElement) → x.at ≤ length d
+  output_step : (free n : ℕ) (x : Draft) (es : List Element) (before : List OutputElement) → x.at ≤ length d
       → outputs free known bs x es before
       → Agree d (λ y fs a. outputs free known bs y fs (before ++ (a ∷ [])))
       (fields d known 1 (SHAPE_FLAGS ∷ CARDINALITY ∷ TEXT ∷ ELEMENT ∷ OBJECT ∷ []) (counting (suc n) x) es)
-      (outputElement bs free (drop x.at d))
-  unfolding outputElement fields kept height_after grown pick number_at width_of fault_of ref_fault
-  output-step free n x es before h i =
+      (output_element bs free (drop x.at d))
+  unfolding output_element fields kept height_after grown pick number_at width_of fault_of ref_fault
+  output_step free n x es before h i =
       let x1 = counting (suc n) x in
       agree_field d known 1 _ SHAPE_FLAGS x1 es _ (be (take 4 (drop x.at d))) _ _ (output_flags_same d known 1 bs pairs x1 es h) (λ l1 _.
       let x2 = kept d known 1 SHAPE_FLAGS x1 in
@@ -380,7 +380,7 @@ module _ (d : List ℕ) (known : List Known) (bs : List Block) (pairs : Pairs d 
         l5,
         (
           record {
-            listed = listed-map (λ (e : OutputElement). e.type) x.height es before e a i.0.listed refl (ltb-true _ _ (named_13 _ _ z));
+            listed = listed_map (λ (e : OutputElement). e.type) x.height es before e a i.0.listed refl (ltb-true _ _ (named_13 _ _ z));
             cards = snoc_map (λ (e : Element). e.card) (λ (e : OutputElement). e.cardinal) es before e a i.0.cards refl;
           },
           i.1,
@@ -403,18 +403,18 @@ module _ (d : List ℕ) (known : List Known) (bs : List Block) (pairs : Pairs d 
       let x2 = kept d known 1 OBJECT x1 in
       agree_map d (outputs free known bs) _ (output_shape free (be (take 2 (drop x1.at d))))
       (rest d known 1 (COUNT ∷ []) (SHAPE_FLAGS ∷ CARDINALITY ∷ TEXT ∷ ELEMENT ∷ OBJECT ∷ []) x2 es)
-      (counted (λ _. outputElement bs free) (drop x2.at d))
-      (agree_run d known 1 COUNT (SHAPE_FLAGS ∷ CARDINALITY ∷ TEXT ∷ ELEMENT ∷ OBJECT ∷ []) (λ _. outputElement bs free)
-      (λ n y fs ts. outputs free known bs y fs ts) (output-step free) x2 es (count_same d known 1 bs pairs x2 es l2) refl
-      (record { listed = listed-none x es f; cards = rw f.none_yet }, refl))
+      (counted (λ _. output_element bs free) (drop x2.at d))
+      (agree_run d known 1 COUNT (SHAPE_FLAGS ∷ CARDINALITY ∷ TEXT ∷ ELEMENT ∷ OBJECT ∷ []) (λ _. output_element bs free)
+      (λ n y fs ts. outputs free known bs y fs ts) (output_step free) x2 es (count_same d known 1 bs pairs x2 es l2) refl
+      (record { listed = listed_none x es f; cards = rw f.none_yet }, refl))
       (λ z gs ts i. record { height = i.0.listed.height; node = rw (i.0.listed.refs, i.0.cards); below = i.0.listed.below }))))))
       (λ _ _ _ i. i)
 
   -- ---- annotations
 
   pub annotation_agrees : (x : Draft) (es : List Element) → x.at ≤ length d → x.left ≡ 0
-      → Agree d (λ y fs b. b ≡ none) (and_then (rest d known 127 (ANY ∷ TEXT ∷ TEXT ∷ []) [] x es) (section d known 127 [] [])) (annotationBlock bs (drop x.at d))
-  unfolding annotationBlock pick kept grown number_at width_of
+      → Agree d (λ y fs b. b ≡ none) (and_then (rest d known 127 (ANY ∷ TEXT ∷ TEXT ∷ []) [] x es) (section d known 127 [] [])) (annotation_block bs (drop x.at d))
+  unfolding annotation_block pick kept grown number_at width_of
   annotation_agrees x es h e =
       agree_done 127 (λ y fs b. b ≡ none) _ _ _
       (rest_cons d known 127 _ ANY (TEXT ∷ TEXT ∷ []) [] x es _

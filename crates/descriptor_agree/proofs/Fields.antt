@@ -17,8 +17,8 @@ use Rattle.descriptor_fields.specs.Fields.{text_fault, permits, number_fault, fo
 use Rattle.descriptor_fields.specs.Fields.{fault as fault_of}
 use Rattle.descriptor_fields.specs.declared.Draft.{Draft}
 use Rattle.protocol.specs.Descriptors.{Block, unparsed, parsed, Reader, number_field, passing, text_field, bool_field, operation, cardinal_of}
-use Rattle.protocol.specs.Descriptors.{output_flags, input_flags, dimensions, unbound, item_count, new_name, newId, refersTo, reference}
-use Rattle.protocol.specs.Descriptors.{anyBlock, objectReference, element, height_at, has_values, of_objects, set_element, array_element}
+use Rattle.protocol.specs.Descriptors.{output_flags, input_flags, dimensions, unbound, item_count, new_name, new_id, refers_to, reference}
+use Rattle.protocol.specs.Descriptors.{any_block, object_reference, element, height_at, has_values, of_objects, set_element, array_element}
 use Rattle.protocol.specs.Descriptors.{range_element, Text}
 use Rattle.descriptor_agree.proofs.Agree.{judged, verdict, verdict_pick, number_at_lem, checked_at, checked_more, judged_then, text_at_lem, pick_at}
 use Rattle.protocol.specs.Numbers.{pick, be, any, same_bytes}
@@ -74,8 +74,8 @@ module _ (d : List ℕ) where
   pairs_tag (k ∷ ks) (b ∷ bs) p zero = p.0.tags
   pairs_tag (k ∷ ks) (b ∷ bs) p (suc t) = pairs_tag ks bs p.1 t
 
-  eqb-sym : (a b : ℕ) → eqb a b ≡ eqb b a
-  eqb-sym a b = go (eqb b a) refl
+  eqb_sym : (a b : ℕ) → eqb a b ≡ eqb b a
+  eqb_sym a b = go (eqb b a) refl
     where
       go : (t : Bool) → eqb b a ≡ t → eqb a b ≡ t
       go true e = eq-eqb a b (sym (eqb-true b a e))
@@ -86,7 +86,7 @@ module _ (d : List ℕ) where
   pairs_taken [] [] p i = refl
   pairs_taken [] (b ∷ bs) p i = elim p [ ]
   pairs_taken (k ∷ ks) [] p i = elim p [ ]
-  pairs_taken (k ∷ ks) (b ∷ bs) p i = rw (p.0.ids, eqb-sym b.id i) (ap (pick (eqb i b.id) true) (pairs_taken ks bs p.1 i))
+  pairs_taken (k ∷ ks) (b ∷ bs) p i = rw (p.0.ids, eqb_sym b.id i) (ap (pick (eqb i b.id) true) (pairs_taken ks bs p.1 i))
 
 heard : (d : List ℕ) (fs : List Element) (t : Text) → any (λ e. same_bytes (text_at d e.name) t) fs ≡ any (λ o. same_bytes o t) (map (λ (e : Element). text_at d e.name) fs)
 unfolding any
@@ -108,21 +108,21 @@ module _ (d : List ℕ) (k : Known) (b : Block) (p : Pair d k b) where
   unfolding valuedTag has_values any
   valued_fit = rw p.tags (simp not_pick)
 
-  object-fit : objectTag k.tag ≡ of_objects b
+  object_fit : objectTag k.tag ≡ of_objects b
   unfolding objectTag of_objects any
-  object-fit = rw p.tags (simp pick_true)
+  object_fit = rw p.tags (simp pick_true)
 
-  set-fit : pick (eqb k.tag 0) false (valuedTag k.tag) ≡ set_element b
+  set_fit : pick (eqb k.tag 0) false (valuedTag k.tag) ≡ set_element b
   unfolding valuedTag set_element any
-  set-fit = rw p.tags (simp not_pick)
+  set_fit = rw p.tags (simp not_pick)
 
   array_fit : pick (eqb k.tag 0) false (pick (eqb k.tag 6) false (valuedTag k.tag)) ≡ array_element b
   unfolding valuedTag array_element any
   array_fit = rw p.tags (simp not_pick)
 
-  range-fit : eqb k.tag 3 ≡ range_element b
+  range_fit : eqb k.tag 3 ≡ range_element b
   unfolding range_element
-  range-fit = rw p.tags
+  range_fit = rw p.tags
 
 tests : (s t : Bool) (h : ℕ) → ◌≡◌ {A = ℕ} (pick (eqb (pick s (pick t 0 14) 13) 0) (pick (ltb h 32) 0 17) (pick s (pick t 0 14) 13)) (pick s (pick t (pick (leb 32 h) 17 0) 14) 13)
 unfolding pick
@@ -213,8 +213,8 @@ module _ (d : List ℕ) (known : List Known) (tag : ℕ) (bs : List Block) (pair
   ancestors_some e = ruled ANCESTORS 2 16 (λ v. leb v 512) refl (rw e (over (be (take 2 (drop x.at d))) 17))
 
   -- ids and texts
-  pub id_same : Same ID (newId bs) (be (take 16 (drop x.at d)))
-  unfolding newId extent fault_of id_fault id_at any pick
+  pub id_same : Same ID (new_id bs) (be (take 16 (drop x.at d)))
+  unfolding new_id extent fault_of id_fault id_at any pick
   id_same =
       ruled ID 16 14 (λ i. not (any (eqb i) (0 ∷ map (λ (b : Block). b.id) bs))) refl
       (rw (pairs_taken d known bs pairs (be (take 16 (drop x.at d)))) (two (eqb (be (take 16 (drop x.at d))) 0) (any (eqb (be (take 16 (drop x.at d)))) (map (λ (b : Block). b.id) bs))))
@@ -243,43 +243,43 @@ module _ (d : List ℕ) (known : List Known) (tag : ℕ) (bs : List Block) (pair
 
   -- references: what is asked of the block is the same
   module _ (old : Known → Bool) (new : Block → Bool) (same : (k : Known) (b : Block) → Pair d k b → old k ≡ new b) where
-    reference-at : reference bs new (drop x.at d)
+    reference_at : reference bs new (drop x.at d)
         ≡ judged d x.at 2 (pick (ltb (be (take 2 (drop x.at d))) (length known)) (pick (old (get_or known (be (take 2 (drop x.at d))) no_block)) 0 14) 13) (be (take 2 (drop x.at d)))
-    unfolding reference judged refersTo pick verdict
-    reference-at =
-        rw (number_at_lem d x.at inside 2, judged_then d x.at inside 2 (be (take 2 (drop x.at d))) (λ t. refersTo bs new t (get_elem? bs t)))
+    unfolding reference judged refers_to pick verdict
+    reference_at =
+        rw (number_at_lem d x.at inside 2, judged_then d x.at inside 2 (be (take 2 (drop x.at d))) (λ t. refers_to bs new t (get_elem? bs t)))
         (go (be (take 2 (drop x.at d))) (ltb (be (take 2 (drop x.at d))) (length known)) refl)
       where
         go : (v : ℕ) (t : Bool) → ltb v (length known) ≡ t
-            → pick (leb (x.at + 2) (length d)) (refersTo bs new v (get_elem? bs v) (drop (x.at + 2) d)) (unparsed 10) ≡ judged d x.at 2 (pick t (pick (old (get_or known v no_block)) 0 14) 13) v
+            → pick (leb (x.at + 2) (length d)) (refers_to bs new v (get_elem? bs v) (drop (x.at + 2) d)) (unparsed 10) ≡ judged d x.at 2 (pick t (pick (old (get_or known v no_block)) 0 14) 13) v
         go v true e =
             let q = pairs_at d known bs pairs v (ltb-true v (length known) e) in
             rw (q.1, same (get_or known v no_block) q.0 q.2, pick_at (new q.0)) (rw (verdict_pick (new q.0) 13 (parsed v (drop (x.at + 2) d))))
         go v false e = rw (pairs_past d known bs pairs v (ltb-false v (length known) e)) refl
 
     -- the height of the block comes after its kind
-    element-at : element bs new (drop x.at d)
+    element_at_lem : element bs new (drop x.at d)
         ≡ judged d x.at 2
         (pick (ltb (be (take 2 (drop x.at d))) (length known))
         (pick (old (get_or known (be (take 2 (drop x.at d))) no_block)) (pick (leb 32 (get_or known (be (take 2 (drop x.at d))) no_block).height) 17 0) 14) 13)
         (be (take 2 (drop x.at d)))
     unfolding element
-    element-at =
-        checked_more d x.at inside 16 _ (λ t. ltb (height_at bs t) 32) (reference bs new) 2 (be (take 2 (drop x.at d))) reference-at
+    element_at_lem =
+        checked_more d x.at inside 16 _ (λ t. ltb (height_at bs t) 32) (reference bs new) 2 (be (take 2 (drop x.at d))) reference_at
         ∙ ap (λ (n : ℕ). judged d x.at 2 n (be (take 2 (drop x.at d))))
         (rw (pairs_height d known bs pairs) (tests (ltb (be (take 2 (drop x.at d))) (length known))
         (old (get_or known (be (take 2 (drop x.at d))) no_block)) (height_at bs (be (take 2 (drop x.at d))))))
 
-  pub any_same : Same ANY (anyBlock bs) (be (take 2 (drop x.at d)))
-  unfolding anyBlock extent fault_of ref_fault kind_fault fits number_at width_of pick
-  any_same = reference-at (λ _. true) (λ _. true) (λ _ _ _. refl)
+  pub any_same : Same ANY (any_block bs) (be (take 2 (drop x.at d)))
+  unfolding any_block extent fault_of ref_fault kind_fault fits number_at width_of pick
+  any_same = reference_at (λ _. true) (λ _. true) (λ _ _ _. refl)
 
-  pub ancestor_same : decides tag x ≡ false → Same ANCESTOR (anyBlock bs) (be (take 2 (drop x.at d)))
-  unfolding anyBlock extent fault_of ref_fault kind_fault fits number_at width_of pick
-  ancestor_same e = rw e (reference-at (λ _. true) (λ _. true) (λ _ _ _. refl))
+  pub ancestor_same : decides tag x ≡ false → Same ANCESTOR (any_block bs) (be (take 2 (drop x.at d)))
+  unfolding any_block extent fault_of ref_fault kind_fault fits number_at width_of pick
+  ancestor_same e = rw e (reference_at (λ _. true) (λ _. true) (λ _ _ _. refl))
 
-  pub object_same : (free : ℕ) → x.free ≡ free → Same OBJECT (objectReference bs free) (be (take 2 (drop x.at d)))
-  unfolding objectReference extent fault_of ref_fault kind_fault fits number_at width_of pick
+  pub object_same : (free : ℕ) → x.free ≡ free → Same OBJECT (object_reference bs free) (be (take 2 (drop x.at d)))
+  unfolding object_reference extent fault_of ref_fault kind_fault fits number_at width_of pick
   object_same free e = rw e (go (eqb free 1))
     where
       go : (t : Bool)
@@ -288,24 +288,24 @@ module _ (d : List ℕ) (known : List Known) (tag : ℕ) (bs : List Block) (pair
           (pick t 0 (pick (ltb (be (take 2 (drop x.at d))) (length known)) (pick (objectTag (get_or known (be (take 2 (drop x.at d))) no_block).tag) 0 14) 13))
           (be (take 2 (drop x.at d)))
       go true = number_at_lem d x.at inside 2
-      go false = reference-at (λ k. objectTag k.tag) of_objects (object-fit d)
+      go false = reference_at (λ k. objectTag k.tag) of_objects (object_fit d)
 
   pub component_same : eqb x.free 1 ≡ false → Same OBJECT (reference bs of_objects) (be (take 2 (drop x.at d)))
   unfolding extent fault_of ref_fault kind_fault fits number_at width_of pick
-  component_same e = rw e (reference-at (λ k. objectTag k.tag) of_objects (object-fit d))
+  component_same e = rw e (reference_at (λ k. objectTag k.tag) of_objects (object_fit d))
 
   pub element_same : Same ELEMENT (element bs has_values) (be (take 2 (drop x.at d)))
   unfolding extent fault_of ref_fault kind_fault fits number_at width_of pick
-  element_same = element-at (λ k. valuedTag k.tag) has_values (valued_fit d)
+  element_same = element_at_lem (λ k. valuedTag k.tag) has_values (valued_fit d)
 
   pub set_element_same : Same SET_ELEMENT (element bs set_element) (be (take 2 (drop x.at d)))
   unfolding extent fault_of ref_fault kind_fault fits number_at width_of pick
-  set_element_same = element-at (λ k. pick (eqb k.tag 0) false (valuedTag k.tag)) set_element (set-fit d)
+  set_element_same = element_at_lem (λ k. pick (eqb k.tag 0) false (valuedTag k.tag)) set_element (set_fit d)
 
   pub array_element_same : Same ARRAY_ELEMENT (element bs array_element) (be (take 2 (drop x.at d)))
   unfolding extent fault_of ref_fault kind_fault fits number_at width_of pick
-  array_element_same = element-at (λ k. pick (eqb k.tag 0) false (pick (eqb k.tag 6) false (valuedTag k.tag))) array_element (array_fit d)
+  array_element_same = element_at_lem (λ k. pick (eqb k.tag 0) false (pick (eqb k.tag 6) false (valuedTag k.tag))) array_element (array_fit d)
 
   pub range_element_same : Same RANGE_ELEMENT (element bs range_element) (be (take 2 (drop x.at d)))
   unfolding extent fault_of ref_fault kind_fault fits number_at width_of pick
-  range_element_same = element-at (λ k. eqb k.tag 3) range_element (range-fit d)
+  range_element_same = element_at_lem (λ k. eqb k.tag 3) range_element (range_fit d)

@@ -8,7 +8,7 @@ use Rattle.descriptor_fields.specs.Layouts.{TEXT, BOOL, ANCESTORS, ANCESTOR}
 use Rattle.descriptor_fields.specs.Fields.{Known, Element, extent, text_at, number_at, width_of, formatless, decides, fault as fault_of, kept, grown, height_after}
 use Rattle.descriptor_fields.specs.declared.Draft.{Draft}
 use Rattle.descriptor_blocks.specs.Blocks.{Reading, and_then, field, fields, items, counting}
-use Rattle.protocol.specs.Descriptors.{Block, Parsed, Reader, text_field, bool_field, item_count, counted, schema, anyBlock}
+use Rattle.protocol.specs.Descriptors.{Block, Parsed, Reader, text_field, bool_field, item_count, counted, schema, any_block}
 use Rattle.protocol.specs.Descriptors.{item_run as items_of}
 use Rattle.descriptor_agree.proofs.Agree.{judged, Agree, agree_then, agree_map, agree_assoc, agree_noted, agree_field, agree_last}
 use Rattle.descriptor_agree.proofs.Fields.{Pairs, bool_same, text_same, ancestors_same, ancestor_same}
@@ -68,12 +68,12 @@ pub record Fresh (x : Draft) (es : List Element) : Type 0 where
 
 module _ (d : List ℕ) (known : List Known) (tag : ℕ) (bs : List Block) (pairs : Pairs d known bs) where
   -- ancestors that decide nothing
-  ancestor-step : (plain : (y : Draft) → formatless tag y ≡ false) (n : ℕ) (x : Draft) (es : List Element) (before : List ℕ)
+  ancestor_step : (plain : (y : Draft) → formatless tag y ≡ false) (n : ℕ) (x : Draft) (es : List Element) (before : List ℕ)
       → x.at ≤ length d → Fresh x es
-      → Agree d (λ y fs a. Fresh y fs) (fields d known tag (ANCESTOR ∷ []) (counting (suc n) x) es) (anyBlock bs (drop x.at d))
+      → Agree d (λ y fs a. Fresh y fs) (fields d known tag (ANCESTOR ∷ []) (counting (suc n) x) es) (any_block bs (drop x.at d))
   unfolding fields kept height_after grown pick decides
-  ancestor-step plain n x es before h f =
-      agree_last d known tag _ ANCESTOR (counting (suc n) x) es (anyBlock bs (drop x.at d)) (be (take 2 (drop x.at d)))
+  ancestor_step plain n x es before h f =
+      agree_last d known tag _ ANCESTOR (counting (suc n) x) es (any_block bs (drop x.at d)) (be (take 2 (drop x.at d)))
       (ancestor_same d known tag bs pairs (counting (suc n) x) es h (rw (plain (counting (suc n) x))))
       (λ l z. record { height = f.height; free = f.free; none_yet = f.none_yet })
 
@@ -89,8 +89,8 @@ module _ (d : List ℕ) (known : List Known) (tag : ℕ) (bs : List Block) (pair
       let w = kept d known tag BOOL y in
       agree_map d (λ y fs s. Fresh y fs) _
       (λ ancestors. record { name = text_at d x.at; defined = be (take 1 (drop y.at d)); ancestors = ancestors })
-      (rest d known tag (ANCESTORS ∷ []) (ANCESTOR ∷ []) w es) (counted (λ _. anyBlock bs) (drop w.at d))
-      (agree_run d known tag ANCESTORS (ANCESTOR ∷ []) (λ _. anyBlock bs) (λ n y fs a. Fresh y fs) (ancestor-step plain) w es
+      (rest d known tag (ANCESTORS ∷ []) (ANCESTOR ∷ []) w es) (counted (λ _. any_block bs) (drop w.at d))
+      (agree_run d known tag ANCESTORS (ANCESTOR ∷ []) (λ _. any_block bs) (λ n y fs a. Fresh y fs) (ancestor_step plain) w es
       (ancestors_same d known tag bs pairs w es l' (plain w)) refl
       (record { height = f.height; free = f.free; none_yet = f.none_yet }))
       (λ _ _ _ i. i)))))

@@ -16,7 +16,7 @@ use Rattle.descriptor_fields.specs.declared.Draft.{Draft}
 use Rattle.descriptor_blocks.specs.Blocks.{next, noted, and_then, field, fields, items, section, counting}
 use Rattle.descriptor_blocks.specs.Descriptor.{node_of as oldNode}
 use Rattle.protocol.specs.Descriptors.{Block, BlockKind, scalar_of, types, Schema, unparsed, parsed, Reader, parse_then, give, item_count}
-use Rattle.protocol.specs.Descriptors.{anyBlock, height_over, Text, format_by_id, formatGiven as knownFormat, formatFrom, scalarWith, fields_of}
+use Rattle.protocol.specs.Descriptors.{any_block, height_over, Text, format_by_id, format_given as knownFormat, format_from, scalar_with, fields_of}
 use Rattle.protocol.specs.Descriptors.{item_run as items_of}
 use Rattle.descriptor_agree.proofs.Agree.{judged, verdict, judged_then, Agree, agree_then, agree_map, agree_assoc, agree_field, agree_last, then_give, then_assoc, then_pick}
 use Rattle.descriptor_agree.proofs.Fields.{Pair, Pairs, pairs_at, bool_same, text_same, count_same, any_same, ancestor_same, ancestors_same, ancestors_some}
@@ -83,43 +83,43 @@ module _ (d : List ℕ) (known : List Known) (bs : List Block) (pairs : Pairs d 
 
   -- the last ancestor, and its format
   deciding : (ℕ → ℕ → BlockKind) → Reader BlockKind
-  deciding K s = parse_then (anyBlock bs s) (λ last. λ s. parse_then (formatFrom bs (get_elem? bs last) s) (λ f. give (K last f)))
+  deciding K s = parse_then (any_block bs s) (λ last. λ s. parse_then (format_from bs (get_elem? bs last) s) (λ f. give (K last f)))
 
   module _ (x : Draft) (inside : x.at ≤ length d) (K : ℕ → ℕ → BlockKind) where
-    deciding-at : deciding K (drop x.at d)
+    deciding_at : deciding K (drop x.at d)
         ≡ judged d x.at 2
         (pick (ltb (be (take 2 (drop x.at d))) (length known)) (pick (ltb (format_by d (get_or known (be (take 2 (drop x.at d))) no_block)) 20) 0 14) 13)
         (K (be (take 2 (drop x.at d))) (format_by d (get_or known (be (take 2 (drop x.at d))) no_block)))
-    unfolding deciding extent fault_of ref_fault kind_fault fits number_at width_of pick formatFrom judged
-    deciding-at =
-        let e : anyBlock bs (drop x.at d) ≡ judged d x.at 2 (pick (ltb (be (take 2 (drop x.at d))) (length known)) 0 13) (be (take 2 (drop x.at d))) =
+    unfolding deciding extent fault_of ref_fault kind_fault fits number_at width_of pick format_from judged
+    deciding_at =
+        let e : any_block bs (drop x.at d) ≡ judged d x.at 2 (pick (ltb (be (take 2 (drop x.at d))) (length known)) 0 13) (be (take 2 (drop x.at d))) =
         any_same d known 3 bs pairs x [] inside in
         rw e (go (be (take 2 (drop x.at d))) (ltb (be (take 2 (drop x.at d))) (length known)) refl)
       where
         go : (v : ℕ) (t : Bool) → ltb v (length known) ≡ t
-            → parse_then (judged d x.at 2 (pick t 0 13) v) (λ last. λ s. parse_then (formatFrom bs (get_elem? bs last) s) (λ f. give (K last f)))
+            → parse_then (judged d x.at 2 (pick t 0 13) v) (λ last. λ s. parse_then (format_from bs (get_elem? bs last) s) (λ f. give (K last f)))
             ≡ judged d x.at 2 (pick t (pick (ltb (format_by d (get_or known v no_block)) 20) 0 14) 13) (K v (format_by d (get_or known v no_block)))
         go v true e =
             let q = pairs_at d known bs pairs v (ltb-true v (length known) e) in
             let b = q.0 in
-            judged_then d x.at inside 2 v (λ last. λ s. parse_then (formatFrom bs (get_elem? bs last) s) (λ f. give (K last f)))
+            judged_then d x.at inside 2 v (λ last. λ s. parse_then (format_from bs (get_elem? bs last) s) (λ f. give (K last f)))
             ∙ rw (q.1, by_number (get_or known v no_block) q.0 q.2)
             (rw (known_at (pick (eqb b.tag 3) (format_by_id b.id) none) (low_by (eqb b.tag 3) b.id) bs (drop (x.at + 2) d) (K v)))
-        go v false e = refused_then d x.at v (K v (format_by d (get_or known v no_block))) (λ last. λ s. parse_then (formatFrom bs (get_elem? bs last) s) (λ f. give (K last f)))
+        go v false e = refused_then d x.at v (K v (format_by d (get_or known v no_block))) (λ last. λ s. parse_then (format_from bs (get_elem? bs last) s) (λ f. give (K last f)))
 
   abbrev Done : Draft → List Element → BlockKind → Type 0
   Done = λ y fs k. Final known bs 3 (counting 0 y) fs k
 
-  done-scalar : (f : ℕ) (y : Draft) (fs : List Element) (s : Schema) → Formed f y fs → Done y fs (scalar_of s f)
+  done_scalar : (f : ℕ) (y : Draft) (fs : List Element) (s : Schema) → Formed f y fs → Done y fs (scalar_of s f)
   unfolding types height_over block_node oldNode valuedTag pick
-  done-scalar f y fs s i = record { height = i.fresh.height; node = rw i.format; below = tt }
+  done_scalar f y fs s i = record { height = i.fresh.height; node = rw i.format; below = tt }
 
   -- an ancestor that decides nothing
-  ancestor-step : (f n : ℕ) (x : Draft) (es : List Element) → x.at ≤ length d → Formed f x es → decides 3 (counting (suc n) x) ≡ false
-      → Agree d (λ y fs a. Formed f y fs) (fields d known 3 (ANCESTOR ∷ []) (counting (suc n) x) es) (anyBlock bs (drop x.at d))
+  ancestor_step : (f n : ℕ) (x : Draft) (es : List Element) → x.at ≤ length d → Formed f x es → decides 3 (counting (suc n) x) ≡ false
+      → Agree d (λ y fs a. Formed f y fs) (fields d known 3 (ANCESTOR ∷ []) (counting (suc n) x) es) (any_block bs (drop x.at d))
   unfolding fields kept height_after format_after grown pick
-  ancestor-step f n x es h i e =
-      agree_last d known 3 _ ANCESTOR (counting (suc n) x) es (anyBlock bs (drop x.at d)) (be (take 2 (drop x.at d))) (ancestor_same d known 3 bs pairs (counting (suc n) x) es h e)
+  ancestor_step f n x es h i e =
+      agree_last d known 3 _ ANCESTOR (counting (suc n) x) es (any_block bs (drop x.at d)) (be (take 2 (drop x.at d))) (ancestor_same d known 3 bs pairs (counting (suc n) x) es h e)
       (λ l z. record { fresh = record { height = i.fresh.height; free = i.fresh.free; none_yet = i.fresh.none_yet }; format = rw e i.format })
 
   module _ (name : Text) (defined : ℕ) where
@@ -127,41 +127,41 @@ module _ (d : List ℕ) (known : List Known) (bs : List Block) (pairs : Pairs d 
     made before last f = scalar_of (record { name = name; defined = defined; ancestors = before ++ (last ∷ []) }) f
 
     -- so many ancestors, and then the one that decides
-    open-items : (m : ℕ) (x : Draft) (es : List Element) (before : List ℕ) → x.at ≤ length d → Formed 20 x es
-        → Agree d Done (items d known 3 (ANCESTOR ∷ []) (suc m) x es) (parse_then (items_of (λ _. anyBlock bs) m before (drop x.at d)) (λ as'. deciding (made as')))
+    open_items : (m : ℕ) (x : Draft) (es : List Element) (before : List ℕ) → x.at ≤ length d → Formed 20 x es
+        → Agree d Done (items d known 3 (ANCESTOR ∷ []) (suc m) x es) (parse_then (items_of (λ _. any_block bs) m before (drop x.at d)) (λ as'. deciding (made as')))
     unfolding items fields items_of parse_then and_then noted kept height_after format_after grown pick decides formatless extent fault_of
         ref_fault kind_fault fits number_at width_of types height_over block_node oldNode valuedTag
-    open-items zero x es before h i =
+    open_items zero x es before h i =
         agree_assoc d Done (field d known 3 ANCESTOR (counting 1 x) es) (λ y fs. next y fs []) (λ y fs. next y fs []) (deciding (made before) (drop x.at d))
         (agree_last d known 3 Done ANCESTOR (counting 1 x) es (deciding (made before) (drop x.at d))
         (made before (be (take 2 (drop x.at d))) (format_by d (get_or known (be (take 2 (drop x.at d))) no_block)))
-        (rw i.format (deciding-at x h (made before)))
+        (rw i.format (deciding_at x h (made before)))
         (λ l z. record { height = i.fresh.height; node = rw i.format; below = tt }))
-    open-items (suc m) x es before h i =
-        rw (then_assoc (anyBlock bs (drop x.at d)))
+    open_items (suc m) x es before h i =
+        rw (then_assoc (any_block bs (drop x.at d)))
         (agree_then d (λ y fs a. Formed 20 y fs) Done (fields d known 3 (ANCESTOR ∷ []) (counting (suc (suc m)) x) es)
-        (anyBlock bs (drop x.at d)) (items d known 3 (ANCESTOR ∷ []) (suc m))
-        (λ a s. parse_then (items_of (λ _. anyBlock bs) m (before ++ (a ∷ [])) s) (λ as'. deciding (made as')))
-        (ancestor-step 20 (suc m) x es h i (rw (i.format, ne_eqb (suc (suc m)) 1 (λ e. omega arith))))
-        (λ y fs a l j. open-items m y fs (before ++ (a ∷ [])) l j))
+        (any_block bs (drop x.at d)) (items d known 3 (ANCESTOR ∷ []) (suc m))
+        (λ a s. parse_then (items_of (λ _. any_block bs) m (before ++ (a ∷ [])) s) (λ as'. deciding (made as')))
+        (ancestor_step 20 (suc m) x es h i (rw (i.format, ne_eqb (suc (suc m)) 1 (λ e. omega arith))))
+        (λ y fs a l j. open_items m y fs (before ++ (a ∷ [])) l j))
 
     -- no ancestor
-    fault-12 : (x : Draft) (es : List Element) → x.format ≡ 20 → be (take 2 (drop x.at d)) ≡ 0 → fault_of d known 3 ANCESTORS x es ≡ 12
+    fault_12 : (x : Draft) (es : List Element) → x.format ≡ 20 → be (take 2 (drop x.at d)) ≡ 0 → fault_of d known 3 ANCESTORS x es ≡ 12
     unfolding fault_of count_fault formatless number_at width_of pick
-    fault-12 x es f e = rw (e, f)
+    fault_12 x es f e = rw (e, f)
 
-    no-ancestor : (x : Draft) (es : List Element) → x.at ≤ length d → x.format ≡ 20 → be (take 2 (drop x.at d)) ≡ 0
-        → parse_then (item_count (drop x.at d)) (λ n. scalarWith bs none n name defined) ≡ judged d x.at (extent d ANCESTORS x.at) (fault_of d known 3 ANCESTORS x es) (made [] 0 0)
-    unfolding extent fault_of count_fault number_at width_of pick scalarWith formatless judged verdict
-    no-ancestor x es h f e =
+    no_ancestor : (x : Draft) (es : List Element) → x.at ≤ length d → x.format ≡ 20 → be (take 2 (drop x.at d)) ≡ 0
+        → parse_then (item_count (drop x.at d)) (λ n. scalar_with bs none n name defined) ≡ judged d x.at (extent d ANCESTORS x.at) (fault_of d known 3 ANCESTORS x es) (made [] 0 0)
+    unfolding extent fault_of count_fault number_at width_of pick scalar_with formatless judged verdict
+    no_ancestor x es h f e =
         let q : item_count (drop x.at d) ≡ judged d x.at 2 (pick (ltb 512 (be (take 2 (drop x.at d)))) 17 0) (be (take 2 (drop x.at d))) = count_same d known 3 bs pairs x es h in
-        rw q (rw (e, f) (judged_then d x.at h 2 0 (λ n. scalarWith bs none n name defined)))
+        rw q (rw (e, f) (judged_then d x.at h 2 0 (λ n. scalar_with bs none n name defined)))
 
     -- the count of ancestors, and they
     counted : (o : Option ℕ) → ((f : ℕ) → o ≡ some f → f < 20) → (x : Draft) (es : List Element) → x.at ≤ length d
         → Formed (number_of o) x es
-        → Agree d Done (and_then (field d known 3 ANCESTORS x es) (rest d known 3 [] (ANCESTOR ∷ []))) (parse_then (item_count (drop x.at d)) (λ n. scalarWith bs o n name defined))
-    unfolding deciding scalarWith kept height_after format_after grown pick decides formatless number_at width_of
+        → Agree d Done (and_then (field d known 3 ANCESTORS x es) (rest d known 3 [] (ANCESTOR ∷ []))) (parse_then (item_count (drop x.at d)) (λ n. scalar_with bs o n name defined))
+    unfolding deciding scalar_with kept height_after format_after grown pick decides formatless number_at width_of
     counted (some f) low x es h i =
         let far : eqb f 20 ≡ false = ne_eqb f 20 (λ e. let l = low f refl in omega arith) in
         agree_field d known 3 Done ANCESTORS x es (item_count (drop x.at d)) (be (take 2 (drop x.at d)))
@@ -170,28 +170,28 @@ module _ (d : List ℕ) (known : List Known) (bs : List Block) (pairs : Pairs d 
         (agree_map d (λ y fs ts. Formed f y fs) Done
         (λ ancestors. scalar_of (record { name = name; defined = defined; ancestors = ancestors }) f)
         (items d known 3 (ANCESTOR ∷ []) (be (take 2 (drop x.at d))) (kept d known 3 ANCESTORS x) es)
-        (items_of (λ _. anyBlock bs) (be (take 2 (drop x.at d))) [] (drop (x.at + extent d ANCESTORS x.at) d))
-        (agree_items d known 3 (ANCESTOR ∷ []) (λ _. anyBlock bs) (λ n y fs ts. Formed f y fs)
-        (λ n y fs ts l j. ancestor-step f n y fs l j (rw (j.format, far))) (be (take 2 (drop x.at d))) (kept d known 3 ANCESTORS x) es [] l
+        (items_of (λ _. any_block bs) (be (take 2 (drop x.at d))) [] (drop (x.at + extent d ANCESTORS x.at) d))
+        (agree_items d known 3 (ANCESTOR ∷ []) (λ _. any_block bs) (λ n y fs ts. Formed f y fs)
+        (λ n y fs ts l j. ancestor_step f n y fs l j (rw (j.format, far))) (be (take 2 (drop x.at d))) (kept d known 3 ANCESTORS x) es [] l
         (record { fresh = record { height = i.fresh.height; free = i.fresh.free; none_yet = i.fresh.none_yet }; format = i.format }))
-        (λ y fs ts j. done-scalar f y fs _ j)))
+        (λ y fs ts j. done_scalar f y fs _ j)))
     counted none low x es h i = go (be (take 2 (drop x.at d))) refl
       where
         go : (n : ℕ) → be (take 2 (drop x.at d)) ≡ n
-            → Agree d Done (and_then (field d known 3 ANCESTORS x es) (rest d known 3 [] (ANCESTOR ∷ []))) (parse_then (item_count (drop x.at d)) (λ n. scalarWith bs none n name defined))
+            → Agree d Done (and_then (field d known 3 ANCESTORS x es) (rest d known 3 [] (ANCESTOR ∷ []))) (parse_then (item_count (drop x.at d)) (λ n. scalar_with bs none n name defined))
         go zero e =
             rw then_give at (agree_field d known 3 Done ANCESTORS x es
-            (parse_then (item_count (drop x.at d)) (λ n. scalarWith bs none n name defined)) (made [] 0 0)
-            (rest d known 3 [] (ANCESTOR ∷ [])) give (no-ancestor x es h i.format e)
-            (λ l z. let t = fault-12 x es i.format e in absurd (omega arith)))
+            (parse_then (item_count (drop x.at d)) (λ n. scalar_with bs none n name defined)) (made [] 0 0)
+            (rest d known 3 [] (ANCESTOR ∷ [])) give (no_ancestor x es h i.format e)
+            (λ l z. let t = fault_12 x es i.format e in absurd (omega arith)))
         go (suc m) e =
             agree_field d known 3 Done ANCESTORS x es (item_count (drop x.at d)) (be (take 2 (drop x.at d)))
             (rest d known 3 [] (ANCESTOR ∷ [])) _
             (ancestors_some d known 3 bs pairs x es h (rw e (ne_eqb (suc m) 0 (λ e. omega arith)))) (λ l z.
             rest_end d known 3 Done (ANCESTOR ∷ []) (kept d known 3 ANCESTORS x) es _
-            (subst (λ (n : ℕ). Agree d Done (items d known 3 (ANCESTOR ∷ []) n (kept d known 3 ANCESTORS x) es) (scalarWith bs none n name defined (drop (x.at + extent d ANCESTORS x.at) d)))
+            (subst (λ (n : ℕ). Agree d Done (items d known 3 (ANCESTOR ∷ []) n (kept d known 3 ANCESTORS x) es) (scalar_with bs none n name defined (drop (x.at + extent d ANCESTORS x.at) d)))
             (sym e)
-            (open-items m (kept d known 3 ANCESTORS x) es [] l (record { fresh = record { height = i.fresh.height; free = i.fresh.free; none_yet = i.fresh.none_yet }; format = i.format }))))
+            (open_items m (kept d known 3 ANCESTORS x) es [] l (record { fresh = record { height = i.fresh.height; free = i.fresh.free; none_yet = i.fresh.none_yet }; format = i.format }))))
 
   pub scalar_agrees : (i : ℕ) (x : Draft) (es : List Element) → x.at ≤ length d → Fresh x es → x.format ≡ oldFormat i
       → Agree d (Final known bs 3) (and_then (rest d known 3 (TEXT ∷ BOOL ∷ ANCESTORS ∷ []) (ANCESTOR ∷ []) x es) (section d known 3 [] [])) (fields_of bs 3 i (drop x.at d))

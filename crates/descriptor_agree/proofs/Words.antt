@@ -33,22 +33,22 @@ module _ (ρ σ : ℕ → ℕ) where
   pairs_length (r ∷ rs) [] = refl
   pairs_length (r ∷ rs) (c ∷ cs) = ap (λ n. suc (suc n)) (pairs_length rs cs)
 
-  words-length : (o : Option Node) → length (block_words ρ o) ≡ length (block_words σ o)
+  words_length : (o : Option Node) → length (block_words ρ o) ≡ length (block_words σ o)
   unfolding block_words node_as_words rename
-  words-length none = refl
-  words-length (some (leaf f)) = refl
-  words-length (some enum) = refl
-  words-length (some (row r)) = refl
-  words-length (some (arrays r)) = refl
-  words-length (some (tuple rs)) = simp length-map
-  words-length (some (object rs cs)) = ap (λ n. suc (suc n)) (pairs_length rs cs)
-  words-length (some (sparse rs cs)) = ap (λ n. suc (suc n)) (pairs_length rs cs)
-  words-length (some (range r)) = refl
+  words_length none = refl
+  words_length (some (leaf f)) = refl
+  words_length (some enum) = refl
+  words_length (some (row r)) = refl
+  words_length (some (arrays r)) = refl
+  words_length (some (tuple rs)) = simp length-map
+  words_length (some (object rs cs)) = ap (λ n. suc (suc n)) (pairs_length rs cs)
+  words_length (some (sparse rs cs)) = ap (λ n. suc (suc n)) (pairs_length rs cs)
+  words_length (some (range r)) = refl
 
   by_length : (all xs : List Block) → length (words_by ρ all xs) ≡ length (words_by σ all xs)
   unfolding words_by
   by_length all [] = refl
-  by_length all (b ∷ xs) = simp length-append (ap₂ ◌+◌ (words-length (block_node all b.kind)) (by_length all xs))
+  by_length all (b ∷ xs) = simp length-append (ap₂ ◌+◌ (words_length (block_node all b.kind)) (by_length all xs))
 
   -- where references lead to the same words, the words are the same
   module _ (n : ℕ) (same : (r : ℕ) → r < n → ρ r ≡ σ r) where
@@ -56,24 +56,24 @@ module _ (ρ σ : ℕ → ℕ) where
     map_below [] b = refl
     map_below (t ∷ ts) b = ap₂ ◌∷◌ (same t b.0) (map_below ts b.1)
 
-    kind-below : (bs : List Block) (k : BlockKind) → Below n (types k) → block_words ρ (block_node bs k) ≡ block_words σ (block_node bs k)
+    kind_below : (bs : List Block) (k : BlockKind) → Below n (types k) → block_words ρ (block_node bs k) ≡ block_words σ (block_node bs k)
     unfolding block_words block_node node_as_words rename types pick
-    kind-below bs (set_of t) b = go (eqb (get_or (map (λ (b : Block). b.tag) bs) t 0) 6)
+    kind_below bs (set_of t) b = go (eqb (get_or (map (λ (b : Block). b.tag) bs) t 0) 6)
       where
         go : (q : Bool) → block_words ρ (some (pick q (arrays t) (row t))) ≡ block_words σ (some (pick q (arrays t) (row t)))
         go true = rw (same t b.0)
         go false = rw (same t b.0)
-    kind-below bs (output_shape free t es) b = rw (map_below (map (λ (e : OutputElement). e.type) es) b)
-    kind-below bs (scalar_of s f) b = refl
-    kind-below bs (tuple_of s ts) b = rw (map_below ts b)
-    kind-below bs (named_tuple s es) b = rw (map_below (map (λ (e : NamedElement). e.type) es) b)
-    kind-below bs (array_of s t) b = rw (same t b.0)
-    kind-below bs (enum_of s ms) b = refl
-    kind-below bs (input_shape es) b = rw (map_below (map (λ (e : InputElement). e.type) es) b)
-    kind-below bs (range_of s t) b = rw (same t b.0)
-    kind-below bs (object_type s) b = refl
-    kind-below bs (compound_type s o cs) b = refl
-    kind-below bs (sql_record es) b = refl
+    kind_below bs (output_shape free t es) b = rw (map_below (map (λ (e : OutputElement). e.type) es) b)
+    kind_below bs (scalar_of s f) b = refl
+    kind_below bs (tuple_of s ts) b = rw (map_below ts b)
+    kind_below bs (named_tuple s es) b = rw (map_below (map (λ (e : NamedElement). e.type) es) b)
+    kind_below bs (array_of s t) b = rw (same t b.0)
+    kind_below bs (enum_of s ms) b = refl
+    kind_below bs (input_shape es) b = rw (map_below (map (λ (e : InputElement). e.type) es) b)
+    kind_below bs (range_of s t) b = rw (same t b.0)
+    kind_below bs (object_type s) b = refl
+    kind_below bs (compound_type s o cs) b = refl
+    kind_below bs (sql_record es) b = refl
 
 -- ---- one more block
 
@@ -96,36 +96,36 @@ belows_more n [] x b h = (below_up n (suc n) (types x.kind) (omega arith) h, tt)
 belows_more n (y ∷ bs) x b h = (below_up n (suc n) (types y.kind) (omega arith) b.0, belows_more n bs x b.1 h)
 
 module _ (bs : List Block) (x : Block) where
-  node-more : (k : BlockKind) → Below (length bs) (types k) → block_node (bs ++ (x ∷ [])) k ≡ block_node bs k
+  node_more : (k : BlockKind) → Below (length bs) (types k) → block_node (bs ++ (x ∷ [])) k ≡ block_node bs k
   unfolding block_node types
-  node-more (set_of t) b =
+  node_more (set_of t) b =
       let tag : Block → ℕ = λ b. b.tag in
       rw (map-append tag bs (x ∷ []), get_or-append (map tag bs) (x.tag ∷ []) 0 t (rw (length-map bs tag) b.0))
-  node-more (output_shape free t es) b = refl
-  node-more (scalar_of s f) b = refl
-  node-more (tuple_of s ts) b = refl
-  node-more (named_tuple s es) b = refl
-  node-more (array_of s t) b = refl
-  node-more (enum_of s ms) b = refl
-  node-more (input_shape es) b = refl
-  node-more (range_of s t) b = refl
-  node-more (object_type s) b = refl
-  node-more (compound_type s o cs) b = refl
-  node-more (sql_record es) b = refl
+  node_more (output_shape free t es) b = refl
+  node_more (scalar_of s f) b = refl
+  node_more (tuple_of s ts) b = refl
+  node_more (named_tuple s es) b = refl
+  node_more (array_of s t) b = refl
+  node_more (enum_of s ms) b = refl
+  node_more (input_shape es) b = refl
+  node_more (range_of s t) b = refl
+  node_more (object_type s) b = refl
+  node_more (compound_type s o cs) b = refl
+  node_more (sql_record es) b = refl
 
-  by-more : (ρ : ℕ → ℕ) (ys : List Block) → Belows (length bs) ys → words_by ρ (bs ++ (x ∷ [])) ys ≡ words_by ρ bs ys
+  by_more : (ρ : ℕ → ℕ) (ys : List Block) → Belows (length bs) ys → words_by ρ (bs ++ (x ∷ [])) ys ≡ words_by ρ bs ys
   unfolding words_by
-  by-more ρ [] b = refl
-  by-more ρ (y ∷ ys) b = ap₂ ◌++◌ (ap (block_words ρ) (node-more y.kind b.0)) (by-more ρ ys b.1)
+  by_more ρ [] b = refl
+  by_more ρ (y ∷ ys) b = ap₂ ◌++◌ (ap (block_words ρ) (node_more y.kind b.0)) (by_more ρ ys b.1)
 
-  position-more : Belows (length bs) bs → (k : ℕ) → k ≤ length bs → node_position (bs ++ (x ∷ [])) k ≡ node_position bs k
+  position_more : Belows (length bs) bs → (k : ℕ) → k ≤ length bs → node_position (bs ++ (x ∷ [])) k ≡ node_position bs k
   unfolding node_position
-  position-more b k h = rw (take-append-le k bs (x ∷ []) h) (ap (λ (l : List ℕ). 2 + length l) (by-more (λ r. r) (take k bs) (belows_take (length bs) k bs b)))
+  position_more b k h = rw (take-append-le k bs (x ∷ []) h) (ap (λ (l : List ℕ). 2 + length l) (by_more (λ r. r) (take k bs) (belows_take (length bs) k bs b)))
 
 by_below : (ρ σ : ℕ → ℕ) (n : ℕ) → ((r : ℕ) → r < n → ρ r ≡ σ r) → (all ys : List Block) → Belows n ys → words_by ρ all ys ≡ words_by σ all ys
 unfolding words_by
 by_below ρ σ n same all [] b = refl
-by_below ρ σ n same all (y ∷ ys) b = ap₂ ◌++◌ (kind-below ρ σ n same all y.kind b.0) (by_below ρ σ n same all ys b.1)
+by_below ρ σ n same all (y ∷ ys) b = ap₂ ◌++◌ (kind_below ρ σ n same all y.kind b.0) (by_below ρ σ n same all ys b.1)
 
 by_append : (ρ : ℕ → ℕ) (all xs ys : List Block) → words_by ρ all (xs ++ ys) ≡ words_by ρ all xs ++ words_by ρ all ys
 unfolding words_by
@@ -162,7 +162,7 @@ shapes_more : (all : List Block) (x : Block) (os : List OldBlock) (bs : List Blo
 shapes_more all x [] [] b s = tt
 shapes_more all x [] (c ∷ bs) b s = s
 shapes_more all x (o ∷ os) [] b s = s
-shapes_more all x (o ∷ os) (c ∷ bs) b s = (node-more all x c.kind b.0 ∙ s.0, shapes_more all x os bs b.1 s.1)
+shapes_more all x (o ∷ os) (c ∷ bs) b s = (node_more all x c.kind b.0 ∙ s.0, shapes_more all x os bs b.1 s.1)
 
 shapes_end : (all : List Block) (os : List OldBlock) (bs : List Block) (o : OldBlock) (b : Block) → Shapes all os bs
     → block_node all b.kind ≡ pick (valuedTag o.tag) (some o.shape) none → Shapes all (os ++ (o ∷ [])) (bs ++ (b ∷ []))
@@ -195,7 +195,7 @@ module _ (d : List ℕ) (os : List OldBlock) (bs : List Block) (t : Twins d os b
     (w : o.words ≡ block_words (node_at (summaries os)) (block_node bs b.kind)) (n : o.node ≡ 2 + length (all_words os))
     (low : Below (length bs) (types b.kind)) (shape : block_node bs b.kind ≡ pick (valuedTag o.tag) (some o.shape) none) where
   agree_at : (r : ℕ) → r < length bs → node_at (summaries os) r ≡ node_position (bs ++ (b ∷ [])) r
-  agree_at r h = t.nodes r h ∙ sym (position-more bs b t.belows r (omega arith))
+  agree_at r h = t.nodes r h ∙ sym (position_more bs b t.belows r (omega arith))
 
   words_more : all_words (os ++ (o ∷ [])) ≡ words_by (node_position (bs ++ (b ∷ []))) (bs ++ (b ∷ [])) (bs ++ (b ∷ []))
   unfolding all_words words_by
@@ -203,19 +203,19 @@ module _ (d : List ℕ) (os : List OldBlock) (bs : List Block) (t : Twins d os b
       all_append os (o ∷ [])
       ∙ ap₂ (λ (l m : List ℕ). l ++ (m ++ []))
       (t.words
-      ∙ by_below (node_position bs) (node_position (bs ++ (b ∷ []))) (length bs) (λ r h. sym (position-more bs b t.belows r (omega arith))) bs bs t.belows
-      ∙ sym (by-more bs b (node_position (bs ++ (b ∷ []))) bs t.belows))
+      ∙ by_below (node_position bs) (node_position (bs ++ (b ∷ []))) (length bs) (λ r h. sym (position_more bs b t.belows r (omega arith))) bs bs t.belows
+      ∙ sym (by_more bs b (node_position (bs ++ (b ∷ []))) bs t.belows))
       (w
-      ∙ kind-below (node_at (summaries os)) (node_position (bs ++ (b ∷ []))) (length bs) agree_at bs b.kind low
-      ∙ ap (block_words (node_position (bs ++ (b ∷ [])))) (sym (node-more bs b b.kind low)))
+      ∙ kind_below (node_at (summaries os)) (node_position (bs ++ (b ∷ []))) (length bs) agree_at bs b.kind low
+      ∙ ap (block_words (node_position (bs ++ (b ∷ [])))) (sym (node_more bs b b.kind low)))
       ∙ sym (by_append (node_position (bs ++ (b ∷ []))) (bs ++ (b ∷ [])) bs (b ∷ []))
 
   same_length : length (summaries os) ≡ length bs
   same_length = Fields.pairs_length d (summaries os) bs t.pairs
 
-  nodes-more : (k : ℕ) → k < length (bs ++ (b ∷ [])) → node_at (summaries (os ++ (o ∷ []))) k ≡ node_position (bs ++ (b ∷ [])) k
+  nodes_more : (k : ℕ) → k < length (bs ++ (b ∷ [])) → node_at (summaries (os ++ (o ∷ []))) k ≡ node_position (bs ++ (b ∷ [])) k
   unfolding summary
-  nodes-more k h = elim (dec_lt k (length bs)) [
+  nodes_more k h = elim (dec_lt k (length bs)) [
     | yes l ↦ old_before os o k (rw same_length l) ∙ agree_at k l
     | no l ↦
         let e : k ≡ length bs = omega (arith, l, length-append bs (b ∷ [])) in
@@ -223,7 +223,7 @@ module _ (d : List ℕ) (os : List OldBlock) (bs : List Block) (t : Twins d os b
         ∙ n
         ∙ ap (λ (l : List ℕ). 2 + length l) t.words
         ∙ sym (end_at bs)
-        ∙ sym (position-more bs b t.belows (length bs) (omega arith))
+        ∙ sym (position_more bs b t.belows (length bs) (omega arith))
         ∙ ap (node_position (bs ++ (b ∷ []))) (sym e)
   ]
 
@@ -232,7 +232,7 @@ module _ (d : List ℕ) (os : List OldBlock) (bs : List Block) (t : Twins d os b
       record {
         pairs = rw map-append (pairs_more d (summaries os) bs (summary o) b t.pairs p);
         words = words_more;
-        nodes = nodes-more;
+        nodes = nodes_more;
         belows = rw (length-append bs (b ∷ []), add-one) (belows_more (length bs) bs b t.belows low);
-        shapes = shapes_end (bs ++ (b ∷ [])) os bs o b (shapes_more bs b os bs t.belows t.shapes) (node-more bs b b.kind low ∙ shape);
+        shapes = shapes_end (bs ++ (b ∷ [])) os bs o b (shapes_more bs b os bs t.belows t.shapes) (node_more bs b b.kind low ∙ shape);
       }

@@ -12,9 +12,9 @@ use borrow.Author.Tests.{leb-false}
 use Rattle.wire.proofs.Picks.{clash, pick_yes, pick_split, pick_case}
 use Rattle.descriptor_fields.specs.Layouts.{known_tag, indexed, valued}
 use Rattle.descriptor_fields.specs.Fields.{Element, id_at}
-use Rattle.descriptor_blocks.specs.Blocks.{Item, Reading, stop, next, blockFrom}
+use Rattle.descriptor_blocks.specs.Blocks.{Item, Reading, stop, next, block_from}
 use Rattle.descriptor_blocks.specs.Descriptor.{Block, summaries, block_of, Blocks, faulty, whole, extended, full, onward, blocks_from}
-use Rattle.descriptor_blocks.specs.Descriptor.{blocksOf, refused_by, described, index_of, tag_at, rooted, description_of}
+use Rattle.descriptor_blocks.specs.Descriptor.{blocks_of, refused_by, described, index_of, tag_at, rooted, description_of}
 use Rattle.descriptor_fields.specs.declared.Draft.{Draft}
 use Rattle.descriptor_blocks.proofs.Sound.{Sound, block_sound}
 use Rattle.protocol.specs.Numbers.{pick}
@@ -61,7 +61,7 @@ accepted_more bs b l a m =
 
 module _ (d : List ℕ) where
   extend : (bs : List Block) (at tag : ℕ) (x : Draft) (es : List Element) (is : List Item) → known_tag tag ≡ true → full bs tag ≡ false
-      → blockFrom d (summaries bs) tag (at + 1) ≡ next x es is → Accepted bs → Accepted (extended bs at tag x es is)
+      → block_from d (summaries bs) tag (at + 1) ≡ next x es is → Accepted bs → Accepted (extended bs at tag x es is)
   unfolding extended full
   extend bs at tag x es is k f e a =
       pick_case Accepted (indexed tag) _ _
@@ -91,13 +91,13 @@ module _ (d : List ℕ) where
       (λ t.
       ⊎_elim
       (λ z. let z : ◌≡◌ {A = ℕ} 0 1 = cc z.1 in absurd (omega arith))
-      (λ u. go (blockFrom d (summaries bs) (get_or d at 0) (at + 1)) refl u.1 t.0 u.0 (λ at bs a e. blocks_accepted f at bs cs a e))
+      (λ u. go (block_from d (summaries bs) (get_or d at 0) (at + 1)) refl u.1 t.0 u.0 (λ at bs a e. blocks_accepted f at bs cs a e))
       (pick_split _ _ _ _ t.1))
       (λ z. let z : ◌≡◌ {A = ℕ} 0 1 = cc z.1 in absurd (omega arith))
       (pick_split _ _ _ _ p.1))
       (pick_split _ _ _ _ e)
     where
-      go : (r : Reading) → blockFrom d (summaries bs) (get_or d at 0) (at + 1) ≡ r
+      go : (r : Reading) → block_from d (summaries bs) (get_or d at 0) (at + 1) ≡ r
           → onward at r (λ x es is. blocks_from d f x.at (extended bs at (get_or d at 0) x es is)) ≡ whole cs → known_tag (get_or d at 0) ≡ true
           → full bs (get_or d at 0) ≡ false → ((at : ℕ) (bs : List Block) → Accepted bs → blocks_from d f at bs ≡ whole cs → Accepted cs) → Accepted cs
       go (stop n) r e k l rest = let z : ◌≡◌ {A = ℕ} 0 1 = cc in absurd (omega arith)
@@ -117,8 +117,8 @@ tag_valued (b ∷ bs) zero e = record { inside = omega arith; values = e }
 tag_valued (b ∷ bs) (suc i) e = let v = tag_valued bs i e in record { inside = omega (arith, v.inside); values = v.values }
 
 -- an accepted descriptor that has a type
-rooted_is : (d : List ℕ) (r : ℕ) (t : Blocks) → blocksOf d ≡ t → (bs : List Block) (i : ℕ) → rooted d r t ≡ described bs i → Accepted bs × Valued bs i
-unfolding rooted blocksOf
+rooted_is : (d : List ℕ) (r : ℕ) (t : Blocks) → blocks_of d ≡ t → (bs : List Block) (i : ℕ) → rooted d r t ≡ described bs i → Accepted bs × Valued bs i
+unfolding rooted blocks_of
 rooted_is d r (faulty n p) w bs i e = let z : ◌≡◌ {A = ℕ} 0 1 = cc in absurd (omega arith)
 rooted_is d r (whole cs) w bs i e =
     ⊎_elim
@@ -142,7 +142,7 @@ described_is d root bs i e =
     ⊎_elim
     (λ r.
     ⊎_elim (λ z. let z : ◌≡◌ {A = ℕ} 0 1 = cc z.1 in absurd (omega arith)) (λ z. never _ _ _ z.1) (pick_split _ _ _ _ r.1))
-    (λ r. rooted_is d (id_at root 0) (blocksOf d) refl bs i r.1)
+    (λ r. rooted_is d (id_at root 0) (blocks_of d) refl bs i r.1)
     (pick_split _ _ _ _ q.1))
     (λ z. never _ _ _ z.1)
     (pick_split _ _ _ _ p.1))

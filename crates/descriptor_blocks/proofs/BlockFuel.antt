@@ -9,7 +9,7 @@ use lib.ListN.{length, get_or}
 use borrow.Author.Tests.{leb-false}
 use Rattle.descriptor_fields.specs.Layouts.{known_tag}
 use Rattle.descriptor_fields.specs.Fields.{Element}
-use Rattle.descriptor_blocks.specs.Blocks.{Item, Reading, stop, next, blockFrom}
+use Rattle.descriptor_blocks.specs.Blocks.{Item, Reading, stop, next, block_from}
 use Rattle.descriptor_blocks.specs.Descriptor.{Block, summaries, Blocks, faulty, whole, extended, full, onward, blocks_from}
 use Rattle.descriptor_fields.specs.declared.Draft.{Draft}
 use Rattle.descriptor_blocks.proofs.Progress.{block_past}
@@ -40,7 +40,7 @@ module _ (d : List ℕ) where
       (λ k.
       pick_same (full bs (get_or d at 0)) (faulty 17 at) (faulty 17 at) _ _ (λ _. refl)
       (λ _.
-      onward_same at (blockFrom d (summaries bs) (get_or d at 0) (at + 1)) _ _
+      onward_same at (block_from d (summaries bs) (get_or d at 0) (at + 1)) _ _
       (λ x es is e.
       let p = block_past d (summaries bs) (get_or d at 0) k (at + 1) (omega arith) x es is e in
       blocks_fuel f g x.at (extended bs at (get_or d at 0) x es is) p.1 (omega (arith, p.0)) (omega (arith, p.0)))))

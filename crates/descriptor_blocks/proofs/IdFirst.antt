@@ -6,7 +6,7 @@ use native.Mathlib.Omega.{arith}
 use lib.ListN.{length}
 use Rattle.descriptor_fields.specs.Layouts.{Layout, layout}
 use Rattle.descriptor_fields.specs.Fields.{Known, Element}
-use Rattle.descriptor_blocks.specs.Blocks.{Item, next, counting, fields, section, blockFrom}
+use Rattle.descriptor_blocks.specs.Blocks.{Item, next, counting, fields, section, block_from}
 use Rattle.descriptor_fields.specs.declared.Draft.{Draft}
 use Rattle.descriptor_fields.proofs.Rows.{among, either}
 use Rattle.descriptor_fields.proofs.Extents.{extent_id}
@@ -30,8 +30,8 @@ id_first tag n =
     (among IdFirst tag 127 _ _ n (own _ _ refl))))))))))))
 
 pub id_whole : (d : List ℕ) (known : List Known) (tag at : ℕ) → (tag ≡ 127 → ⊥) → (x : Draft) (es : List Element) (is : List Item)
-    → blockFrom d known tag at ≡ next x es is → at + 16 ≤ length d
-unfolding blockFrom section fields
+    → block_from d known tag at ≡ next x es is → at + 16 ≤ length d
+unfolding block_from section fields
 id_whole d known tag at n x es is e =
     let l = id_first tag n in
     let a = between _ _ x es is e in

@@ -9,7 +9,7 @@ use lib.ListN.{length, drop, get_or}
 use Rattle.wire.proofs.Picks.{pick_case}
 use Rattle.descriptor_fields.specs.Layouts.{Layout, layout, up_to_end}
 use Rattle.descriptor_fields.specs.Fields.{Known, Element}
-use Rattle.descriptor_blocks.specs.Blocks.{counting, field, fields, items, section, blockFrom}
+use Rattle.descriptor_blocks.specs.Blocks.{counting, field, fields, items, section, block_from}
 use Rattle.descriptor_blocks.specs.Walks.{Walk, stopped, moved, led, walk_of, push, pushes, Inside}
 use Rattle.descriptor_fields.specs.Arrays.{Roomy, tab, elements_of}
 use Rattle.descriptor_fields.specs.declared.Draft.{Draft}
@@ -218,16 +218,16 @@ module _ (d : List ℕ) (known : List Known) (tag at : ℕ) (l : Layout) (h : l 
   block_room = record { room = r.room; few = omega (arith, few) }
 
   module _ (p : Part) (b : List ℕ) (e : walk_of p b ≡ led (section d known tag l.head l.first (fresh at) (elements_of a 0))) where
-    first-section : walk_of p b ≡ led (section d known tag (layout tag).head (layout tag).first (fresh at) [])
+    first_section : walk_of p b ≡ led (section d known tag (layout tag).head (layout tag).first (fresh at) [])
     unfolding tab
-    first-section = rw h at e
+    first_section = rw h at e
 
-    pub block_halt : (m : ℕ) → p ≡ Fault m → walk_of p b ≡ led (blockFrom d known tag at)
-    unfolding walk_of blockFrom
+    pub block_halt : (m : ℕ) → p ≡ Fault m → walk_of p b ≡ led (block_from d known tag at)
+    unfolding walk_of block_from
     block_halt m q =
         rw q
         (halts (section d known tag (layout tag).head (layout tag).first (fresh at) []) (section d known tag (layout tag).more (layout tag).last) m
-        (ended p b (led (section d known tag (layout tag).head (layout tag).first (fresh at) [])) first-section m q))
+        (ended p b (led (section d known tag (layout tag).head (layout tag).first (fresh at) [])) first_section m q))
 
     module _ (y : Draft) (q : p ≡ Next y) (i : Inside (length d) (0 + pushes l.head + 512 * pushes l.first) p) where
       there : (y.at ≤ length d) × (y.left ≤ 512) × (y.count ≤ 0 + pushes l.head + 512 * pushes l.first)
@@ -243,11 +243,11 @@ module _ (d : List ℕ) (known : List Known) (tag at : ℕ) (l : Layout) (h : l 
       block_next s = (record { room = omega (arith, r.room); few = all }, there.0)
 
       pub block_done : (r : Part) (c : List ℕ) → walk_of r c ≡ led (section d known tag l.more l.last y (elements_of b y.count))
-          → Inside (length d) (y.count + pushes l.more + 512 * pushes l.last) r → (walk_of r c ≡ led (blockFrom d known tag at)) × Inside (length d) 512 r
-      unfolding blockFrom
+          → Inside (length d) (y.count + pushes l.more + 512 * pushes l.last) r → (walk_of r c ≡ led (block_from d known tag at)) × Inside (length d) 512 r
+      unfolding block_from
       block_done r c w j = (
         rw h at w
             ∙ sym (goes (section d known tag (layout tag).head (layout tag).first (fresh at) []) (section d known tag (layout tag).more (layout tag).last) y
-            (elements_of b y.count) (went p b (led (section d known tag (layout tag).head (layout tag).first (fresh at) [])) first-section y q)),
+            (elements_of b y.count) (went p b (led (section d known tag (layout tag).head (layout tag).first (fresh at) [])) first_section y q)),
         inside_more r (length d) (y.count + pushes l.more + 512 * pushes l.last) 512 all j,
       )

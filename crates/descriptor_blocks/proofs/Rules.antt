@@ -146,25 +146,25 @@ module _ (a : List ℕ) (n x y z : ℕ) (h : 3 * n + 2 < length a) where
   -- ---- and of what is known of blocks, as the start, the height and the node of one more
 
   module _ (d : List ℕ) where
-    earlier-known : (i : ℕ) → i < n → known_at d stored i ≡ known_at d a i
+    earlier_known : (i : ℕ) → i < n → known_at d stored i ≡ known_at d a i
     unfolding known_at
-    earlier-known i l =
+    earlier_known i l =
         rw (
           apart (3 * i) (λ e. omega arith) (λ e. omega arith) (λ e. omega arith),
           apart (3 * i + 1) (λ e. omega arith) (λ e. omega arith) (λ e. omega arith),
           apart (3 * i + 2) (λ e. omega arith) (λ e. omega arith) (λ e. omega arith),
         )
 
-    last-known : known_at d stored n ≡ record { start = x; tag = get_or d x 0; height = y; node = z }
+    last_known : known_at d stored n ≡ record { start = x; tag = get_or d x 0; height = y; node = z }
     unfolding known_at
-    last-known = rw (first, second, third)
+    last_known = rw (first, second, third)
 
     pub known_more : known_of d stored (n + 1) ≡ known_of d a n ++ (record { start = x; tag = get_or d x 0; height = y; node = z } ∷ [])
     unfolding tab
     known_more =
         ap (tab (known_at d stored)) (add-one n)
-        ∙ ap (λ (ks : List Known). ks ++ (known_at d stored n ∷ [])) (tab_same (known_at d stored) (known_at d a) n earlier-known)
-        ∙ ap (λ (k : Known). known_of d a n ++ (k ∷ [])) last-known
+        ∙ ap (λ (ks : List Known). ks ++ (known_at d stored n ∷ [])) (tab_same (known_at d stored) (known_at d a) n earlier_known)
+        ∙ ap (λ (k : Known). known_of d a n ++ (k ∷ [])) last_known
 
     pub told_more : Told d a n → n < 1024 → x + 17 ≤ length d → y ≤ 32 → Told d stored (n + 1)
     told_more t few inside low =

@@ -11,7 +11,7 @@ use borrow.Author.Tests.{eqb-false, ltb-true, ltb-false, eq-eqb}
 use Rattle.wire.proofs.Picks.{pick_yes, pick_case, same_or_not}
 use Rattle.descriptor_fields.specs.Layouts.{ID, TEXT, BOOL, ANCESTORS, ANCESTOR, layout}
 use Rattle.descriptor_fields.specs.Fields.{Known, Element, no_block, id_at, format_of, number_at, formatless, count_fault, decides, format_by, fits, kind_fault, ref_fault, fault, format_after, kept}
-use Rattle.descriptor_blocks.specs.Blocks.{Item, next, noted, and_then, counting, fields, items, section, blockFrom}
+use Rattle.descriptor_blocks.specs.Blocks.{Item, next, noted, and_then, counting, fields, items, section, block_from}
 use Rattle.descriptor_fields.specs.declared.Draft.{Draft}
 use Rattle.descriptor_blocks.proofs.Readings.{no_fault, fault_no, between, next_same, stepped, items_keep}
 use Rattle.protocol.specs.Numbers.{pick}
@@ -31,9 +31,9 @@ Due n x = (x.format ≤ 20) × (x.format ≡ 20 → 1 ≤ n)
 module _ (d : List ℕ) (known : List Known) where
   -- ---- the head: a scalar that needs an ancestor has one (R3.16)
 
-  due-count : (x : Draft) (es : List Element) → fault d known 3 ANCESTORS x es ≡ 0 → x.format ≡ 20 → 1 ≤ number_at d ANCESTORS x.at
+  due_count : (x : Draft) (es : List Element) → fault d known 3 ANCESTORS x es ≡ 0 → x.format ≡ 20 → 1 ≤ number_at d ANCESTORS x.at
   unfolding fault count_fault formatless pick
-  due-count x es fine e =
+  due_count x es fine e =
       let v = number_at d ANCESTORS x.at in
       let f : count_fault 3 ANCESTORS x v ≡ 0 = fine in
       let g = (fault_no (ltb 512 v) 16 (pick (eqb v 0) (pick (eqb x.format 20) 12 0) 0) f).1 in
@@ -44,10 +44,10 @@ module _ (d : List ℕ) (known : List Known) where
       (λ (z : v ≡ 0 → ⊥). omega arith)
       (same_or_not v 0)
 
-  head-due : (x : Draft) (es : List Element) (y : Draft) (fs : List Element) (is : List Item)
+  head_due : (x : Draft) (es : List Element) (y : Draft) (fs : List Element) (is : List Item)
       → fields d known 3 (ID ∷ TEXT ∷ BOOL ∷ ANCESTORS ∷ []) x es ≡ next y fs is → Due y.left y
   unfolding fields kept format_after pick
-  head-due x es y fs is e =
+  head_due x es y fs is e =
       let a = between _ _ y fs is e in
       let b = between _ _ y fs a.rest a.second in
       let c = between _ _ y fs b.rest b.second in
@@ -63,7 +63,7 @@ module _ (d : List ℕ) (known : List Known) where
       let f5 : number_at d ANCESTORS c.draft.at ≡ l.draft.left = ap (λ (z : Draft). z.left) w.draft in
       let q : l.draft ≡ y = (next_same _ _ _ _ _ _ l.second).0 in
       let r : Due l.draft.left l.draft =
-      (omega (arith, format_most (id_at d x.at)), λ g. omega (arith, due-count c.draft c.list w.fine (f4 ∙ g)))
+      (omega (arith, format_most (id_at d x.at)), λ g. omega (arith, due_count c.draft c.list w.fine (f4 ∙ g)))
       in
       rw q at r
 
@@ -74,16 +74,16 @@ module _ (d : List ℕ) (known : List Known) where
     last = get_or known (number_at d ANCESTOR x.at) no_block
 
     -- the last ancestor is a scalar whose own id is known (R3.16)
-    last-known : fits d 3 ANCESTOR (counting (suc n) x) last ≡ true
+    last_known : fits d 3 ANCESTOR (counting (suc n) x) last ≡ true
     unfolding fault ref_fault kind_fault pick last
-    last-known =
+    last_known =
         let v = number_at d ANCESTOR x.at in
         let a : pick (ltb v (length known)) (kind_fault d 3 ANCESTOR (counting (suc n) x) last) 13 ≡ 0 = fine in
         (no_fault (fits d 3 ANCESTOR (counting (suc n) x) last) 0 13 (no_fault (ltb v (length known)) _ 12 a).1).0
 
-    ancestor-due : Due n (kept d known 3 ANCESTOR (counting (suc n) x))
+    ancestor_due : Due n (kept d known 3 ANCESTOR (counting (suc n) x))
     unfolding fits formatless decides kept format_after pick last
-    ancestor-due = go (decides 3 (counting (suc n) x)) refl last-known
+    ancestor_due = go (decides 3 (counting (suc n) x)) refl last_known
       where
         go : (t : Bool) → decides 3 (counting (suc n) x) ≡ t → pick t (ltb (format_by d last) 20) true ≡ true
             → (pick t (format_by d last) x.format ≤ 20) × (pick t (format_by d last) x.format ≡ 20 → 1 ≤ n)
@@ -96,26 +96,26 @@ module _ (d : List ℕ) (known : List Known) where
               omega arith,
         )
 
-  ancestors-due : (n : ℕ) (x : Draft) (es : List Element) → Due n x → (y : Draft) (fs : List Element) (is : List Item)
+  ancestors_due : (n : ℕ) (x : Draft) (es : List Element) → Due n x → (y : Draft) (fs : List Element) (is : List Item)
       → items d known 3 (ANCESTOR ∷ []) n x es ≡ next y fs is → Due 0 y
   unfolding fields
-  ancestors-due =
+  ancestors_due =
       items_keep d known 3 (ANCESTOR ∷ []) (λ n x es. Due n x)
       (λ n x es q y fs is e.
       let b = between _ _ y fs is e in
       let s = stepped d known 3 ANCESTOR _ _ _ _ _ b.first in
       let w : kept d known 3 ANCESTOR (counting (suc n) x) ≡ y = s.draft ∙ (next_same _ _ _ _ _ _ b.second).0 in
-      rw w at (ancestor-due n x es q s.fine))
+      rw w at (ancestor_due n x es q s.fine))
 
   -- ---- the block
 
-  pub scalar_format : (at : ℕ) (y : Draft) (fs : List Element) (is : List Item) → blockFrom d known 3 at ≡ next y fs is → y.format < 20
-  unfolding blockFrom section layout fields items and_then noted pick
+  pub scalar_format : (at : ℕ) (y : Draft) (fs : List Element) (is : List Item) → block_from d known 3 at ≡ next y fs is → y.format < 20
+  unfolding block_from section layout fields items and_then noted pick
   scalar_format at y fs is e =
       let b = between _ _ y fs is e in
       let h = between _ _ b.draft b.list b.read b.first in
-      let g = head-due _ _ h.draft h.list h.read h.first in
-      let w = ancestors-due h.draft.left h.draft h.list g b.draft b.list h.rest h.second in
+      let g = head_due _ _ h.draft h.list h.read h.first in
+      let w = ancestors_due h.draft.left h.draft h.list g b.draft b.list h.rest h.second in
       let q : b.draft.format ≡ y.format = ap (λ (z : Draft). z.format) (next_same (counting 0 b.draft) y b.list fs [] b.rest b.second).0 in
       let n : b.draft.format ≡ 20 → ⊥ = λ z. omega (arith, w.1 z) in
       omega (arith, w.0)

@@ -10,7 +10,7 @@ use borrow.Author.Tests.{leb-true}
 use Rattle.wire.proofs.Picks.{pick_case}
 use Rattle.descriptor_fields.specs.Layouts.{known_tag}
 use Rattle.descriptor_fields.specs.Fields.{Known, Element}
-use Rattle.descriptor_blocks.specs.Blocks.{Item, next, blockFrom}
+use Rattle.descriptor_blocks.specs.Blocks.{Item, next, block_from}
 use Rattle.descriptor_fields.specs.declared.Draft.{Draft}
 use Rattle.descriptor_blocks.proofs.Tags.{single, bare, all_numbered}
 use Rattle.descriptor_blocks.proofs.Elements.{no_element, target, raised_by, Refers, block_held}
@@ -47,7 +47,7 @@ pub record Sound (known : List Known) (tag : ℕ) (x : Draft) (es : List Element
   pub format : tag ≡ 3 → x.format < 20
 
 pub block_sound : (d : List ℕ) (known : List Known) (tag at : ℕ) → known_tag tag ≡ true → (x : Draft) (es : List Element) (is : List Item)
-    → blockFrom d known tag at ≡ next x es is → Sound known tag x es
+    → block_from d known tag at ≡ next x es is → Sound known tag x es
 block_sound d known tag at k x es is e =
     let h = block_held d known tag k at x es is e in
     let g = h.4 in

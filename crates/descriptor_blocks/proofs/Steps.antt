@@ -98,15 +98,15 @@ module _ (codes : List ℕ) (k : ℕ) where
   codes_over h = rw (drop_of_length-le codes {i = k} h)
 
   module _ (h : k < length codes) where
-    codes-first : up_to_end (drop k codes) ≡ pick (eqb (get_or codes k 0) 0) [] (get_or codes k 0 ∷ up_to_end (drop (k + 1) codes))
+    codes_first : up_to_end (drop k codes) ≡ pick (eqb (get_or codes k 0) 0) [] (get_or codes k 0 ∷ up_to_end (drop (k + 1) codes))
     unfolding up_to_end
-    codes-first = rw (add-one, drop-cons codes k 0 h)
+    codes_first = rw (add-one, drop-cons codes k 0 h)
 
     pub codes_end : get_or codes k 0 ≡ 0 → up_to_end (drop k codes) ≡ []
-    codes_end e = codes-first ∙ pick_yes _ _ _ (eq-eqb _ _ e)
+    codes_end e = codes_first ∙ pick_yes _ _ _ (eq-eqb _ _ e)
 
     pub codes_next : (get_or codes k 0 ≡ 0 → ⊥) → up_to_end (drop k codes) ≡ get_or codes k 0 ∷ up_to_end (drop (k + 1) codes)
-    codes_next n = codes-first ∙ pick_no _ _ _ (ne_eqb _ _ n)
+    codes_next n = codes_first ∙ pick_no _ _ _ (ne_eqb _ _ n)
 
 pub pushes_next : (c : ℕ) (cs cs' : List ℕ) → cs ≡ c ∷ cs' → pushes cs ≡ push c + pushes cs'
 unfolding pushes

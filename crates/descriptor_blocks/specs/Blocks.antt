@@ -52,8 +52,8 @@ module _ (d : List ℕ) (known : List Known) (tag : ℕ) where
   section cs is x es = and_then (fields cs (counting 0 x) es) (λ y fs. items is y.left y fs)
 
   -- the block whose tag stands before a place
-  unfoldable pub blockFrom : ℕ → Reading
-  blockFrom at =
+  unfoldable pub block_from : ℕ → Reading
+  block_from at =
       and_then
       (section (layout tag).head (layout tag).first
       (record { at = at; left = 0; free = 0; format = 20; height = 1; card = 0; name = 0; count = 0 }) [])

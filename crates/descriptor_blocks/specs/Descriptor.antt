@@ -3,7 +3,7 @@
 use Rattle.std.specs.Prelude.{ℕ, zero, suc, ◌+◌, Bool, false, List, [], ◌∷◌, ◌++◌, map, leb, ltb, eqb, length, get_or}
 use Rattle.descriptor_fields.specs.Layouts.{known_tag, indexed, valued}
 use Rattle.descriptor_fields.specs.Fields.{Known, no_block, Element, id_at, index_in}
-use Rattle.descriptor_blocks.specs.Blocks.{Item, Reading, stop, next, blockFrom}
+use Rattle.descriptor_blocks.specs.Blocks.{Item, Reading, stop, next, block_from}
 use Rattle.descriptor_fields.specs.declared.Draft.{Draft}
 use Rattle.protocol.specs.Numbers.{pick}
 use Rattle.protocol.specs.Nodes.{Node, leaf, enum, row, arrays, tuple, object, sparse, range, rename}
@@ -108,12 +108,12 @@ module _ (d : List ℕ) where
       pick (leb (length d) at) (whole bs)
       (pick (known_tag (get_or d at 0))
       (pick (full bs (get_or d at 0)) (faulty 17 at)
-      (onward at (blockFrom d (summaries bs) (get_or d at 0) (at + 1)) (λ x es is. blocks_from f x.at (extended bs at (get_or d at 0) x es is))))
+      (onward at (block_from d (summaries bs) (get_or d at 0) (at + 1)) (λ x es is. blocks_from f x.at (extended bs at (get_or d at 0) x es is))))
       (faulty 11 at))
 
   -- each block has a byte
-  unfoldable pub blocksOf : Blocks
-  blocksOf = blocks_from (suc (length d)) 0 []
+  unfoldable pub blocks_of : Blocks
+  blocks_of = blocks_from (suc (length d)) 0 []
 
 -- ---- the root, and the descriptor
 
@@ -143,7 +143,7 @@ unfoldable pub description_of : List ℕ → List ℕ → Description
 description_of d root =
     pick (ltb 65535 (length d)) (refused_by 17 0)
     (pick (eqb (length root) 16)
-    (pick (eqb (id_at root 0) 0) (pick (eqb (length d) 0) without_type (refused_by 18 (length d))) (rooted d (id_at root 0) (blocksOf d)))
+    (pick (eqb (id_at root 0) 0) (pick (eqb (length d) 0) without_type (refused_by 18 (length d))) (rooted d (id_at root 0) (blocks_of d)))
     (refused_by 18 (length d)))
 
 -- ---- the plan

@@ -2,7 +2,7 @@
 ghost use Rattle.std.specs.Prelude.{◌≡◌, ◌+◌, ◌*◌, ◌≤◌, length};
 ghost use Rattle.descriptor_fields.specs.Layouts.{up_to_end};
 ghost use Rattle.descriptor_blocks.specs.Blocks as reading;
-ghost use Rattle.descriptor_blocks.specs.Blocks.{blockFrom};
+ghost use Rattle.descriptor_blocks.specs.Blocks.{block_from};
 ghost use Rattle.descriptor_fields.specs.Arrays.{Told, Roomy, known_of, elements_of};
 ghost use Rattle.descriptor_blocks.specs.Walks.{pushes, led, walk_of, Inside};
 
@@ -98,7 +98,7 @@ fn section(
 // The block whose tag stands before a place.
 pub fn read(d: &[u8], known: &[u32], n: usize, tag: u32, at: usize, elements: &mut [u32]) -> Part
     requires { (Told d.now known.now n) × (Roomy elements.old 0) × (at ≤ length d.now) }
-    ensures elements_after { walk_of result elements.new ≡ led (blockFrom d.now (known_of d.now known.now n) tag at) }
+    ensures elements_after { walk_of result elements.new ≡ led (block_from d.now (known_of d.now known.now n) tag at) }
     ensures inside { Inside (length d.now) 512 result }
 {
     let x = Draft {

@@ -15,7 +15,7 @@ use Rattle.wire.proofs.Picks.{pick_yes, pick_no, pick_split}
 use Rattle.protocol.specs.Descriptors.{bare_form, DescribedType, describe}
 use Rattle.descriptor_fields.specs.Layouts.{valued}
 use Rattle.descriptor_fields.specs.Fields.{Known, id_at, index_in}
-use Rattle.descriptor_blocks.specs.Descriptor.{node_at, Block, summary, summaries, all_words, Blocks, faulty, whole, blocksOf, index_of, tag_at}
+use Rattle.descriptor_blocks.specs.Descriptor.{node_at, Block, summary, summaries, all_words, Blocks, faulty, whole, blocks_of, index_of, tag_at}
 use Rattle.descriptor_blocks.specs.Descriptor.{refused_by, without_type, described, rooted, description_of, plan_words, Compiled, refused_plan, plan}
 use Rattle.descriptor_blocks.specs.Descriptor.{plan_of, roomed, compile_of}
 use Rattle.descriptor_fields.specs.Arrays.{known_of}
@@ -79,16 +79,16 @@ has_same bs k =
       | no l ↦ pick_no _ _ _ (le-ltb k (length (summaries bs)) (omega arith)) ∙ sym (ap valued (tag_out bs k (omega arith)) ∙ none_valued)
     ]
 
-module _ (d : List ℕ) (i : ℕ) (s : Scan) (known l l' : List ℕ) (g : Scans d (blocksOf d) s known l l') where
-  pub blocks_refused : (m q : ℕ) → s ≡ Stopped m q → (r : Answer) → r ≡ refusal_of s → (k' : List ℕ) → Checks (plan_of (rooted d i (blocksOf d))) r l k'
+module _ (d : List ℕ) (i : ℕ) (s : Scan) (known l l' : List ℕ) (g : Scans d (blocks_of d) s known l l') where
+  pub blocks_refused : (m q : ℕ) → s ≡ Stopped m q → (r : Answer) → r ≡ refusal_of s → (k' : List ℕ) → Checks (plan_of (rooted d i (blocks_of d))) r l k'
   unfolding plan_of rooted refusal_of
   blocks_refused m q e r w k' =
       rw (w ∙ ap refusal_of e)
-      (refuses (plan_of (rooted d i (blocksOf d))) m q l k' (ap (λ (t : Blocks). plan_of (rooted d i t)) (faulty_in d (blocksOf d) m q known l l' (rw e at g))))
+      (refuses (plan_of (rooted d i (blocks_of d))) m q l k' (ap (λ (t : Blocks). plan_of (rooted d i t)) (faulty_in d (blocks_of d) m q known l l' (rw e at g))))
 
   module _ (n to : ℕ) (e : s ≡ Done n to) where
-    pub ended : Finished d (blocksOf d) n to known l l'
-    ended = finished_in d (blocksOf d) n to known l l' (rw e at g)
+    pub ended : Finished d (blocks_of d) n to known l l'
+    ended = finished_in d (blocks_of d) n to known l l' (rw e at g)
 
     module _ (k : ℕ) (w : k ≡ index_in d (known_of d known n) i) where
       abbrev bs : List Block
@@ -97,22 +97,22 @@ module _ (d : List ℕ) (i : ℕ) (s : Scan) (known l l' : List ℕ) (g : Scans 
       index_is : index_of d bs i ≡ k
       index_is = ap (λ (ks : List Known). index_in d ks i) (sym ended.kept.same) ∙ sym w
 
-      rooted_is : rooted d i (blocksOf d) ≡ pick (has_node (known_of d known n) k) (described bs k) (refused_by 18 (length d))
+      rooted_is : rooted d i (blocks_of d) ≡ pick (has_node (known_of d known n) k) (described bs k) (refused_by 18 (length d))
       unfolding rooted
       rooted_is =
           ap (rooted d i) ended.is
           ∙ ap (λ (j : ℕ). pick (valued (tag_at bs j)) (described bs j) (refused_by 18 (length d))) index_is
           ∙ ap (λ (b : Bool). pick b (described bs k) (refused_by 18 (length d))) (sym (has_same bs k) ∙ ap (λ (ks : List Known). has_node ks k) (sym ended.kept.same))
 
-      pub blocks_rootless : has_node (known_of d known n) k ≡ false → Checks (plan_of (rooted d i (blocksOf d))) (Refused 18 (length d)) l l'
+      pub blocks_rootless : has_node (known_of d known n) k ≡ false → Checks (plan_of (rooted d i (blocks_of d))) (Refused 18 (length d)) l l'
       unfolding plan_of
-      blocks_rootless h = refuses (plan_of (rooted d i (blocksOf d))) 18 (length d) l l' (ap plan_of (rooted_is ∙ pick_no _ _ _ h))
+      blocks_rootless h = refuses (plan_of (rooted d i (blocks_of d))) 18 (length d) l l' (ap plan_of (rooted_is ∙ pick_no _ _ _ h))
 
       pub blocks_planned : has_node (known_of d known n) k ≡ true → (v : ℕ) → v ≡ node_at (known_of d known n) k → (p : List ℕ) → p ≡ sets l' 0 (to ∷ v ∷ [])
-          → Checks (plan_of (rooted d i (blocksOf d))) (Words to) l p
+          → Checks (plan_of (rooted d i (blocks_of d))) (Words to) l p
       unfolding plan_of plan_words checked_answer Stored
       blocks_planned h v q p f =
-          let o : plan_of (rooted d i (blocksOf d)) ≡ plan (plan_words bs k) = ap plan_of (rooted_is ∙ pick_yes _ _ _ h) in
+          let o : plan_of (rooted d i (blocks_of d)) ≡ plan (plan_words bs k) = ap plan_of (rooted_is ∙ pick_yes _ _ _ h) in
           rw o
           (record {
             answer = let m : to ≡ suc (suc (length (all_words bs))) = omega (arith, ended.kept.end) in ap Words m;
@@ -137,10 +137,10 @@ module _ (d root l l' : List ℕ) where
     check_short n = refuses _ 18 (length d) l l' (ap plan_of (pick_no _ _ _ small ∙ pick_no _ _ _ (ne_eqb _ _ n)))
 
     module _ (e : length root ≡ 16) where
-      pub check_rest : eqb (id_at root 0) 0 ≡ false → (r : Answer) → Checks (plan_of (rooted d (id_at root 0) (blocksOf d))) r l l' → Checks (plan_of (description_of d root)) r l l'
+      pub check_rest : eqb (id_at root 0) 0 ≡ false → (r : Answer) → Checks (plan_of (rooted d (id_at root 0) (blocks_of d))) r l l' → Checks (plan_of (description_of d root)) r l l'
       unfolding description_of
       check_rest z r c =
-          let o : description_of d root ≡ rooted d (id_at root 0) (blocksOf d) = pick_no _ _ _ small ∙ pick_yes _ _ _ (eq-eqb _ _ e) ∙ pick_no _ _ _ z in
+          let o : description_of d root ≡ rooted d (id_at root 0) (blocks_of d) = pick_no _ _ _ small ∙ pick_yes _ _ _ (eq-eqb _ _ e) ∙ pick_no _ _ _ z in
           rw o c
 
       module _ (z : eqb (id_at root 0) 0 ≡ true) where

@@ -4,7 +4,7 @@
 ghost use Rattle.std.specs.Prelude.{◌≡◌, ◌≤◌, length};
 ghost use Rattle.descriptor_fields.specs.Fields.{id_at};
 ghost use Rattle.protocol.specs.Descriptors.{bare_form};
-ghost use Rattle.descriptor_blocks.specs.Descriptor.{blocksOf, rooted, description_of, plan_of};
+ghost use Rattle.descriptor_blocks.specs.Descriptor.{blocks_of, rooted, description_of, plan_of};
 ghost use Rattle.descriptor_fields.specs.Arrays.{Told, known_of};
 ghost use Rattle.descriptor_compile.specs.Compile.{Gives};
 ghost use Rattle.descriptor_compile.specs.Checking.{Checks, refusal_of, has_node};
@@ -51,7 +51,7 @@ fn check_blocks(
     plan: &mut [u32],
 ) -> Answer
     requires { (length d.now ≤ 65535) × (3072 ≤ length known.old) × (1536 ≤ length elements.old) × (16 ≤ length root.now) }
-    ensures { Checks (plan_of (rooted d.now (id_at root.now 0) (blocksOf d.now))) result plan.old plan.new }
+    ensures { Checks (plan_of (rooted d.now (id_at root.now 0) (blocks_of d.now))) result plan.old plan.new }
 {
     let scan = descriptor_scan::read(d, known, elements, plan);
     let Scan::Done { n, to } = scan else {

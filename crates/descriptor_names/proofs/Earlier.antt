@@ -23,20 +23,20 @@ index_most d (k ∷ ks) i =
 
 module _ (d : List ℕ) (v : ℕ) where
   -- the first of the blocks with the id
-  index-first : (ks : List Known) (i : ℕ) → i < length ks → ((j : ℕ) → j < i → eqb (id_at d ((get_or ks j no_block).start + 1)) v ≡ false)
+  index_first : (ks : List Known) (i : ℕ) → i < length ks → ((j : ℕ) → j < i → eqb (id_at d ((get_or ks j no_block).start + 1)) v ≡ false)
       → eqb (id_at d ((get_or ks i no_block).start + 1)) v ≡ true → index_in d ks v ≡ i
   unfolding index_in
-  index-first [] i h f t = absurd (omega arith)
-  index-first (k ∷ ks) zero h f t = pick_yes _ _ _ t
-  index-first (k ∷ ks) (suc i) h f t =
-      pick_no _ _ _ (f 0 (omega arith)) ∙ add-one (index_in d ks v) ∙ ap suc (index-first ks i (le_of_suc-le-suc h) (λ j l. f (suc j) (omega arith)) t)
+  index_first [] i h f t = absurd (omega arith)
+  index_first (k ∷ ks) zero h f t = pick_yes _ _ _ t
+  index_first (k ∷ ks) (suc i) h f t =
+      pick_no _ _ _ (f 0 (omega arith)) ∙ add-one (index_in d ks v) ∙ ap suc (index_first ks i (le_of_suc-le-suc h) (λ j l. f (suc j) (omega arith)) t)
 
   -- none of them
-  index-none : (ks : List Known) → ((j : ℕ) → j < length ks → eqb (id_at d ((get_or ks j no_block).start + 1)) v ≡ false) → index_in d ks v ≡ length ks
+  index_none : (ks : List Known) → ((j : ℕ) → j < length ks → eqb (id_at d ((get_or ks j no_block).start + 1)) v ≡ false) → index_in d ks v ≡ length ks
   unfolding index_in
-  index-none [] f = refl
-  index-none (k ∷ ks) f =
-      pick_no _ _ _ (f 0 (omega arith)) ∙ add-one (index_in d ks v) ∙ ap suc (index-none ks (λ j l. f (suc j) (omega arith)))
+  index_none [] f = refl
+  index_none (k ∷ ks) f =
+      pick_no _ _ _ (f 0 (omega arith)) ∙ add-one (index_in d ks v) ∙ ap suc (index_none ks (λ j l. f (suc j) (omega arith)))
 
   -- as the code looks for it, block by block
   module _ (a : List ℕ) (n i : ℕ) (f : (j : ℕ) → j < i → eqb (id_at d (get_or a (3 * j) 0 + 1)) v ≡ false) where
@@ -46,11 +46,11 @@ module _ (d : List ℕ) (v : ℕ) where
 
     pub found_at : (start : ℕ) → i < n → start ≡ get_or a (3 * i) 0 → eqb (id_at d (start + 1)) v ≡ true → i ≡ index_in d (known_of d a n) v
     found_at start l e t =
-        sym (index-first (known_of d a n) i (rw (known_length d a n) l) (λ j m. kept_id j (omega arith) ∙ f j m) (kept_id i l ∙ (rw e at t)))
+        sym (index_first (known_of d a n) i (rw (known_length d a n) l) (λ j m. kept_id j (omega arith) ∙ f j m) (kept_id i l ∙ (rw e at t)))
 
     pub found_none : n ≤ i → n ≡ index_in d (known_of d a n) v
     found_none l =
-        sym (index-none (known_of d a n) (λ j m. let h : j < n = rw (known_length d a n) at m in kept_id j h ∙ f j (omega arith)) ∙ known_length d a n)
+        sym (index_none (known_of d a n) (λ j m. let h : j < n = rw (known_length d a n) at m in kept_id j h ∙ f j (omega arith)) ∙ known_length d a n)
 
   -- an id is taken where its index is found
   taken_in : (ks : List Known) → index_in d ks v < length ks → taken d ks v ≡ true

@@ -11,7 +11,7 @@ use lib.ListN.{length, get_or, set, length-map}
 use lib.Seq.{sets}
 use borrow.Author.Tests.{eq-eqb, ne_eqb}
 use Rattle.wire.proofs.Picks.{pick_yes, pick_no}
-use Rattle.wire.proofs.Stores.{sets-append}
+use Rattle.wire.proofs.Stores.{sets_append}
 use Rattle.descriptor_fields.specs.Layouts.{valued}
 use Rattle.descriptor_fields.specs.Fields.{Known, no_block, Element}
 use Rattle.descriptor_blocks.specs.Descriptor.{refs, cards, only_ref, node_of, node_at, words_of}
@@ -34,14 +34,14 @@ pairs_length (r ∷ rs) (c ∷ cs) e = omega (arith, pairs_length rs cs (omega a
 -- ---- one more word
 
 -- words stored after those that are stored
-pub then-sets : (l l₁ ws vs : List ℕ) (to n : ℕ) → n ≡ length ws → l₁ ≡ sets l to ws → sets l₁ (to + n) vs ≡ sets l to (ws ++ vs)
-then-sets l l₁ ws vs to n e q = rw (q, e) (sets-append l to ws vs)
+pub then_sets : (l l₁ ws vs : List ℕ) (to n : ℕ) → n ≡ length ws → l₁ ≡ sets l to ws → sets l₁ (to + n) vs ≡ sets l to (ws ++ vs)
+then_sets l l₁ ws vs to n e q = rw (q, e) (sets_append l to ws vs)
 
 module _ {A B : Type 0} (f : A → B) (g : ℕ → A) where
-  map-tab : (n : ℕ) → map f (tab g n) ≡ tab (λ i. f (g i)) n
+  map_tab : (n : ℕ) → map f (tab g n) ≡ tab (λ i. f (g i)) n
   unfolding tab
-  map-tab zero = refl
-  map-tab (suc n) = map-append f (tab g n) (g n ∷ []) ∙ ap (λ (l : List B). l ++ (f (g n) ∷ [])) (map-tab n)
+  map_tab zero = refl
+  map_tab (suc n) = map-append f (tab g n) (g n ∷ []) ∙ ap (λ (l : List B). l ++ (f (g n) ∷ [])) (map_tab n)
 
 pairs_snoc : (rs cs : List ℕ) (r c : ℕ) → length cs ≡ length rs → ref_cards (rs ++ (r ∷ [])) (cs ++ (c ∷ [])) ≡ ref_cards rs cs ++ (r ∷ c ∷ [])
 unfolding ref_cards
@@ -51,66 +51,66 @@ pairs_snoc (y ∷ rs) [] r c e = absurd (omega arith)
 pairs_snoc (y ∷ rs) (x ∷ cs) r c e = ap (λ (l : List ℕ). y ∷ x ∷ l) (pairs_snoc rs cs r c (omega arith))
 
 module _ (f : ℕ → ℕ) (a : List ℕ) where
-  abbrev pub refsTo : ℕ → List ℕ
-  refsTo k = map f (refs (elements_of a k))
+  abbrev pub refs_to : ℕ → List ℕ
+  refs_to k = map f (refs (elements_of a k))
 
-  abbrev pub pairsTo : ℕ → List ℕ
-  pairsTo k = ref_cards (map f (refs (elements_of a k))) (cards (elements_of a k))
+  abbrev pub pairs_to : ℕ → List ℕ
+  pairs_to k = ref_cards (map f (refs (elements_of a k))) (cards (elements_of a k))
 
-  refs-tab : (k : ℕ) → refsTo k ≡ tab (λ i. f (get_or a (3 * i + 1) 0)) k
+  refs_tab : (k : ℕ) → refs_to k ≡ tab (λ i. f (get_or a (3 * i + 1) 0)) k
   unfolding element_at
-  refs-tab k =
-      ap (map f) (map-tab (λ (e : Element). e.ref) (element_at a) k) ∙ map-tab f (λ i. get_or a (3 * i + 1) 0) k
+  refs_tab k =
+      ap (map f) (map_tab (λ (e : Element). e.ref) (element_at a) k) ∙ map_tab f (λ i. get_or a (3 * i + 1) 0) k
 
-  cards-tab : (k : ℕ) → cards (elements_of a k) ≡ tab (λ i. get_or a (3 * i + 2) 0) k
+  cards_tab : (k : ℕ) → cards (elements_of a k) ≡ tab (λ i. get_or a (3 * i + 2) 0) k
   unfolding element_at
-  cards-tab k = map-tab (λ (e : Element). e.card) (element_at a) k
+  cards_tab k = map_tab (λ (e : Element). e.card) (element_at a) k
 
-  pub refs_length : (k : ℕ) → length (refsTo k) ≡ k
-  refs_length k = ap length (refs-tab k) ∙ tab_length _ k
+  pub refs_length : (k : ℕ) → length (refs_to k) ≡ k
+  refs_length k = ap length (refs_tab k) ∙ tab_length _ k
 
   pub cards_length : (k : ℕ) → length (cards (elements_of a k)) ≡ k
-  cards_length k = ap length (cards-tab k) ∙ tab_length _ k
+  cards_length k = ap length (cards_tab k) ∙ tab_length _ k
 
-  pub pairs_count : (k : ℕ) → length (pairsTo k) ≡ 2 * k
+  pub pairs_count : (k : ℕ) → length (pairs_to k) ≡ 2 * k
   pairs_count k =
-      pairs_length (refsTo k) (cards (elements_of a k)) (cards_length k ∙ sym (refs_length k)) ∙ ap (λ (n : ℕ). 2 * n) (refs_length k)
+      pairs_length (refs_to k) (cards (elements_of a k)) (cards_length k ∙ sym (refs_length k)) ∙ ap (λ (n : ℕ). 2 * n) (refs_length k)
 
-  refs-next : (k : ℕ) → refsTo (k + 1) ≡ refsTo k ++ (f (get_or a (3 * k + 1) 0) ∷ [])
+  refs_next : (k : ℕ) → refs_to (k + 1) ≡ refs_to k ++ (f (get_or a (3 * k + 1) 0) ∷ [])
   unfolding tab
-  refs-next k =
-      refs-tab (k + 1) ∙ ap (tab (λ i. f (get_or a (3 * i + 1) 0))) (add-one k)
-      ∙ ap (λ (l : List ℕ). l ++ (f (get_or a (3 * k + 1) 0) ∷ [])) (sym (refs-tab k))
+  refs_next k =
+      refs_tab (k + 1) ∙ ap (tab (λ i. f (get_or a (3 * i + 1) 0))) (add-one k)
+      ∙ ap (λ (l : List ℕ). l ++ (f (get_or a (3 * k + 1) 0) ∷ [])) (sym (refs_tab k))
 
   cards_next : (k : ℕ) → cards (elements_of a (k + 1)) ≡ cards (elements_of a k) ++ (get_or a (3 * k + 2) 0 ∷ [])
   unfolding tab
   cards_next k =
-      cards-tab (k + 1) ∙ ap (tab (λ i. get_or a (3 * i + 2) 0)) (add-one k)
-      ∙ ap (λ (l : List ℕ). l ++ (get_or a (3 * k + 2) 0 ∷ [])) (sym (cards-tab k))
+      cards_tab (k + 1) ∙ ap (tab (λ i. get_or a (3 * i + 2) 0)) (add-one k)
+      ∙ ap (λ (l : List ℕ). l ++ (get_or a (3 * k + 2) 0 ∷ [])) (sym (cards_tab k))
 
-  pairs_next : (k : ℕ) → pairsTo (k + 1) ≡ pairsTo k ++ (f (get_or a (3 * k + 1) 0) ∷ get_or a (3 * k + 2) 0 ∷ [])
+  pairs_next : (k : ℕ) → pairs_to (k + 1) ≡ pairs_to k ++ (f (get_or a (3 * k + 1) 0) ∷ get_or a (3 * k + 2) 0 ∷ [])
   pairs_next k =
-      ap₂ ref_cards (refs-next k) (cards_next k)
-      ∙ pairs_snoc (refsTo k) (cards (elements_of a k)) (f (get_or a (3 * k + 1) 0)) (get_or a (3 * k + 2) 0) (cards_length k ∙ sym (refs_length k))
+      ap₂ ref_cards (refs_next k) (cards_next k)
+      ∙ pairs_snoc (refs_to k) (cards (elements_of a k)) (f (get_or a (3 * k + 1) 0)) (get_or a (3 * k + 2) 0) (cards_length k ∙ sym (refs_length k))
 
   module _ (l l₁ l₂ : List ℕ) (to k r : ℕ) (e : r ≡ f (get_or a (3 * k + 1) 0)) where
-    pub refs_more : l₁ ≡ sets l to (refsTo k) → l₂ ≡ set l₁ (to + k) r → l₂ ≡ sets l to (refsTo (k + 1))
+    pub refs_more : l₁ ≡ sets l to (refs_to k) → l₂ ≡ set l₁ (to + k) r → l₂ ≡ sets l to (refs_to (k + 1))
     refs_more p q =
-        q ∙ then-sets l l₁ (refsTo k) (r ∷ []) to k (sym (refs_length k)) p
-        ∙ ap (λ (v : ℕ). sets l to (refsTo k ++ (v ∷ []))) e ∙ ap (sets l to) (sym (refs-next k))
+        q ∙ then_sets l l₁ (refs_to k) (r ∷ []) to k (sym (refs_length k)) p
+        ∙ ap (λ (v : ℕ). sets l to (refs_to k ++ (v ∷ []))) e ∙ ap (sets l to) (sym (refs_next k))
 
-    pub pairs_more : l₁ ≡ sets l to (pairsTo k) → l₂ ≡ sets l₁ (to + 2 * k) (r ∷ get_or a (3 * k + 2) 0 ∷ []) → l₂ ≡ sets l to (pairsTo (k + 1))
+    pub pairs_more : l₁ ≡ sets l to (pairs_to k) → l₂ ≡ sets l₁ (to + 2 * k) (r ∷ get_or a (3 * k + 2) 0 ∷ []) → l₂ ≡ sets l to (pairs_to (k + 1))
     pairs_more p q =
-        q ∙ then-sets l l₁ (pairsTo k) (r ∷ get_or a (3 * k + 2) 0 ∷ []) to (2 * k) (sym (pairs_count k)) p
-        ∙ ap (λ (v : ℕ). sets l to (pairsTo k ++ (v ∷ get_or a (3 * k + 2) 0 ∷ []))) e ∙ ap (sets l to) (sym (pairs_next k))
+        q ∙ then_sets l l₁ (pairs_to k) (r ∷ get_or a (3 * k + 2) 0 ∷ []) to (2 * k) (sym (pairs_count k)) p
+        ∙ ap (λ (v : ℕ). sets l to (pairs_to k ++ (v ∷ get_or a (3 * k + 2) 0 ∷ []))) e ∙ ap (sets l to) (sym (pairs_next k))
 
   -- all of them
   module _ (l l₁ : List ℕ) (to k n : ℕ) (h : k ≤ n) (g : n ≤ k) where
-    pub refs_done : l₁ ≡ sets l to (refsTo k) → l₁ ≡ sets l to (refsTo n)
-    refs_done p = p ∙ ap (λ (m : ℕ). sets l to (refsTo m)) (let e : k ≡ n = omega arith in e)
+    pub refs_done : l₁ ≡ sets l to (refs_to k) → l₁ ≡ sets l to (refs_to n)
+    refs_done p = p ∙ ap (λ (m : ℕ). sets l to (refs_to m)) (let e : k ≡ n = omega arith in e)
 
-    pub pairs_done : l₁ ≡ sets l to (pairsTo k) → l₁ ≡ sets l to (pairsTo n)
-    pairs_done p = p ∙ ap (λ (m : ℕ). sets l to (pairsTo m)) (let e : k ≡ n = omega arith in e)
+    pub pairs_done : l₁ ≡ sets l to (pairs_to k) → l₁ ≡ sets l to (pairs_to n)
+    pairs_done p = p ∙ ap (λ (m : ℕ). sets l to (pairs_to m)) (let e : k ≡ n = omega arith in e)
 
 -- ---- an earlier block, or none
 
@@ -162,7 +162,7 @@ pub headed : (ws rest l l₁ l₂ : List ℕ) (to r k n : ℕ) → ws ≡ k ∷ 
 headed ws rest l l₁ l₂ to r k n e p q h =
     record {
       end = rw e (omega arith);
-      words = q ∙ then-sets l l₁ (k ∷ n ∷ []) rest to 2 refl p ∙ ap (sets l to) (sym e);
+      words = q ∙ then_sets l l₁ (k ∷ n ∷ []) rest to 2 refl p ∙ ap (sets l to) (sym e);
     }
 
 -- these words, whatever they are called
@@ -196,29 +196,29 @@ module _ (known : List Known) (tag : ℕ) where
     single_put l l₁ to k w e i p = p ∙ ap₂ (λ (k w : ℕ). sets l to (k ∷ w ∷ [])) e i
 
   module _ (format : ℕ) (es : List Element) where
-    words-leaf : tag ≡ 3 → words_of known tag format es ≡ 1 ∷ format ∷ []
+    words_leaf : tag ≡ 3 → words_of known tag format es ≡ 1 ∷ format ∷ []
     unfolding words_of valued node_of rename node_as_words pick
-    words-leaf e = rw e
+    words_leaf e = rw e
 
-    words-enum : tag ≡ 7 → words_of known tag format es ≡ 8 ∷ []
+    words_enum : tag ≡ 7 → words_of known tag format es ≡ 8 ∷ []
     unfolding words_of valued node_of rename node_as_words pick
-    words-enum e = rw e
+    words_enum e = rw e
 
-    words-single : (tag ≡ 0) ⊎ ((tag ≡ 6) ⊎ (tag ≡ 9)) → words_of known tag format es ≡ single_words known tag (only_ref es)
+    words_single : (tag ≡ 0) ⊎ ((tag ≡ 6) ⊎ (tag ≡ 9)) → words_of known tag format es ≡ single_words known tag (only_ref es)
     unfolding words_of valued node_of rename node_as_words single_kind single_words pick
-    words-single (inl e) = rw e (go (eqb (get_or known (only_ref es) no_block).tag 6))
+    words_single (inl e) = rw e (go (eqb (get_or known (only_ref es) no_block).tag 6))
       where
         go : (t : Bool) → node_as_words (rename (node_at known) (pick t (arrays (only_ref es)) (row (only_ref es)))) ≡ pick t 3 2 ∷ node_at known (only_ref es) ∷ []
         go true = refl
         go false = refl
-    words-single (inr (inl e)) = rw e
-    words-single (inr (inr e)) = rw e
+    words_single (inr (inl e)) = rw e
+    words_single (inr (inr e)) = rw e
 
     -- an object or a tuple
-    words-many : valued tag ≡ true → (tag ≡ 3 → ⊥) → (tag ≡ 7 → ⊥) → ((tag ≡ 0) ⊎ ((tag ≡ 6) ⊎ (tag ≡ 9)) → ⊥)
+    words_many : valued tag ≡ true → (tag ≡ 3 → ⊥) → (tag ≡ 7 → ⊥) → ((tag ≡ 0) ⊎ ((tag ≡ 6) ⊎ (tag ≡ 9)) → ⊥)
         → words_of known tag format es ≡ many_words known tag es
     unfolding words_of node_of rename node_as_words many_words pick
-    words-many v n3 n7 single =
+    words_many v n3 n7 single =
         rw (
           v,
           ne_eqb tag 0 (λ e. single (inl e)),
@@ -249,46 +249,46 @@ module _ (known : List Known) (tag : ℕ) where
 
     module _ (l l₁ : List ℕ) (to : ℕ) where
       pub put_leaf : tag ≡ 3 → l₁ ≡ sets l to (1 ∷ format ∷ []) → Puts (words_of known tag format es) to (to + 2) l l₁
-      put_leaf e p = putting _ (1 ∷ format ∷ []) l l₁ to (to + 2) (words-leaf e) p refl
+      put_leaf e p = putting _ (1 ∷ format ∷ []) l l₁ to (to + 2) (words_leaf e) p refl
 
       pub put_enum : tag ≡ 7 → l₁ ≡ set l to 8 → Puts (words_of known tag format es) to (to + 1) l l₁
-      put_enum e p = putting _ (8 ∷ []) l l₁ to (to + 1) (words-enum e) p refl
+      put_enum e p = putting _ (8 ∷ []) l l₁ to (to + 1) (words_enum e) p refl
 
       pub put_one : (r : ℕ) → (tag ≡ 0) ⊎ ((tag ≡ 6) ⊎ (tag ≡ 9)) → r ≡ only_ref es → l₁ ≡ sets l to (single_words known tag r) → Puts (words_of known tag format es) to (to + 2) l l₁
       unfolding single_words
       put_one r e q p =
-          putting _ (single_words known tag r) l l₁ to (to + 2) (words-single e ∙ ap (single_words known tag) (sym q)) p refl
+          putting _ (single_words known tag r) l l₁ to (to + 2) (words_single e ∙ ap (single_words known tag) (sym q)) p refl
 
       pub put_rest : (t : Bool) (r : ℕ) → t ≡ valued tag → t ≡ true → (tag ≡ 3 → ⊥) → (tag ≡ 7 → ⊥) → ((tag ≡ 0) ⊎ ((tag ≡ 6) ⊎ (tag ≡ 9)) → ⊥)
           → Puts (many_words known tag es) to r l l₁ → Puts (words_of known tag format es) to r l l₁
-      put_rest t r q e n3 n7 single p = rw (words-many (sym q ∙ e) n3 n7 single) p
+      put_rest t r q e n3 n7 single p = rw (words_many (sym q ∙ e) n3 n7 single) p
 
   -- the same with the elements as the code keeps them
   module _ (a : List ℕ) (n : ℕ) (l l₁ l₂ : List ℕ) (to : ℕ) where
     sized : (k : ℕ) (ws : List ℕ) → k ∷ length (elements_of a n) ∷ ws ≡ k ∷ n ∷ ws
     sized k ws = ap (λ (m : ℕ). k ∷ m ∷ ws) (tab_length (element_at a) n)
 
-    paired : (ws : List ℕ) (k : ℕ) → ws ≡ k ∷ length (elements_of a n) ∷ pairsTo (node_at known) a n → l₁ ≡ sets l to (k ∷ n ∷ []) → l₂ ≡ sets l₁ (to + 2) (pairsTo (node_at known) a n)
+    paired : (ws : List ℕ) (k : ℕ) → ws ≡ k ∷ length (elements_of a n) ∷ pairs_to (node_at known) a n → l₁ ≡ sets l to (k ∷ n ∷ []) → l₂ ≡ sets l₁ (to + 2) (pairs_to (node_at known) a n)
         → Puts ws to (to + 2 + 2 * n) l l₂
     paired ws k e p q =
-        headed ws (pairsTo (node_at known) a n) l l₁ l₂ to (to + 2 + 2 * n) k n (e ∙ sized k (pairsTo (node_at known) a n)) p q
+        headed ws (pairs_to (node_at known) a n) l l₁ l₂ to (to + 2 + 2 * n) k n (e ∙ sized k (pairs_to (node_at known) a n)) p q
         (omega (arith, pairs_count (node_at known) a n))
 
-    pub put_object : tag ≡ 1 → l₁ ≡ sets l to (5 ∷ n ∷ []) → l₂ ≡ sets l₁ (to + 2) (pairsTo (node_at known) a n)
+    pub put_object : tag ≡ 1 → l₁ ≡ sets l to (5 ∷ n ∷ []) → l₂ ≡ sets l₁ (to + 2) (pairs_to (node_at known) a n)
         → Puts (many_words known tag (elements_of a n)) to (to + 2 + 2 * n) l l₂
     unfolding many_words
     put_object e p q = paired _ 5 (pick_yes _ _ _ (eq-eqb _ _ e)) p q
 
     module _ (not-object : tag ≡ 1 → ⊥) where
-      pub put_sparse : tag ≡ 8 → l₁ ≡ sets l to (6 ∷ n ∷ []) → l₂ ≡ sets l₁ (to + 2) (pairsTo (node_at known) a n)
+      pub put_sparse : tag ≡ 8 → l₁ ≡ sets l to (6 ∷ n ∷ []) → l₂ ≡ sets l₁ (to + 2) (pairs_to (node_at known) a n)
           → Puts (many_words known tag (elements_of a n)) to (to + 2 + 2 * n) l l₂
       unfolding many_words
       put_sparse e p q = paired _ 6 (pick_no _ _ _ (ne_eqb _ _ not-object) ∙ pick_yes _ _ _ (eq-eqb _ _ e)) p q
 
-      pub put_tuple : (tag ≡ 8 → ⊥) → l₁ ≡ sets l to (4 ∷ n ∷ []) → l₂ ≡ sets l₁ (to + 2) (refsTo (node_at known) a n)
+      pub put_tuple : (tag ≡ 8 → ⊥) → l₁ ≡ sets l to (4 ∷ n ∷ []) → l₂ ≡ sets l₁ (to + 2) (refs_to (node_at known) a n)
           → Puts (many_words known tag (elements_of a n)) to (to + 2 + n) l l₂
       unfolding many_words
       put_tuple e p q =
-          headed _ (refsTo (node_at known) a n) l l₁ l₂ to (to + 2 + n) 4 n
-          (pick_no _ _ _ (ne_eqb _ _ not-object) ∙ pick_no _ _ _ (ne_eqb _ _ e) ∙ sized 4 (refsTo (node_at known) a n)) p q
+          headed _ (refs_to (node_at known) a n) l l₁ l₂ to (to + 2 + n) 4 n
+          (pick_no _ _ _ (ne_eqb _ _ not-object) ∙ pick_no _ _ _ (ne_eqb _ _ e) ∙ sized 4 (refs_to (node_at known) a n)) p q
           (omega (arith, refs_length (node_at known) a n))

@@ -10,13 +10,13 @@ use lib.Dec.{eqb, leb}
 use lib.ListN.{length, get_or, length-append, length-map}
 use lib.Seq.{sets}
 use borrow.Author.Tests.{eq-eqb, ne_eqb, le-leb, lt-leb, leb-false}
-use Rattle.wire.proofs.Stores.{sets-append}
+use Rattle.wire.proofs.Stores.{sets_append}
 use Rattle.wire.proofs.Picks.{pick_yes, pick_no, pick_split, pick_case}
 use Rattle.descriptor_fields.specs.Layouts.{known_tag, indexed, valued}
 use Rattle.descriptor_fields.specs.Fields.{Known, no_block, Element}
-use Rattle.descriptor_blocks.specs.Blocks.{Item, Reading, stop, next, blockFrom}
+use Rattle.descriptor_blocks.specs.Blocks.{Item, Reading, stop, next, block_from}
 use Rattle.descriptor_blocks.specs.Descriptor.{refs, cards, only_ref, node_of, node_at, Block, summary, summaries, all_words}
-use Rattle.descriptor_blocks.specs.Descriptor.{words_of, block_of, faulty, extended, full, onward, blocks_from, blocksOf}
+use Rattle.descriptor_blocks.specs.Descriptor.{words_of, block_of, faulty, extended, full, onward, blocks_from, blocks_of}
 use Rattle.descriptor_fields.specs.Arrays.{tab, Told, known_of, known_at, element_at, elements_of}
 use Rattle.descriptor_blocks.specs.Walks.{stopped, moved, led, walk_of, Inside}
 use Rattle.descriptor_fields.specs.declared.Draft.{Draft}
@@ -79,43 +79,43 @@ module _ (ρ : ℕ → ℕ) (es : List Element) where
   abbrev Few : Node → Type 0
   Few v = length (node_as_words (rename ρ v)) ≤ 2 + 2 * length es
 
-  few-row : (r : ℕ) → Few (row r)
+  few_row : (r : ℕ) → Few (row r)
   unfolding rename node_as_words
-  few-row r = omega arith
+  few_row r = omega arith
 
-  few-arrays : (r : ℕ) → Few (arrays r)
+  few_arrays : (r : ℕ) → Few (arrays r)
   unfolding rename node_as_words
-  few-arrays r = omega arith
+  few_arrays r = omega arith
 
-  few-range : (r : ℕ) → Few (range r)
+  few_range : (r : ℕ) → Few (range r)
   unfolding rename node_as_words
-  few-range r = omega arith
+  few_range r = omega arith
 
-  few-leaf : (f : ℕ) → Few (leaf f)
+  few_leaf : (f : ℕ) → Few (leaf f)
   unfolding rename node_as_words
-  few-leaf f = omega arith
+  few_leaf f = omega arith
 
-  few-enum : Few enum
+  few_enum : Few enum
   unfolding rename node_as_words
-  few-enum = omega arith
+  few_enum = omega arith
 
-  refs-many : length (map ρ (refs es)) ≡ length es
-  refs-many = length-map (refs es) ρ ∙ length-map es (λ (e : Element). e.ref)
+  refs_many : length (map ρ (refs es)) ≡ length es
+  refs_many = length-map (refs es) ρ ∙ length-map es (λ (e : Element). e.ref)
 
-  pairs-many : length (ref_cards (map ρ (refs es)) (cards es)) ≡ 2 * length (map ρ (refs es))
-  pairs-many = pairs_length (map ρ (refs es)) (cards es) (length-map es (λ (e : Element). e.card) ∙ sym refs-many)
+  pairs_many : length (ref_cards (map ρ (refs es)) (cards es)) ≡ 2 * length (map ρ (refs es))
+  pairs_many = pairs_length (map ρ (refs es)) (cards es) (length-map es (λ (e : Element). e.card) ∙ sym refs_many)
 
-  few-tuple : Few (tuple (refs es))
+  few_tuple : Few (tuple (refs es))
   unfolding rename node_as_words
-  few-tuple = omega (arith, refs-many)
+  few_tuple = omega (arith, refs_many)
 
-  few-object : Few (object (refs es) (cards es))
+  few_object : Few (object (refs es) (cards es))
   unfolding rename node_as_words
-  few-object = omega (arith, refs-many, pairs-many)
+  few_object = omega (arith, refs_many, pairs_many)
 
-  few-sparse : Few (sparse (refs es) (cards es))
+  few_sparse : Few (sparse (refs es) (cards es))
   unfolding rename node_as_words
-  few-sparse = omega (arith, refs-many, pairs-many)
+  few_sparse = omega (arith, refs_many, pairs_many)
 
 words_most : (known : List Known) (tag f : ℕ) (es : List Element) → length (words_of known tag f es) ≤ 2 + 2 * length es
 unfolding words_of node_of
@@ -124,13 +124,13 @@ words_most known tag f es =
     let P = Few ρ es in
     pick_case (λ (ws : List ℕ). length ws ≤ 2 + 2 * length es) (valued tag) _ _
     (λ _.
-    pick_case P (eqb tag 0) _ _ (λ _. pick_case P (eqb (get_or known (only_ref es) no_block).tag 6) _ _ (λ _. few-arrays ρ es (only_ref es)) (λ _. few-row ρ es (only_ref es)))
-    (λ _. pick_case P (eqb tag 1) _ _ (λ _. few-object ρ es)
-    (λ _. pick_case P (eqb tag 3) _ _ (λ _. few-leaf ρ es f)
-    (λ _. pick_case P (eqb tag 6) _ _ (λ _. few-row ρ es (only_ref es))
-    (λ _. pick_case P (eqb tag 7) _ _ (λ _. few-enum ρ es)
-    (λ _. pick_case P (eqb tag 8) _ _ (λ _. few-sparse ρ es)
-    (λ _. pick_case P (eqb tag 9) _ _ (λ _. few-range ρ es (only_ref es)) (λ _. few-tuple ρ es))))))))
+    pick_case P (eqb tag 0) _ _ (λ _. pick_case P (eqb (get_or known (only_ref es) no_block).tag 6) _ _ (λ _. few_arrays ρ es (only_ref es)) (λ _. few_row ρ es (only_ref es)))
+    (λ _. pick_case P (eqb tag 1) _ _ (λ _. few_object ρ es)
+    (λ _. pick_case P (eqb tag 3) _ _ (λ _. few_leaf ρ es f)
+    (λ _. pick_case P (eqb tag 6) _ _ (λ _. few_row ρ es (only_ref es))
+    (λ _. pick_case P (eqb tag 7) _ _ (λ _. few_enum ρ es)
+    (λ _. pick_case P (eqb tag 8) _ _ (λ _. few_sparse ρ es)
+    (λ _. pick_case P (eqb tag 9) _ _ (λ _. few_range ρ es (only_ref es)) (λ _. few_tuple ρ es))))))))
     (λ _. omega arith)
 
 pub read_inside : (p : Part) (x : Draft) (end : ℕ) → p ≡ Next x → Inside end 512 p → x.count ≤ 512
@@ -151,10 +151,10 @@ pub record Scanning (d plan₀ known plan : List ℕ) (n at to : ℕ) : Type 0 w
   pub kept : Kept d known n to bs
   pub words : plan ≡ sets plan₀ 2 (all_words bs)
   pub inside : at ≤ length d
-  pub same : blocksOf d ≡ blocks_from d (suc (length d)) at bs
+  pub same : blocks_of d ≡ blocks_from d (suc (length d)) at bs
 
 pub scanning_start : (d plan known : List ℕ) → length d ≤ 65535 → 3072 ≤ length known → Scanning d plan known plan 0 0 2
-unfolding blocksOf tab all_words
+unfolding blocks_of tab all_words
 scanning_start d plan known s r =
     record {
       bs = [];
@@ -180,16 +180,16 @@ module _ (d plan₀ known plan : List ℕ) (n at to : ℕ) (g : Scanning d plan�
   many : n ≡ length bs
   many = sym (tab_length (known_at d known) n) ∙ ap length g.kept.same ∙ length-map bs summary
 
-  pub scanning_end : length d ≤ at → Scans d (blocksOf d) (Done n to) known plan₀ plan
+  pub scanning_end : length d ≤ at → Scans d (blocks_of d) (Done n to) known plan₀ plan
   unfolding blocks_from Scans
   scanning_end h = rw (g.same ∙ pick_yes _ _ _ (le-leb _ _ h)) (g.kept, g.words)
 
   module _ (l : at < length d) (tag : ℕ) (t : tag ≡ get_or d at 0) where
     -- the blocks from a tag on, by its rule
-    tagged : blocksOf d
+    tagged : blocks_of d
         ≡ pick (known_tag tag)
         (pick (full bs tag) (faulty 17 at)
-        (onward at (blockFrom d (summaries bs) tag (at + 1)) (λ x es is. blocks_from d (length d) x.at (extended bs at tag x es is))))
+        (onward at (block_from d (summaries bs) tag (at + 1)) (λ x es is. blocks_from d (length d) x.at (extended bs at tag x es is))))
         (faulty 11 at)
     unfolding blocks_from
     tagged = rw t (g.same ∙ pick_no _ _ _ (lt-leb _ _ l))
@@ -198,11 +198,11 @@ module _ (d plan₀ known plan : List ℕ) (n at to : ℕ) (g : Scanning d plan�
     unfolding full
     full_is = rw (← many) refl
 
-    pub scanning_tag : (m : ℕ) → m ≡ tag_fault tag n → (m ≡ 0 → ⊥) → Scans d (blocksOf d) (Refused m at) known plan₀ plan
+    pub scanning_tag : (m : ℕ) → m ≡ tag_fault tag n → (m ≡ 0 → ⊥) → Scans d (blocks_of d) (Refused m at) known plan₀ plan
     unfolding tag_fault Scans
     scanning_tag m e z = go (known_tag tag) refl (full bs tag) refl
       where
-        go : (k : Bool) → known_tag tag ≡ k → (f : Bool) → full bs tag ≡ f → Scans d (blocksOf d) (Refused m at) known plan₀ plan
+        go : (k : Bool) → known_tag tag ≡ k → (f : Bool) → full bs tag ≡ f → Scans d (blocks_of d) (Refused m at) known plan₀ plan
         go false a f b = rw (tagged ∙ pick_no _ _ _ a) (e ∙ pick_no _ _ _ a, refl)
         go true a true b = rw (tagged ∙ pick_yes _ _ _ a ∙ pick_yes _ _ _ b) (e ∙ pick_yes _ _ _ a ∙ pick_yes _ _ _ (sym full_is ∙ b), refl)
         go true a false b = absurd (z (e ∙ pick_yes _ _ _ a ∙ pick_no _ _ _ (sym full_is ∙ b)))
@@ -216,22 +216,22 @@ module _ (d plan₀ known plan : List ℕ) (n at to : ℕ) (g : Scanning d plan�
           (λ p. let z : 11 ≡ 0 = p.1 in absurd (omega arith))
           (pick_split (known_tag tag) _ _ _ f)
 
-      read-on : blocksOf d ≡ onward at (blockFrom d (summaries bs) tag (at + 1)) (λ x es is. blocks_from d (length d) x.at (extended bs at tag x es is))
-      read-on = tagged ∙ pick_yes _ _ _ fine.0 ∙ pick_no _ _ _ (full_is ∙ fine.1)
+      read_on : blocks_of d ≡ onward at (block_from d (summaries bs) tag (at + 1)) (λ x es is. blocks_from d (length d) x.at (extended bs at tag x es is))
+      read_on = tagged ∙ pick_yes _ _ _ fine.0 ∙ pick_no _ _ _ (full_is ∙ fine.1)
 
-      module _ (p : Part) (a : List ℕ) (e : walk_of p a ≡ led (blockFrom d (known_of d known n) tag (at + 1))) where
-        reading : walk_of p a ≡ led (blockFrom d (summaries bs) tag (at + 1))
+      module _ (p : Part) (a : List ℕ) (e : walk_of p a ≡ led (block_from d (known_of d known n) tag (at + 1))) where
+        reading : walk_of p a ≡ led (block_from d (summaries bs) tag (at + 1))
         reading = rw g.kept.same at e
 
-        pub scanning_halt : (m : ℕ) → p ≡ Fault m → (k : ℕ) → k ≡ fault_of p → Scans d (blocksOf d) (Refused k at) known plan₀ plan
+        pub scanning_halt : (m : ℕ) → p ≡ Fault m → (k : ℕ) → k ≡ fault_of p → Scans d (blocks_of d) (Refused k at) known plan₀ plan
         unfolding Scans onward fault_of
         scanning_halt m q k w =
-            rw (read-on ∙ ap (λ (r : Reading). onward at r (λ x es is. blocks_from d (length d) x.at (extended bs at tag x es is))) (went_wrong p a _ reading m q))
+            rw (read_on ∙ ap (λ (r : Reading). onward at r (λ x es is. blocks_from d (length d) x.at (extended bs at tag x es is))) (went_wrong p a _ reading m q))
             (w ∙ ap fault_of q, refl)
 
         module _ (x : Draft) (q : p ≡ Next x) where
-          got : Came (blockFrom d (summaries bs) tag (at + 1)) x a
-          got = came p a (blockFrom d (summaries bs) tag (at + 1)) reading x q
+          got : Came (block_from d (summaries bs) tag (at + 1)) x a
+          got = came p a (block_from d (summaries bs) tag (at + 1)) reading x q
 
           past : (at + 1 < x.at) × (x.at ≤ length d)
           past = block_past d (summaries bs) tag fine.0 (at + 1) (omega arith) x (elements_of a x.count) got.items got.is
@@ -239,10 +239,10 @@ module _ (d plan₀ known plan : List ℕ) (n at to : ℕ) (g : Scanning d plan�
           pub scanning_past : at < x.at
           scanning_past = omega (arith, past.0)
 
-          later : blocksOf d ≡ blocks_from d (suc (length d)) x.at (extended bs at tag x (elements_of a x.count) got.items)
+          later : blocks_of d ≡ blocks_from d (suc (length d)) x.at (extended bs at tag x (elements_of a x.count) got.items)
           unfolding onward
           later =
-              read-on
+              read_on
               ∙ ap (λ (r : Reading). onward at r (λ x es is. blocks_from d (length d) x.at (extended bs at tag x es is))) got.is
               ∙ blocks_fuel d (length d) (suc (length d)) x.at (extended bs at tag x (elements_of a x.count) got.items) past.1 (omega (arith, past.0))
               (omega (arith, past.0))
@@ -279,16 +279,16 @@ module _ (d plan₀ known plan : List ℕ) (n at to : ℕ) (g : Scanning d plan�
               abbrev b : Block
               b = block_of bs at tag x (elements_of a x.count) got.items
 
-              words-is : words_of (known_of d known n) (get_or d at 0) x.format (elements_of a x.count) ≡ b.words
+              words_is : words_of (known_of d known n) (get_or d at 0) x.format (elements_of a x.count) ≡ b.words
               unfolding block_of
-              words-is = rw (← t, g.kept.same) refl
+              words_is = rw (← t, g.kept.same) refl
 
-              bs-more : extended bs at tag x (elements_of a x.count) got.items ≡ bs ++ (b ∷ [])
+              bs_more : extended bs at tag x (elements_of a x.count) got.items ≡ bs ++ (b ∷ [])
               unfolding extended
-              bs-more = pick_yes _ _ _ counted
+              bs_more = pick_yes _ _ _ counted
 
               ends : r ≡ to + length b.words
-              ends = w.puts.end ∙ ap (λ (ws : List ℕ). to + length ws) words-is
+              ends = w.puts.end ∙ ap (λ (ws : List ℕ). to + length ws) words_is
 
               last : ◌≡◌ {A = Known} (record { start = at; tag = get_or d at 0; height = x.height; node = to }) (summary b)
               unfolding summary block_of
@@ -310,9 +310,9 @@ module _ (d plan₀ known plan : List ℕ) (n at to : ℕ) (g : Scanning d plan�
                           most = omega (arith, ends, g.kept.most, words_most (summaries bs) tag x.format (elements_of a x.count), tab_length (element_at a) x.count);
                         };
                     words =
-                        w.puts.words ∙ ap₂ (λ (l ws : List ℕ). sets l to ws) g.words words-is
-                        ∙ ap (λ (k : ℕ). sets (sets plan₀ 2 (all_words bs)) k b.words) g.kept.end ∙ sets-append plan₀ 2 (all_words bs) b.words
+                        w.puts.words ∙ ap₂ (λ (l ws : List ℕ). sets l to ws) g.words words_is
+                        ∙ ap (λ (k : ℕ). sets (sets plan₀ 2 (all_words bs)) k b.words) g.kept.end ∙ sets_append plan₀ 2 (all_words bs) b.words
                         ∙ ap (λ (ws : List ℕ). sets plan₀ 2 ws) (sym (all_snoc bs b));
                     inside = past.1;
-                    same = later ∙ ap (λ (cs : List Block). blocks_from d (suc (length d)) x.at cs) bs-more;
+                    same = later ∙ ap (λ (cs : List Block). blocks_from d (suc (length d)) x.at cs) bs_more;
                   }

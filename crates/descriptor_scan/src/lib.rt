@@ -3,7 +3,7 @@
 #![tactic(auto)]
 
 ghost use Rattle.std.specs.Prelude.{◌≡◌, ◌+◌, ◌*◌, ◌≤◌, ◌<◌, length};
-ghost use Rattle.descriptor_blocks.specs.Descriptor.{blocksOf};
+ghost use Rattle.descriptor_blocks.specs.Descriptor.{blocks_of};
 ghost use Rattle.descriptor_fields.specs.Arrays.{Told, Roomy, elements_of};
 ghost use Rattle.descriptor_scan.specs.Scan.{fault_of, tag_fault, Adds, Scans};
 
@@ -69,7 +69,7 @@ fn add(
 // Reads the blocks.
 pub fn read(d: &[u8], known: &mut [u32], elements: &mut [u32], plan: &mut [u32]) -> Scan
     requires { (length d.now ≤ 65535) × (3072 ≤ length known.old) × (1536 ≤ length elements.old) }
-    ensures { Scans d.now (blocksOf d.now) result known.new plan.old plan.new }
+    ensures { Scans d.now (blocks_of d.now) result known.new plan.old plan.new }
 {
     let mut n: usize = 0;
     let mut at: usize = 0;

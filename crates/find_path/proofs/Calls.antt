@@ -76,38 +76,38 @@ module _ (p s : List ℕ) (a : Answer) (k k' : List ℕ) (c : Checks (length s) 
     abbrev pub forest : Forest
     forest = (found _ _ a k k' c w e).forest
 
-    is-accepted : checked p s ≡ accepted forest
-    is-accepted = (found _ _ a k k' c w e).is
+    is_accepted : checked p s ≡ accepted forest
+    is_accepted = (found _ _ a k k' c w e).is
 
     pub sound : Passed p s forest
-    sound = passed p s forest is-accepted
+    sound = passed p s forest is_accepted
 
     pub finds_nothing : (path : List ℕ) → without_type p ≡ true → Finds (find_of p s path) [] 35 0 0 0
     unfolding find_of found_in found_at top_of part_in number_in place_in node_in start_in
     finds_nothing path n =
-        rw (is-accepted, nothing_listed p s forest is-accepted n, follow_nowhere path)
+        rw (is_accepted, nothing_listed p s forest is_accepted n, follow_nowhere path)
         (record { part_is = refl; no_is = refl; place_is = refl; node_is = refl; start_is = refl })
 
     module _ (n : without_type p ≡ false) (r : ℕ) (er : r ≡ get_or p 1 0) (at-r : At p r) where
       pub finds_down : (path b : List ℕ) (m place node start : ℕ) → Finds (descend (look p) path r 0 s) b m place node start → Finds (find_of p s path) b m place node start
       unfolding find_of found_in
-      finds_down path b m place node start x = rw (is-accepted, (led p s forest is-accepted n r er at-r path).found_is) x
+      finds_down path b m place node start x = rw (is_accepted, (led p s forest is_accepted n r er at-r path).found_is) x
 
 -- ---- what is found is an accepted value of a node
 
 module _ (p s path : List ℕ) (small : (j : ℕ) → get_or p j 0 < 2 ^ 32) where
-  listed-accepts : (f : Forest) → checked p s ≡ accepted f → (c : Bool) → without_type p ≡ c → Accepts p (found_at s (follow path (top_of f)))
+  listed_accepts : (f : Forest) → checked p s ≡ accepted f → (c : Bool) → without_type p ≡ c → Accepts p (found_at s (follow path (top_of f)))
   unfolding found_at top_of Accepts
-  listed-accepts f e true n = rw (nothing_listed p s f e n, follow_nowhere path) tt
-  listed-accepts f e false n =
+  listed_accepts f e true n = rw (nothing_listed p s f e n, follow_nowhere path) tt
+  listed_accepts f e false n =
       let l = led p s f e n (get_or p 1 0) refl (at_root p (passed p s f e).formed n small) path in
       rw l.found_is l.accepts
 
-  outcome-accepts : (o : ValueOutcome) → checked p s ≡ o → Accepts p (found_in s path o)
+  outcome_accepts : (o : ValueOutcome) → checked p s ≡ o → Accepts p (found_in s path o)
   unfolding found_in Accepts
-  outcome-accepts (refused n q) e = tt
-  outcome-accepts (accepted f) e = listed-accepts f e (without_type p) refl
+  outcome_accepts (refused n q) e = tt
+  outcome_accepts (accepted f) e = listed_accepts f e (without_type p) refl
 
   pub find_accepts : Accepts p (find_of p s path)
   unfolding find_of
-  find_accepts = outcome-accepts (checked p s) refl
+  find_accepts = outcome_accepts (checked p s) refl

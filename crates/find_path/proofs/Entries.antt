@@ -184,10 +184,10 @@ pub record Names (ws path : List ℕ) (k a n : ℕ) : Type 0 where
 
 -- the part of a spot that lies in the value t
 module _ (t ws path : List ℕ) (k a : ℕ) (b : List ℕ) where
-  part-named : (x : Spot) → Begins x (lead path (lines_in ws)) → Within (length t) x → found_at t x ≡ found k a b → Names ws path k a (length b)
+  part_named : (x : Spot) → Begins x (lead path (lines_in ws)) → Within (length t) x → found_at t x ≡ found k a b → Names ws path k a (length b)
   unfolding Begins Within found_at
-  part-named nowhere h l e = let z : ◌≡◌ {A = ℕ} 0 1 = cc in absurd (omega arith)
-  part-named (spot d below) h l e =
+  part_named nowhere h l e = let z : ◌≡◌ {A = ℕ} 0 1 = cc in absurd (omega arith)
+  part_named (spot d below) h l e =
       ⊎_elim
       (λ q. let z : ◌≡◌ {A = ℕ} 0 1 = unlike q.1 in absurd (omega arith))
       (λ q. ⊎_elim (λ (y : d.size ≡ ABSENT). absurd (eqb-false d.size ABSENT q.0 y)) (λ (y : d.start + d.size ≤ length t). shown q.1 y) l)
@@ -224,7 +224,7 @@ unfolding find_of found_in
 found_entry p s path f small e k a b q = go (without_type p) refl
   where
     named : Within (length s) (follow path (top_of f)) → Names (words f) path k a (length b)
-    named w = part-named s (words f) path k a b (follow path (top_of f)) (lead_forest path (top_of f) _ (top_forest f)) w (rw e at q)
+    named w = part_named s (words f) path k a b (follow path (top_of f)) (lead_forest path (top_of f) _ (top_forest f)) w (rw e at q)
 
     go : (c : Bool) → without_type p ≡ c → Names (words f) path k a (length b)
     go true n = named (rw (nothing_listed p s f e n) (none_within (length s) path))

@@ -27,7 +27,7 @@ use Rattle.protocol.specs.Constants.{ABSENT}
 use Rattle.protocol.specs.Heads.{index_of, end_of}
 use Rattle.protocol.specs.Nodes.{Node, leaf, enum, row, arrays, tuple, object, sparse, range, ref_at}
 use Rattle.protocol.specs.Lists.{Entry, Forest, empty, tree, append, entry_of}
-use Rattle.protocol.specs.Values.{ValueOutcome, then, Rule, absent, present, element_outcome, Form, containerEnd, elements, row_head, row_form}
+use Rattle.protocol.specs.Values.{ValueOutcome, then, Rule, absent, present, element_outcome, Form, container_end, elements, row_head, row_form}
 use Rattle.protocol.specs.Values.{sparse_form, no_marks, leaf_rule, row_rule, sparse_rule, by_node, value_of}
 use Rattle.protocol.specs.Answers.{accepted}
 use Rattle.protocol.specs.Plans.{look, cards_at, without_type}
@@ -64,7 +64,7 @@ module _ (rule : Rule) (own : Owns rule) (ref : ℕ → Option ℕ) (base : ℕ)
     is : f ≡ tree entry below next
     index_is : entry.index ≡ index_of h
     no_fault : NoFault h
-    first-is : element_outcome rule ref base s h ≡ accepted (tree entry below empty)
+    first_is : element_outcome rule ref base s h ≡ accepted (tree entry below empty)
     rest_is : o ≡ accepted next
 
   split : (h : Head) (o : ValueOutcome) (f : Forest) → then (element_outcome rule ref base s h) o ≡ accepted f → Split h o f
@@ -78,7 +78,7 @@ module _ (rule : Rule) (own : Owns rule) (ref : ℕ → Option ℕ) (base : ℕ)
         is = before_others m.entry m.inner t.0 t.1 f t.4 m.is;
         index_is = m.index_is;
         no_fault = m.no_fault;
-        first-is = t.2 ∙ ap accepted m.is;
+        first_is = t.2 ∙ ap accepted m.is;
         rest_is = t.3;
       }
 
@@ -90,7 +90,7 @@ module _ (rule : Rule) (own : Owns rule) (ref : ℕ → Option ℕ) (base : ℕ)
       (keeps : (st : S) (h : Head) (j : ℕ) → Used st j → Used (form.next st h) j)
       (inner : (h : Head) (g : Forest) → element_outcome rule ref base s h ≡ accepted g → Distinct g) where
     unused : (n : ℕ) (st : S) (at : ℕ) (f : Forest) → elements form rule ref base s n st at ≡ accepted f → (j : ℕ) → Used st j → sibling j f ≡ nowhere
-    unfolding elements containerEnd sibling
+    unfolding elements container_end sibling
     unused zero st at f e j u = rw (done_listed rule own ref base s _ _ f e)
     unused (suc n) st at f e j u =
         let x = split (form.head st at) _ f e in
@@ -100,16 +100,16 @@ module _ (rule : Rule) (own : Owns rule) (ref : ℕ → Option ℕ) (base : ℕ)
         (λ t. absurd (fresh st at x.no_fault (subst (Used st) (sym (eqb-true x.entry.index j t) ∙ x.index_is) u)))
         (λ _. later))
 
-    elements-distinct : (n : ℕ) (st : S) (at : ℕ) → Good st → (f : Forest) → elements form rule ref base s n st at ≡ accepted f → Distinct f
-    unfolding elements containerEnd Distinct
-    elements-distinct zero st at g f e = rw (done_listed rule own ref base s _ _ f e) tt
-    elements-distinct (suc n) st at g f e =
+    elements_distinct : (n : ℕ) (st : S) (at : ℕ) → Good st → (f : Forest) → elements form rule ref base s n st at ≡ accepted f → Distinct f
+    unfolding elements container_end Distinct
+    elements_distinct zero st at g f e = rw (done_listed rule own ref base s _ _ f e) tt
+    elements_distinct (suc n) st at g f e =
         let h = form.head st at in
         let x = split h _ f e in
         rw x.is (
           rw x.index_is (unused n (form.next st h) (end_of h) x.next x.rest_is (index_of h) (marks st at g x.no_fault)),
-          (inner h (tree x.entry x.below empty) x.first-is).1,
-          elements-distinct n (form.next st h) (end_of h) (good st h g) x.next x.rest_is,
+          (inner h (tree x.entry x.below empty) x.first_is).1,
+          elements_distinct n (form.next st h) (end_of h) (good st h g) x.next x.rest_is,
         )
 
 -- ---- rows: the indexes below the next one are used
@@ -150,64 +150,64 @@ index_fresh n marks (Fault m) f q = absurd (q m refl)
 
 module _ (v : Node) (few : (refs cards : List ℕ) → v ≡ sparse refs cards → length cards ≤ 512) (rule : Rule) (own : Owns rule)
     (inner : (j c i base : ℕ) (s : List ℕ) (g : Forest) → ref_at v j ≡ some c → rule c i base s ≡ accepted g → Distinct g) where
-  absent-distinct : (o : Option ℕ) (i start : ℕ) (g : Forest) → absent o i start ≡ accepted g → Distinct g
+  absent_distinct : (o : Option ℕ) (i start : ℕ) (g : Forest) → absent o i start ≡ accepted g → Distinct g
   unfolding absent Distinct
-  absent-distinct none i start g e = let z : ◌≡◌ {A = ℕ} 0 1 = cc in absurd (omega arith)
-  absent-distinct (some k) i start g e = one_distinct (entry_of k i start ABSENT) empty g (cc) tt
+  absent_distinct none i start g e = let z : ◌≡◌ {A = ℕ} 0 1 = cc in absurd (omega arith)
+  absent_distinct (some k) i start g e = one_distinct (entry_of k i start ABSENT) empty g (cc) tt
 
-  present-distinct : (o : Option ℕ) (i : ℕ) → ref_at v i ≡ o → (start : ℕ) (b : List ℕ) (g : Forest) → present rule o i start b ≡ accepted g → Distinct g
+  present_distinct : (o : Option ℕ) (i : ℕ) → ref_at v i ≡ o → (start : ℕ) (b : List ℕ) (g : Forest) → present rule o i start b ≡ accepted g → Distinct g
   unfolding present
-  present-distinct none i r start b g e = let z : ◌≡◌ {A = ℕ} 0 1 = cc in absurd (omega arith)
-  present-distinct (some k) i r start b g e = inner i k i start b g r e
+  present_distinct none i r start b g e = let z : ◌≡◌ {A = ℕ} 0 1 = cc in absurd (omega arith)
+  present_distinct (some k) i r start b g e = inner i k i start b g r e
 
-  member-distinct : (base : ℕ) (s : List ℕ) (h : Head) (g : Forest) → element_outcome rule (ref_at v) base s h ≡ accepted g → Distinct g
+  member_distinct : (base : ℕ) (s : List ℕ) (h : Head) (g : Forest) → element_outcome rule (ref_at v) base s h ≡ accepted g → Distinct g
   unfolding element_outcome
-  member-distinct base s (Fault n) g e = let z : ◌≡◌ {A = ℕ} 0 1 = cc in absurd (omega arith)
-  member-distinct base s (Absent i start) g e = absent-distinct (ref_at v i) i (base + start) g e
-  member-distinct base s (Present i start size) g e = present-distinct (ref_at v i) i refl (base + start) _ g e
+  member_distinct base s (Fault n) g e = let z : ◌≡◌ {A = ℕ} 0 1 = cc in absurd (omega arith)
+  member_distinct base s (Absent i start) g e = absent_distinct (ref_at v i) i (base + start) g e
+  member_distinct base s (Present i start size) g e = present_distinct (ref_at v i) i refl (base + start) _ g e
 
-  leaf-distinct : (good : Bool) (k i base : ℕ) (s : List ℕ) (f : Forest) → leaf_rule good k i base s ≡ accepted f → Distinct f
+  leaf_distinct : (good : Bool) (k i base : ℕ) (s : List ℕ) (f : Forest) → leaf_rule good k i base s ≡ accepted f → Distinct f
   unfolding leaf_rule pick Distinct
-  leaf-distinct true k i base s f e = one_distinct (entry_of k i base (length s)) empty f (cc) tt
-  leaf-distinct false k i base s f e = let z : ◌≡◌ {A = ℕ} 0 1 = cc in absurd (omega arith)
+  leaf_distinct true k i base s f e = one_distinct (entry_of k i base (length s)) empty f (cc) tt
+  leaf_distinct false k i base s f e = let z : ◌≡◌ {A = ℕ} 0 1 = cc in absurd (omega arith)
 
-  row-distinct : (o : Opening) (k i base : ℕ) (s : List ℕ) (f : Forest) → row_rule v rule o k i base s ≡ accepted f → Distinct f
+  row_distinct : (o : Opening) (k i base : ℕ) (s : List ℕ) (f : Forest) → row_rule v rule o k i base s ≡ accepted f → Distinct f
   unfolding row_rule
-  row-distinct (Wrong n) k i base s f e = let z : ◌≡◌ {A = ℕ} 0 1 = cc in absurd (omega arith)
-  row-distinct (Elements n first at) k i base s f e =
+  row_distinct (Wrong n) k i base s f e = let z : ◌≡◌ {A = ℕ} 0 1 = cc in absurd (omega arith)
+  row_distinct (Elements n first at) k i base s f e =
       let u = under_listed _ _ f e in
       one_distinct _ u.0 f u.2
-      (elements-distinct rule own (ref_at v) base s (row_form v s) (λ j. Unit {0}) (λ j m. m < j)
+      (elements_distinct rule own (ref_at v) base s (row_form v s) (λ j. Unit {0}) (λ j m. m < j)
       (λ j h g. tt)
       (λ j b q (l : index_of (row_head v s j b) < j). omega (arith, index_is j _ (row_indexed v s j b) q))
       (λ j b g q. omega (arith, index_is j _ (row_indexed v s j b) q))
       (λ j h m (l : m < j). omega arith)
-      (member-distinct base s) n first at tt u.0 u.1)
+      (member_distinct base s) n first at tt u.0 u.1)
 
-  sparse-distinct : (refs cards : List ℕ) → v ≡ sparse refs cards → (o : Opening) (k i base : ℕ) (s : List ℕ) (f : Forest)
+  sparse_distinct : (refs cards : List ℕ) → v ≡ sparse refs cards → (o : Opening) (k i base : ℕ) (s : List ℕ) (f : Forest)
       → sparse_rule refs cards rule o k i base s ≡ accepted f → Distinct f
   unfolding sparse_rule
-  sparse-distinct refs cards ev (Wrong n) k i base s f e = let z : ◌≡◌ {A = ℕ} 0 1 = cc in absurd (omega arith)
-  sparse-distinct refs cards ev (Elements n first at) k i base s f e =
+  sparse_distinct refs cards ev (Wrong n) k i base s f e = let z : ◌≡◌ {A = ℕ} 0 1 = cc in absurd (omega arith)
+  sparse_distinct refs cards ev (Elements n first at) k i base s f e =
       let u = under_listed _ _ f e in
       one_distinct _ u.0 f u.2
-      (elements-distinct rule own (ref_at (sparse refs cards)) base s (sparse_form cards s) (λ marks. length marks ≡ 512) (λ marks j. get_or marks j false ≡ true)
+      (elements_distinct rule own (ref_at (sparse refs cards)) base s (sparse_form cards s) (λ marks. length marks ≡ 512) (λ marks j. get_or marks j false ≡ true)
       (λ marks h g. length-set marks (index_of h) true ∙ g)
       (λ marks b q t. clash (sym (index_fresh _ marks _ (sparse_index_below s cards marks b) q).1 ∙ t))
       (λ marks b g q. get_or-set_same marks _ true false (omega (arith, g, few refs cards ev, (index_fresh _ marks _ (sparse_index_below s cards marks b) q).0)))
       (λ marks h j t. store_keeps marks (index_of h) j t)
-      (rw ev at (member-distinct base s)) n no_marks at refl u.0 u.1)
+      (rw ev at (member_distinct base s)) n no_marks at refl u.0 u.1)
 
-  by-node : (w : Node) → v ≡ w → (k i base : ℕ) (s : List ℕ) (f : Forest) → by_node w rule k i base s ≡ accepted f → Distinct f
+  by_node_lem : (w : Node) → v ≡ w → (k i base : ℕ) (s : List ℕ) (f : Forest) → by_node w rule k i base s ≡ accepted f → Distinct f
   unfolding by_node
-  by-node (leaf g) ev k i base s f e = leaf-distinct _ k i base s f e
-  by-node enum ev k i base s f e = leaf-distinct _ k i base s f e
-  by-node (row r) ev k i base s f e = row-distinct _ k i base s f (rw (← ev) at e)
-  by-node (arrays r) ev k i base s f e = row-distinct _ k i base s f (rw (← ev) at e)
-  by-node (tuple refs) ev k i base s f e = row-distinct _ k i base s f (rw (← ev) at e)
-  by-node (object refs cards) ev k i base s f e = row-distinct _ k i base s f (rw (← ev) at e)
-  by-node (sparse refs cards) ev k i base s f e = sparse-distinct refs cards ev _ k i base s f e
-  by-node (range r) ev k i base s f e = row-distinct _ k i base s f (rw (← ev) at e)
+  by_node_lem (leaf g) ev k i base s f e = leaf_distinct _ k i base s f e
+  by_node_lem enum ev k i base s f e = leaf_distinct _ k i base s f e
+  by_node_lem (row r) ev k i base s f e = row_distinct _ k i base s f (rw (← ev) at e)
+  by_node_lem (arrays r) ev k i base s f e = row_distinct _ k i base s f (rw (← ev) at e)
+  by_node_lem (tuple refs) ev k i base s f e = row_distinct _ k i base s f (rw (← ev) at e)
+  by_node_lem (object refs cards) ev k i base s f e = row_distinct _ k i base s f (rw (← ev) at e)
+  by_node_lem (sparse refs cards) ev k i base s f e = sparse_distinct refs cards ev _ k i base s f e
+  by_node_lem (range r) ev k i base s f e = row_distinct _ k i base s f (rw (← ev) at e)
 
 -- ---- a value of a plan
 
@@ -246,7 +246,7 @@ few_at p k a refs cards e =
 value_distinct : (p : List ℕ) (n k : ℕ) → k < n → At p k → (i base : ℕ) (s : List ℕ) (f : Forest) → value_of (look p) k i base s ≡ accepted f → Distinct f
 value_distinct p zero k l a i base s f e = absurd (omega arith)
 value_distinct p (suc n) k l a i base s f e =
-    by-node (look p k) (few_at p k a) (value_of (look p)) (owns (look p))
+    by_node_lem (look p k) (few_at p k a) (value_of (look p)) (owns (look p))
     (λ j c i' base' s' g r q. let b = at_ref p k j c a r in value_distinct p n c (omega (arith, b.1)) b.0 i' base' s' g q)
     (look p k) refl k i base s f (sym (step_is p k a i base s) ∙ e)
 

@@ -25,7 +25,7 @@ use Rattle.protocol.specs.Constants.{ABSENT}
 use Rattle.protocol.specs.Heads.{word, sparse_index, sparse_rest, sparse_head, end_of, index_of}
 use Rattle.protocol.specs.Nodes.{Node, leaf, enum, row, arrays, tuple, object, sparse, range, ref_at}
 use Rattle.protocol.specs.Lists.{Entry, Forest, empty, tree, append, entry_of}
-use Rattle.protocol.specs.Values.{ValueOutcome, then, under, Rule, absent, present, element_outcome, Form, containerEnd, elements, row_form}
+use Rattle.protocol.specs.Values.{ValueOutcome, then, under, Rule, absent, present, element_outcome, Form, container_end, elements, row_form}
 use Rattle.protocol.specs.Values.{sparse_form, no_marks, opening_of, leaf_rule, row_rule, sparse_rule, by_node, value, value_of}
 use Rattle.protocol.specs.Answers.{refused, accepted}
 use Rattle.protocol.specs.Plans.{look}
@@ -98,24 +98,24 @@ module _ (rule : Rule) (own : Owns rule) (ref : ℕ → Option ℕ) (base : ℕ)
     pub ends_is : (w : ℕ) → ends w h ≡ eqb (index_of h) w
     pub no_fault : (n : ℕ) → h ≡ Fault n → ⊥
 
-  absent-listed : (o : Option ℕ) (i start : ℕ) (g : Forest) → absent o i start ≡ accepted g → (e : Entry) × (g ≡ tree e empty empty) × (e.index ≡ i)
+  absent_listed : (o : Option ℕ) (i start : ℕ) (g : Forest) → absent o i start ≡ accepted g → (e : Entry) × (g ≡ tree e empty empty) × (e.index ≡ i)
   unfolding absent
-  absent-listed none i start g e = let z : ◌≡◌ {A = ℕ} 0 1 = cc in absurd (omega arith)
-  absent-listed (some k) i start g e = (entry_of k i start ABSENT, cc, refl)
+  absent_listed none i start g e = let z : ◌≡◌ {A = ℕ} 0 1 = cc in absurd (omega arith)
+  absent_listed (some k) i start g e = (entry_of k i start ABSENT, cc, refl)
 
-  present-listed : (o : Option ℕ) (i start : ℕ) (b : List ℕ) (g : Forest) → present rule o i start b ≡ accepted g → (e : Entry) × (inner : Forest) × (g ≡ tree e inner empty) × (e.index ≡ i)
+  present_listed : (o : Option ℕ) (i start : ℕ) (b : List ℕ) (g : Forest) → present rule o i start b ≡ accepted g → (e : Entry) × (inner : Forest) × (g ≡ tree e inner empty) × (e.index ≡ i)
   unfolding present
-  present-listed none i start b g e = let z : ◌≡◌ {A = ℕ} 0 1 = cc in absurd (omega arith)
-  present-listed (some k) i start b g e = let w = own k i start b g e in (entry_of k i start (length b), w.below, w.is, refl)
+  present_listed none i start b g e = let z : ◌≡◌ {A = ℕ} 0 1 = cc in absurd (omega arith)
+  present_listed (some k) i start b g e = let w = own k i start b g e in (entry_of k i start (length b), w.below, w.is, refl)
 
   pub member_listed : (h : Head) (g : Forest) → element_outcome rule ref base s h ≡ accepted g → Member h g
   unfolding element_outcome index_of ends
   member_listed (Fault n) g e = let z : ◌≡◌ {A = ℕ} 0 1 = cc in absurd (omega arith)
   member_listed (Absent i start) g e =
-      let w = absent-listed (ref i) i (base + start) g e in
+      let w = absent_listed (ref i) i (base + start) g e in
       record { entry = w.0; inner = empty; is = w.1; index_is = w.2; ends_is = λ w. refl; no_fault = λ n x. let z : ◌≡◌ {A = ℕ} 0 1 = cc in absurd (omega arith) }
   member_listed (Present i start size) g e =
-      let w = present-listed (ref i) i (base + start) _ g e in
+      let w = present_listed (ref i) i (base + start) _ g e in
       record { entry = w.0; inner = w.1; is = w.2; index_is = w.3; ends_is = λ w. refl; no_fault = λ n x. let z : ◌≡◌ {A = ℕ} 0 1 = cc in absurd (omega arith) }
 
   -- the first member and the rest
@@ -133,52 +133,52 @@ module _ (rule : Rule) (own : Owns rule) (ref : ℕ → Option ℕ) (base : ℕ)
 
   -- the index is that of the first member, or it is sought among the rest
   module _ (v : Node) (w i at : ℕ) (h : Head) (eh : h ≡ head_at v s i at) (g g' f : Forest) (m : Member h g) (ef : f ≡ append g g') where
-    first-is : f ≡ tree m.entry m.inner g'
+    first_is : f ≡ tree m.entry m.inner g'
     unfolding append
-    first-is = rw (ef, m.is)
+    first_is = rw (ef, m.is)
 
-    index-test : (b : Bool) → eqb m.entry.index w ≡ b → ends w h ≡ b
-    index-test b e = m.ends_is w ∙ rw (← m.index_is) e
+    index_test : (b : Bool) → eqb m.entry.index w ≡ b → ends w h ≡ b
+    index_test b e = m.ends_is w ∙ rw (← m.index_is) e
 
     -- the sibling among all, by the test
-    sibling-here : eqb m.entry.index w ≡ true → sibling w f ≡ top_of g
+    sibling_here : eqb m.entry.index w ≡ true → sibling w f ≡ top_of g
     unfolding sibling top_of pick
-    sibling-here e = rw (first-is, m.is, e)
+    sibling_here e = rw (first_is, m.is, e)
 
-    sibling-later : eqb m.entry.index w ≡ false → sibling w f ≡ sibling w g'
+    sibling_later : eqb m.entry.index w ≡ false → sibling w f ≡ sibling w g'
     unfolding sibling pick
-    sibling-later e = rw (first-is, e)
+    sibling_later e = rw (first_is, e)
 
-    seek-first : (n : ℕ) → ends w h ≡ true → seek v s w (suc n) i at ≡ h
+    seek_first : (n : ℕ) → ends w h ≡ true → seek v s w (suc n) i at ≡ h
     unfolding seek pick
-    seek-first n e = rw (← eh, e)
+    seek_first n e = rw (← eh, e)
 
-    seek-rest : (n : ℕ) → ends w h ≡ false → seek v s w (suc n) i at ≡ seek v s w n (i + 1) (end_of h)
+    seek_rest : (n : ℕ) → ends w h ≡ false → seek v s w (suc n) i at ≡ seek v s w n (i + 1) (end_of h)
     unfolding seek pick
-    seek-rest n e = rw (← eh, e)
+    seek_rest n e = rw (← eh, e)
 
-    sought-first : (n : ℕ) → element_outcome rule ref base s h ≡ accepted g → Sought rule ref base s w g' (seek v s w n (i + 1) (end_of h)) → Sought rule ref base s w f (seek v s w (suc n) i at)
+    sought_first : (n : ℕ) → element_outcome rule ref base s h ≡ accepted g → Sought rule ref base s w g' (seek v s w n (i + 1) (end_of h)) → Sought rule ref base s w f (seek v s w (suc n) i at)
     unfolding Sought
-    sought-first n l rest = go (eqb m.entry.index w) refl
+    sought_first n l rest = go (eqb m.entry.index w) refl
       where
         go : (b : Bool) → eqb m.entry.index w ≡ b → Sought rule ref base s w f (seek v s w (suc n) i at)
-        go true e = rw (seek-first n (index-test true e)) (inr (g, l, sibling-here e))
+        go true e = rw (seek_first n (index_test true e)) (inr (g, l, sibling_here e))
         go false e =
-            rw (seek-rest n (index-test false e))
-            (⊎_elim (λ x. inl (x.0, sibling-later e ∙ x.1)) (λ x. inr (x.0, x.1, sibling-later e ∙ x.2)) rest)
+            rw (seek_rest n (index_test false e))
+            (⊎_elim (λ x. inl (x.0, sibling_later e ∙ x.1)) (λ x. inr (x.0, x.1, sibling_later e ∙ x.2)) rest)
 
   module _ {S : Type 0} (form : Form S) (v : Node) (Rel : S → ℕ → Type 0)
       (same : (st : S) (i at : ℕ) → Rel st i → ((m : ℕ) → form.head st at ≡ Fault m → ⊥) → form.head st at ≡ head_at v s i at)
       (goes : (st : S) (i : ℕ) (h : Head) → Rel st i → Rel (form.next st h) (i + 1)) where
     sought : (n : ℕ) (st : S) (i at : ℕ) → Rel st i → (f : Forest) → elements form rule ref base s n st at ≡ accepted f → (w : ℕ) → Sought rule ref base s w f (seek v s w n i at)
-    unfolding elements containerEnd seek sibling Sought
+    unfolding elements container_end seek sibling Sought
     sought zero st i at r f e w = inl (refl, rw (done_listed _ _ f e))
     sought (suc n) st i at r f e w =
         let h = form.head st at in
         let t = then_listed _ _ f e in
         let m = member_listed h t.0 t.2 in
         let eh = same st i at r m.no_fault in
-        sought-first v w i at h eh t.0 t.1 f m t.4 n t.2 (sought n (form.next st h) (i + 1) (end_of h) (goes st i h r) t.1 t.3 w)
+        sought_first v w i at h eh t.0 t.1 f m t.4 n t.2 (sought n (form.next st h) (i + 1) (end_of h) (goes st i h r) t.1 t.3 w)
 
 -- ---- the elements below a value
 
@@ -186,7 +186,7 @@ module _ (rule : Rule) (own : Owns rule) (ref : ℕ → Option ℕ) (base : ℕ)
 record Inner (rule : Rule) (v : Node) (base : ℕ) (s : List ℕ) (e : Entry) (f : Forest) : Type 0 where
   below : Forest
   is : f ≡ tree e below empty
-  sought-in : (w : ℕ) → Sought rule (ref_at v) base s w below (child_head v s w)
+  sought_in : (w : ℕ) → Sought rule (ref_at v) base s w below (child_head v s w)
 
 pub under_listed : (e : Entry) (o : ValueOutcome) (f : Forest) → under e o ≡ accepted f → (g : Forest) × (o ≡ accepted g) × (f ≡ tree e g empty)
 unfolding under
@@ -209,50 +209,50 @@ same_unmarked s cards marks at n =
     unmarked s cards at (ltb (length s - at) 8) (leb (length cards) (word s at)) (get_or marks (word s at) false) (word s at) n
 
 module _ (rule : Rule) (own : Owns rule) (k i base : ℕ) (s : List ℕ) (f : Forest) where
-  row-inner : (v : Node) → IsRow v → (o : Opening) → opening_of v s ≡ o → row_rule v rule o k i base s ≡ accepted f → Inner rule v base s (entry_of k i base (length s)) f
+  row_inner : (v : Node) → IsRow v → (o : Opening) → opening_of v s ≡ o → row_rule v rule o k i base s ≡ accepted f → Inner rule v base s (entry_of k i base (length s)) f
   unfolding row_rule child_head seek_in
-  row-inner v x (Wrong n) eo h = let z : ◌≡◌ {A = ℕ} 0 1 = cc in absurd (omega arith)
-  row-inner v x (Elements n first at) eo h =
+  row_inner v x (Wrong n) eo h = let z : ◌≡◌ {A = ℕ} 0 1 = cc in absurd (omega arith)
+  row_inner v x (Elements n first at) eo h =
       let u = under_listed _ _ f h in
       record {
         below = u.0;
         is = u.2;
-        sought-in = λ w.
+        sought_in = λ w.
             rw eo
             (sought rule own (ref_at v) base s (row_form v s) v (λ a b. a ≡ b)
             (λ st j b r q. rw r (row_head_at v s j b x)) (λ st j g r. ap (λ (m : ℕ). m + 1) r) n first first at refl u.0 u.1 w);
       }
 
-  sparse-inner : (refs cards : List ℕ) (o : Opening) → opening_of (sparse refs cards) s ≡ o → sparse_rule refs cards rule o k i base s ≡ accepted f
+  sparse_inner : (refs cards : List ℕ) (o : Opening) → opening_of (sparse refs cards) s ≡ o → sparse_rule refs cards rule o k i base s ≡ accepted f
       → Inner rule (sparse refs cards) base s (entry_of k i base (length s)) f
   unfolding sparse_rule child_head seek_in head_at
-  sparse-inner refs cards (Wrong n) eo h = let z : ◌≡◌ {A = ℕ} 0 1 = cc in absurd (omega arith)
-  sparse-inner refs cards (Elements n first at) eo h =
+  sparse_inner refs cards (Wrong n) eo h = let z : ◌≡◌ {A = ℕ} 0 1 = cc in absurd (omega arith)
+  sparse_inner refs cards (Elements n first at) eo h =
       let u = under_listed _ _ f h in
       record {
         below = u.0;
         is = u.2;
-        sought-in = λ w.
+        sought_in = λ w.
             rw eo
             (sought rule own (ref_at (sparse refs cards)) base s (sparse_form cards s) (sparse refs cards) (λ a b. Unit {0})
             (λ marks j b r q. same_unmarked s cards marks b q) (λ marks j g r. tt) n no_marks first at tt u.0 u.1 w);
       }
 
-  leaf-inner : (v : Node) → opening_of v s ≡ Wrong 33 → (good : Bool) → leaf_rule good k i base s ≡ accepted f → Inner rule v base s (entry_of k i base (length s)) f
+  leaf_inner : (v : Node) → opening_of v s ≡ Wrong 33 → (good : Bool) → leaf_rule good k i base s ≡ accepted f → Inner rule v base s (entry_of k i base (length s)) f
   unfolding leaf_rule pick child_head seek_in Sought sibling
-  leaf-inner v x true h = record { below = empty; is = cc; sought-in = λ w. rw x (inl (refl, refl)) }
-  leaf-inner v x false h = let z : ◌≡◌ {A = ℕ} 0 1 = cc in absurd (omega arith)
+  leaf_inner v x true h = record { below = empty; is = cc; sought_in = λ w. rw x (inl (refl, refl)) }
+  leaf_inner v x false h = let z : ◌≡◌ {A = ℕ} 0 1 = cc in absurd (omega arith)
 
-  node-inner : (v : Node) → by_node v rule k i base s ≡ accepted f → Inner rule v base s (entry_of k i base (length s)) f
+  node_inner : (v : Node) → by_node v rule k i base s ≡ accepted f → Inner rule v base s (entry_of k i base (length s)) f
   unfolding by_node IsRow opening_of
-  node-inner (leaf g) h = leaf-inner (leaf g) refl _ h
-  node-inner enum h = leaf-inner enum refl _ h
-  node-inner (row r) h = row-inner (row r) tt _ refl h
-  node-inner (arrays r) h = row-inner (arrays r) tt _ refl h
-  node-inner (tuple refs) h = row-inner (tuple refs) tt _ refl h
-  node-inner (object refs cards) h = row-inner (object refs cards) tt _ refl h
-  node-inner (sparse refs cards) h = sparse-inner refs cards _ refl h
-  node-inner (range r) h = row-inner (range r) tt _ refl h
+  node_inner (leaf g) h = leaf_inner (leaf g) refl _ h
+  node_inner enum h = leaf_inner enum refl _ h
+  node_inner (row r) h = row_inner (row r) tt _ refl h
+  node_inner (arrays r) h = row_inner (arrays r) tt _ refl h
+  node_inner (tuple refs) h = row_inner (tuple refs) tt _ refl h
+  node_inner (object refs cards) h = row_inner (object refs cards) tt _ refl h
+  node_inner (sparse refs cards) h = sparse_inner refs cards _ refl h
+  node_inner (range r) h = row_inner (range r) tt _ refl h
 
 -- ---- by a path
 
@@ -299,35 +299,35 @@ module _ (p t : List ℕ) (few : length t ≤ 65535) where
 
   module _ (path : List ℕ) (leads : Leads path) (k : ℕ) (a : At p k) (base : ℕ) (s : List ℕ) (le : base + length s ≤ length t) (st : Stands t base s) where
     -- from an element that is listed
-    absent-leads : (o : Option ℕ) (i start : ℕ) (g : Forest) → absent o i start ≡ accepted g → Led p t (follow path (top_of g)) (missing path)
+    absent_leads : (o : Option ℕ) (i start : ℕ) (g : Forest) → absent o i start ≡ accepted g → Led p t (follow path (top_of g)) (missing path)
     unfolding absent top_of
-    absent-leads none i start g e = let z : ◌≡◌ {A = ℕ} 0 1 = cc in absurd (omega arith)
-    absent-leads (some c) i start g e =
+    absent_leads none i start g e = let z : ◌≡◌ {A = ℕ} 0 1 = cc in absurd (omega arith)
+    absent_leads (some c) i start g e =
         let q : g ≡ tree (entry_of c i start ABSENT) empty empty = cc in rw q (led_absent p t path (entry_of c i start ABSENT) refl)
 
-    present-leads : (o : Option ℕ) (i start size : ℕ) → ref_at (look p k) i ≡ o → start + size ≤ length s → (g : Forest)
+    present_leads : (o : Option ℕ) (i start size : ℕ) → ref_at (look p k) i ≡ o → start + size ≤ length s → (g : Forest)
         → present rule o i (base + start) (take size (drop start s)) ≡ accepted g
         → Led p t (follow path (top_of g)) (in_part (descend (look p) path) o (base + start) (take size (drop start s)))
     unfolding present in_part
-    present-leads none i start size r l g e = let z : ◌≡◌ {A = ℕ} 0 1 = cc in absurd (omega arith)
-    present-leads (some c) i start size r l g e =
+    present_leads none i start size r l g e = let z : ◌≡◌ {A = ℕ} 0 1 = cc in absurd (omega arith)
+    present_leads (some c) i start size r l g e =
         leads c (at_ref p k i c a r).0 i (base + start) (take size (drop start s)) g (simp (length-take, length-drop) (omega arith)) (stands_part t base s st start size l) e
 
-    member-leads : (w : ℕ) (h : Head) → h ≡ child_head (look p k) s w → (g : Forest) → element_outcome rule (ref_at (look p k)) base s h ≡ accepted g
+    member_leads : (w : ℕ) (h : Head) → h ≡ child_head (look p k) s w → (g : Forest) → element_outcome rule (ref_at (look p k)) base s h ≡ accepted g
         → Led p t (follow path (top_of g)) (on_head (descend (look p) path) (missing path) (look p k) base s h)
     unfolding element_outcome on_head
-    member-leads w (Fault n) eh g e = let z : ◌≡◌ {A = ℕ} 0 1 = cc in absurd (omega arith)
-    member-leads w (Absent i start) eh g e = absent-leads (ref_at (look p k) i) i (base + start) g e
-    member-leads w (Present i start size) eh g e =
-        present-leads (ref_at (look p k) i) i start size refl (child_in p k a s w _ eh i start size refl).inside g e
+    member_leads w (Fault n) eh g e = let z : ◌≡◌ {A = ℕ} 0 1 = cc in absurd (omega arith)
+    member_leads w (Absent i start) eh g e = absent_leads (ref_at (look p k) i) i (base + start) g e
+    member_leads w (Present i start size) eh g e =
+        present_leads (ref_at (look p k) i) i start size refl (child_in p k a s w _ eh i start size refl).inside g e
 
-    step-leads : (w : ℕ) (f : Forest) → Sought rule (ref_at (look p k)) base s w f (child_head (look p k) s w)
+    step_leads : (w : ℕ) (f : Forest) → Sought rule (ref_at (look p k)) base s w f (child_head (look p k) s w)
         → Led p t (follow path (sibling w f)) (on_head (descend (look p) path) (missing path) (look p k) base s (child_head (look p k) s w))
     unfolding Sought on_head
-    step-leads w f x =
+    step_leads w f x =
         ⊎_elim
         (λ y. rw (y.1, y.0) (led_nowhere p t path))
-        (λ y. rw y.2 (member-leads w (child_head (look p k) s w) refl y.0 y.1))
+        (λ y. rw y.2 (member_leads w (child_head (look p k) s w) refl y.0 y.1))
         x
 
   pub leads : (path : List ℕ) → Leads path
@@ -340,5 +340,5 @@ module _ (p t : List ℕ) (few : length t ≤ 65535) where
         accepts = (a, (i, f, e));
       }
   leads (w ∷ path) k a i base s f le st e =
-      let o = node-inner rule (owns (look p)) k i base s f (look p k) (sym (step_is p k a i base s) ∙ e) in
-      rw o.is (step-leads path (leads path) k a base s le st w o.below (o.sought-in w))
+      let o = node_inner rule (owns (look p)) k i base s f (look p k) (sym (step_is p k a i base s) ∙ e) in
+      rw o.is (step_leads path (leads path) k a base s le st w o.below (o.sought_in w))

@@ -50,17 +50,17 @@ module _ (p : List ℕ) (k : ℕ) (a : At p k) (kind : ℕ) (c : Container p k k
   head_row n h e = e ∙ row_head_at (look p k) s i at (is_row p k a kind c (λ x. n (c.is ∙ x)))
 
   module _ (six : kind ≡ 6) where
-    sparse-is : sparse_head s (cards_at p k) [] at ≡ head_at (look p k) s i at
+    sparse_is : sparse_head s (cards_at p k) [] at ≡ head_at (look p k) s i at
     unfolding head_at
-    sparse-is = rw (look_sparse p k (sym c.is ∙ six))
+    sparse_is = rw (look_sparse p k (sym c.is ∙ six))
 
     module _ (n : ℕ) (en : n ≡ get_or p (k + 1) 0) (x : Index) (ex : x ≡ sparse_index s n [] at) where
       pub head_sparse_bad : (m f : ℕ) → x ≡ Bad m → f ≡ index_fault x → Fault f ≡ head_at (look p k) s i at
-      head_sparse_bad m f b ef = sym (head_bad s (cards_at p k) [] at n (en ∙ sym (cards_length p k)) x m f ex b ef) ∙ sparse-is
+      head_sparse_bad m f b ef = sym (head_bad s (cards_at p k) [] at n (en ∙ sym (cards_length p k)) x m f ex b ef) ∙ sparse_is
 
       pub head_sparse : (j : ℕ) → x ≡ Known j → (h : Head) → h ≡ optional s (requires (get_or (cards_at p k) j 0)) j (at + 8) (word s (at + 4)) → h ≡ head_at (look p k) s i at
       head_sparse j e h eh =
-          eh ∙ sym (head_new s (cards_at p k) [] at n (en ∙ sym (cards_length p k)) j (sym e ∙ ex) refl) ∙ sparse-is
+          eh ∙ sym (head_new s (cards_at p k) [] at n (en ∙ sym (cards_length p k)) j (sym e ∙ ex) refl) ∙ sparse_is
 
 pub head_inside : (v : Node) (s : List ℕ) (i at : ℕ) → at ≤ length s → Inside (length s) at (head_at v s i at)
 unfolding head_at row_head Inside
@@ -171,7 +171,7 @@ module _ (p : List ℕ) (k : ℕ) (a : At p k) (s : List ℕ) where
 
     by_index : get_or p k 0 ≡ 6 → (j b : ℕ) → j < first + n → b ≤ length s → Is (head_at (look p k) s j b)
     by_index x j b l h =
-        rw (← sparse-is p k a kind c s j b (c.is ∙ x))
+        rw (← sparse_is p k a kind c s j b (c.is ∙ x))
         (known b _ (sparse_headed p k a x s [] b h))
 
     found_in : (w : ℕ) → Is (seek (look p k) s w n first at)

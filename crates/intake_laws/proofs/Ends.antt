@@ -8,12 +8,12 @@ use lib.ListN.{length, take, drop, get_or, length-drop}
 use lib.Seq.{length-take-le}
 use borrow.Author.Tests.{le-ltb}
 use Rattle.message_intake.proofs.Hands.{Ready, Told, told}
-use Rattle.message_laws.proofs.Covers.{part-take}
+use Rattle.message_laws.proofs.Covers.{part_take}
 use Rattle.message_laws.proofs.Words.{Judged, judged_body}
 use Rattle.intake_laws.proofs.Streams.{step}
 use Rattle.protocol.specs.Numbers.{pick, be}
 use Rattle.protocol.specs.Messages.{layout_of, MessageRead, unread, read, body_whole, message_head, message_by, message_of}
-use Rattle.protocol.specs.Intake.{at_hand, StreamEnd, unfinished, broken_off, Stream, with_message, stream_by, streamOf}
+use Rattle.protocol.specs.Intake.{at_hand, StreamEnd, unfinished, broken_off, Stream, with_message, stream_by, stream_of}
 use Rattle.forms.specs.declared.AtHand.{AtHand}
 use Rattle.forms.specs.declared.AtHand.TheVariants.{Lacking, Unfit, Whole}
 
@@ -24,7 +24,7 @@ pub head_whole : (room : ℕ) (s : List ℕ) (n : ℕ) → Ready room s n → me
 unfolding message_head pick
 head_whole room s n r =
     let l : length (take n s) ≡ n = length-take-le n s r.inside in
-    let f : be (take 4 (drop 1 (take n s))) ≡ be (take 4 (drop 1 s)) = ap be (part-take s n 1 4 (omega (arith, r.low))) in
+    let f : be (take 4 (drop 1 (take n s))) ≡ be (take 4 (drop 1 s)) = ap be (part_take s n 1 4 (omega (arith, r.low))) in
     let m = be (take 4 (drop 1 s)) in
     let z : m + 1 ≡ n = sym r.size in
     let h : 5 ≤ n = r.low in
@@ -62,18 +62,18 @@ module _ (side room : ℕ) where
   ends_read m (unread n p) x j h = judged_refusal n j
   ends_read m (read u ws) x j h = h
 
-  ends_by : (s : List ℕ) (a : AtHand) → at_hand room s ≡ a → Told room s a → ((n : ℕ) → 5 ≤ n → n ≤ length s → Ends room (streamOf side room (drop n s)).end)
-      → Ends room (stream_by side s (streamOf side room) a).end
+  ends_by : (s : List ℕ) (a : AtHand) → at_hand room s ≡ a → Told room s a → ((n : ℕ) → 5 ≤ n → n ≤ length s → Ends room (stream_of side room (drop n s)).end)
+      → Ends room (stream_by side s (stream_of side room) a).end
   unfolding stream_by
   ends_by s (Lacking k) e t h = (k, e)
   ends_by s (Unfit n) e t h = unfit_refusal n t
   ends_by s (Whole n) e t h =
-      ends_read (take n s) (message_of side (take n s)) (streamOf side room (drop n s)) (whole_judged side room s n t) (h n t.low t.inside)
+      ends_read (take n s) (message_of side (take n s)) (stream_of side room (drop n s)) (whole_judged side room s n t) (h n t.low t.inside)
 
-  ends-in : (f : ℕ) (s : List ℕ) → length s ≤ f → Ends room (streamOf side room s).end
-  ends-in zero s h = rw (step side room s) (ends_by s (at_hand room s) refl (told room s) (λ n l i. absurd (omega arith)))
-  ends-in (suc f) s h =
-      rw (step side room s) (ends_by s (at_hand room s) refl (told room s) (λ n l i. ends-in f (drop n s) (simp length-drop (omega arith))))
+  ends_in : (f : ℕ) (s : List ℕ) → length s ≤ f → Ends room (stream_of side room s).end
+  ends_in zero s h = rw (step side room s) (ends_by s (at_hand room s) refl (told room s) (λ n l i. absurd (omega arith)))
+  ends_in (suc f) s h =
+      rw (step side room s) (ends_by s (at_hand room s) refl (told room s) (λ n l i. ends_in f (drop n s) (simp length-drop (omega arith))))
 
-  pub ends : (s : List ℕ) → Ends room (streamOf side room s).end
-  ends s = ends-in (length s) s (omega arith)
+  pub ends : (s : List ℕ) → Ends room (stream_of side room s).end
+  ends s = ends_in (length s) s (omega arith)

@@ -16,8 +16,8 @@ module _ (room : ℕ) (b d : List ℕ) where
   grown = simp length-append (omega arith)
 
   -- a head that is there has the same length field
-  same-field : 5 ≤ length b → be (take 4 (drop 1 b)) ≡ be (take 4 (drop 1 (b ++ d)))
-  same-field h =
+  same_field : 5 ≤ length b → be (take 4 (drop 1 b)) ≡ be (take 4 (drop 1 (b ++ d)))
+  same_field h =
       let one : 1 ≤ length b = omega arith in
       let four : 4 ≤ length (drop 1 b) = simp length-drop (omega arith) in
       rw (drop-append-le 1 b d one, take-append-le 4 (drop 1 b) d four)
@@ -26,10 +26,10 @@ module _ (room : ℕ) (b d : List ℕ) where
     long : 5 ≤ length (b ++ d)
     long = omega (arith, grown)
 
-    settled-size : 4 ≤ be (take 4 (drop 1 b)) → be (take 4 (drop 1 b)) ≤ 65535 → ((k : ℕ) → at_hand room b ≡ Lacking k → ⊥) → at_hand room (b ++ d) ≡ at_hand room b
-    settled-size j k sure =
+    settled_size : 4 ≤ be (take 4 (drop 1 b)) → be (take 4 (drop 1 b)) ≤ 65535 → ((k : ℕ) → at_hand room b ≡ Lacking k → ⊥) → at_hand room (b ++ d) ≡ at_hand room b
+    settled_size j k sure =
         let m = be (take 4 (drop 1 b)) in
-        let f = same-field h in
+        let f = same_field h in
         elim (dec_lt room (m + 1)) [
           | yes r ↦ hand_unfit room (b ++ d) g long m f j k r ∙ sym (hand_unfit room b g h m refl j k r)
           | no r ↦
@@ -43,22 +43,22 @@ module _ (room : ℕ) (b d : List ℕ) where
               ]
         ]
 
-    settled-head : ((k : ℕ) → at_hand room b ≡ Lacking k → ⊥) → at_hand room (b ++ d) ≡ at_hand room b
-    settled-head sure =
+    settled_head : ((k : ℕ) → at_hand room b ≡ Lacking k → ⊥) → at_hand room (b ++ d) ≡ at_hand room b
+    settled_head sure =
         let m = be (take 4 (drop 1 b)) in
-        let f = same-field h in
+        let f = same_field h in
         elim (dec_lt m 4) [
           | yes j ↦ hand_small room (b ++ d) g long m f j ∙ sym (hand_small room b g h m refl j)
           | no j ↦
               let j' : 4 ≤ m = omega arith in
               elim (dec_lt 65535 m) [
                 | yes k ↦ hand_large room (b ++ d) g long m f j' k ∙ sym (hand_large room b g h m refl j' k)
-                | no k ↦ let k' : m ≤ 65535 = omega arith in settled-size j' k' sure
+                | no k ↦ let k' : m ≤ 65535 = omega arith in settled_size j' k' sure
               ]
         ]
 
-  settled-some : 0 < length b → ((k : ℕ) → at_hand room b ≡ Lacking k → ⊥) → at_hand room (b ++ d) ≡ at_hand room b
-  settled-some s sure =
+  settled_some : 0 < length b → ((k : ℕ) → at_hand room b ≡ Lacking k → ⊥) → at_hand room (b ++ d) ≡ at_hand room b
+  settled_some s sure =
       let s' : 0 < length (b ++ d) = omega (arith, grown) in
       elim (dec_lt room 5) [
         | yes g ↦ hand_no_head room (b ++ d) s' g ∙ sym (hand_no_head room b s g)
@@ -66,7 +66,7 @@ module _ (room : ℕ) (b d : List ℕ) where
             let g' : 5 ≤ room = omega arith in
             elim (dec_lt (length b) 5) [
               | yes h ↦ absurd (sure (5 - length b) (hand_short room b g' s h))
-              | no h ↦ let h' : 5 ≤ length b = omega arith in settled-head g' h' sure
+              | no h ↦ let h' : 5 ≤ length b = omega arith in settled_head g' h' sure
             ]
       ]
 
@@ -74,7 +74,7 @@ module _ (room : ℕ) (b d : List ℕ) where
   pub settled : ((k : ℕ) → at_hand room b ≡ Lacking k → ⊥) → at_hand room (b ++ d) ≡ at_hand room b
   settled sure =
       elim (dec_lt 0 (length b)) [
-        | yes s ↦ settled-some s sure
+        | yes s ↦ settled_some s sure
         | no s ↦ let z : length b ≡ 0 = omega arith in absurd (sure 5 (hand_none room b z))
       ]
 
@@ -83,6 +83,6 @@ module _ (room : ℕ) (b d : List ℕ) where
   whole_before n e q =
       let r : Ready room (b ++ d) n = rw e at (told room (b ++ d)) in
       let h : 5 ≤ length b = omega (arith, r.low) in
-      let z : be (take 4 (drop 1 b)) + 1 ≡ n = ap (λ (x : ℕ). x + 1) (same-field h) ∙ sym r.size in
+      let z : be (take 4 (drop 1 b)) + 1 ≡ n = ap (λ (x : ℕ). x + 1) (same_field h) ∙ sym r.size in
       hand_whole room b (omega (arith, r.low, r.fits)) h (be (take 4 (drop 1 b))) refl (omega (arith, r.low)) (omega (arith, r.high)) (omega (arith, r.fits)) (omega arith)
       ∙ ap Whole z

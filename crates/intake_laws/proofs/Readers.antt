@@ -8,7 +8,7 @@ use lib.ListN.{length, take, drop}
 use lib.Seq.{take-take, take-append_seam, get_or-take, length-take-le}
 use borrow.Author.Tests.{le-ltb}
 use Rattle.message_read.proofs.Whole.{whole, roomy}
-use Rattle.message_laws.proofs.Covers.{part-take}
+use Rattle.message_laws.proofs.Covers.{part_take}
 use Rattle.message_laws.proofs.Again.{used}
 use Rattle.message_intake.proofs.Hands.{Ready, Told, told, hand_whole}
 use Rattle.intake_laws.proofs.Ends.{head_whole}
@@ -36,15 +36,15 @@ abbrev pub Given : ℕ → Taken → Type 0
 Given side t = (t.answer.size ≡ 0 → ⊥) → (ws : List ℕ) × (message_of side (take t.answer.size t.room) ≡ read t.answer.size ws)
 
 module _ (i : Intake) (src h l : List ℕ) where
-  given-read : (n : ℕ) → Ready (length l) (h ++ src) n → (o : MessageRead) → message_of i.side (take n (h ++ src)) ≡ o
+  given_read : (n : ℕ) → Ready (length l) (h ++ src) n → (o : MessageRead) → message_of i.side (take n (h ++ src)) ≡ o
       → Given i.side (record { answer = judged_delivery i (n - length h) n o; room = over (take n (h ++ src)) l })
   unfolding judged_delivery
-  given-read n r (unread m p) e z = absurd (z refl)
-  given-read n r (read u ws) e z =
+  given_read n r (unread m p) e z = absurd (z refl)
+  given_read n r (read u ws) e z =
       let s : length (take n (h ++ src)) ≡ n = length-take-le n (h ++ src) r.inside in
       let f : take n (over (take n (h ++ src)) l) ≡ take n (h ++ src) =
       ap (λ (k : ℕ). take k (over (take n (h ++ src)) l)) (sym s) ∙ take-append_seam (take n (h ++ src)) _ in
-      let p : be (take 4 (drop 1 (take n (h ++ src)))) ≡ be (take 4 (drop 1 (h ++ src))) = ap be (part-take (h ++ src) n 1 4 (omega (arith, r.low))) in
+      let p : be (take 4 (drop 1 (take n (h ++ src)))) ≡ be (take 4 (drop 1 (h ++ src))) = ap be (part_take (h ++ src) n 1 4 (omega (arith, r.low))) in
       let q : u ≡ n = omega (arith, used_of i.side (take n (h ++ src)) u ws e, p, r.size) in
       (ws, rw f (e ∙ ap (λ (k : ℕ). read k ws) q))
 
@@ -52,7 +52,7 @@ module _ (i : Intake) (src h l : List ℕ) where
   unfolding take_by
   given_by (Lacking k) t z = absurd (z refl)
   given_by (Unfit n) t z = absurd (z refl)
-  given_by (Whole n) t z = given-read n t (message_of i.side (take n (h ++ src))) refl z
+  given_by (Whole n) t z = given_read n t (message_of i.side (take n (h ++ src))) refl z
 
 pub given : (i : Intake) (src l : List ℕ) → Given i.side (take_of i src l)
 given i src l =
@@ -71,9 +71,9 @@ given i src l =
 
 -- the message alone is read as with what comes after it
 module _ (room : ℕ) (s : List ℕ) (n : ℕ) (r : Ready room s n) where
-  front-head : message_head s ≡ body_whole n
+  front_head : message_head s ≡ body_whole n
   unfolding message_head pick
-  front-head =
+  front_head =
       let m = be (take 4 (drop 1 s)) in
       let z : m + 1 ≡ n = sym r.size in
       let h : 5 ≤ length s = omega (arith, r.low, r.inside) in
@@ -84,7 +84,7 @@ module _ (room : ℕ) (s : List ℕ) (n : ℕ) (r : Ready room s n) where
   alone : (side : ℕ) → message_of side (take n s) ≡ message_of side s
   unfolding message_of message_by
   alone side =
-      rw (head_whole room s n r, front-head, get_or-take n s 0 0 (omega (arith, r.low)), take-take n n s (omega arith))
+      rw (head_whole room s n r, front_head, get_or-take n s 0 0 (omega (arith, r.low)), take-take n n s (omega arith))
 
 read_of : (side : ℕ) (s : List ℕ) (u : ℕ) (ws l : List ℕ) → message_of side s ≡ read u ws → u ≤ length l
     → take_of (intake_start side (length l)) s l ≡ record { answer = taken_delivery (intake_start side (length l)) u u 5; room = over (take u s) l }

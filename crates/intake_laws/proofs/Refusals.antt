@@ -8,7 +8,7 @@ use lib.ListN.{length, take}
 use lib.Seq.{length-take-le}
 use borrow.Author.Tests.{eq-eqb, ne_eqb}
 use Rattle.message_intake.proofs.Hands.{Told, told}
-use Rattle.intake_laws.proofs.Conversations.{over-length}
+use Rattle.intake_laws.proofs.Conversations.{over_length}
 use Rattle.protocol.specs.Numbers.{pick}
 use Rattle.protocol.specs.Answers.{over}
 use Rattle.protocol.specs.Messages.{MessageRead, unread, read, message_of}
@@ -38,11 +38,11 @@ module _ (i : Intake) (src' : List ℕ) where
   Stays t = (t.answer.number ≡ 0 → ⊥) → take_of t.answer.intake src' t.room ≡ t
 
   module _ (h src l : List ℕ) (e : length l ≡ i.room) where
-    stays-read : (n : ℕ) → length (over (take n (h ++ src)) l) ≡ i.room → (o : MessageRead)
+    stays_read : (n : ℕ) → length (over (take n (h ++ src)) l) ≡ i.room → (o : MessageRead)
         → Stays (record { answer = judged_delivery i (n - length h) n o; room = over (take n (h ++ src)) l })
     unfolding judged_delivery
-    stays-read n s (unread m p) z = again (intake_ended i m p) src' (over (take n (h ++ src)) l) s z
-    stays-read n s (read u ws) z = absurd (z refl)
+    stays_read n s (unread m p) z = again (intake_ended i m p) src' (over (take n (h ++ src)) l) s z
+    stays_read n s (read u ws) z = absurd (z refl)
 
     stays_by : (a : AtHand) → Told (length l) (h ++ src) a → Stays (take_by i h src l a)
     unfolding take_by
@@ -50,7 +50,7 @@ module _ (i : Intake) (src' : List ℕ) where
     stays_by (Unfit n) t z = again (intake_ended i n 0) src' l e z
     stays_by (Whole n) t z =
         let s : length (take n (h ++ src)) ≡ n = length-take-le n (h ++ src) t.inside in
-        stays-read n (over-length (take n (h ++ src)) l (omega (arith, s, t.fits)) ∙ e) (message_of i.side (take n (h ++ src))) z
+        stays_read n (over_length (take n (h ++ src)) l (omega (arith, s, t.fits)) ∙ e) (message_of i.side (take n (h ++ src))) z
 
   pub stays : (src l : List ℕ) → length l ≡ i.room → Stays (take_of i src l)
   stays src l e =

@@ -9,7 +9,7 @@ use lib.Seq.{drop_at, length-take-le}
 use Rattle.message_intake.proofs.Hands.{Told, told}
 use Rattle.message_laws.proofs.Words.{Judged}
 use Rattle.intake_laws.proofs.Ends.{refusal_some, judged_refusal, whole_judged}
-use Rattle.intake_laws.proofs.Conversations.{over-length}
+use Rattle.intake_laws.proofs.Conversations.{over_length}
 use Rattle.intake_laws.proofs.Refusals.{other_room, again, by_hand}
 use Rattle.protocol.specs.Answers.{over}
 use Rattle.protocol.specs.Messages.{MessageRead, unread, read, message_of}
@@ -39,11 +39,11 @@ module _ (i : Intake) (h src l : List ℕ) where
   unfolding take_by
   kept_by (Lacking k) t =
       let z : length (h ++ src) + 0 ≡ length (h ++ src) = omega arith in
-      record { long = over-length (h ++ src) l t.fits; behind = λ _. rw z (front_put (h ++ src) l (length (h ++ src)) refl) }
+      record { long = over_length (h ++ src) l t.fits; behind = λ _. rw z (front_put (h ++ src) l (length (h ++ src)) refl) }
   kept_by (Unfit n) t = record { long = refl; behind = λ _. refl }
   kept_by (Whole n) t =
       let s : length (take n (h ++ src)) ≡ n = length-take-le n (h ++ src) t.inside in
-      kept_read n s (over-length (take n (h ++ src)) l (omega (arith, s, t.fits))) (message_of i.side (take n (h ++ src)))
+      kept_read n s (over_length (take n (h ++ src)) l (omega (arith, s, t.fits))) (message_of i.side (take n (h ++ src)))
       (whole_judged i.side (length l) (h ++ src) n t)
 
 pub kept : (i : Intake) (src l : List ℕ) → Kept l (take_of i src l)

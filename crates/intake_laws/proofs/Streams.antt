@@ -8,7 +8,7 @@ use lib.Seq.{take-append-le, drop-append-le}
 use Rattle.message_intake.proofs.Hands.{Told, told}
 use Rattle.intake_laws.proofs.Longer.{settled}
 use Rattle.protocol.specs.Messages.{MessageRead, unread, read, message_of}
-use Rattle.protocol.specs.Intake.{at_hand, StreamEnd, unfinished, broken_off, Stream, no_message, with_message, stream_by, streamIn, streamOf}
+use Rattle.protocol.specs.Intake.{at_hand, StreamEnd, unfinished, broken_off, Stream, no_message, with_message, stream_by, stream_in, stream_of}
 use Rattle.forms.specs.declared.AtHand.{AtHand}
 use Rattle.forms.specs.declared.AtHand.TheVariants.{Lacking, Unfit, Whole}
 
@@ -29,58 +29,58 @@ onward_more next d m ms (broken_off n p) = refl
 module _ (side room : ℕ) where
   -- ---- as many steps as there are bytes, or more, come to the same
 
-  fuel-by : (s : List ℕ) (f g : List ℕ → Stream) → ((n : ℕ) → 5 ≤ n → n ≤ length s → f (drop n s) ≡ g (drop n s)) → (a : AtHand) → Told room s a
+  fuel_by : (s : List ℕ) (f g : List ℕ → Stream) → ((n : ℕ) → 5 ≤ n → n ≤ length s → f (drop n s) ≡ g (drop n s)) → (a : AtHand) → Told room s a
       → stream_by side s f a ≡ stream_by side s g a
   unfolding stream_by
-  fuel-by s f g h (Lacking k) t = refl
-  fuel-by s f g h (Unfit n) t = refl
-  fuel-by s f g h (Whole n) t = ap (with_message (take n s) (message_of side (take n s))) (h n t.low t.inside)
+  fuel_by s f g h (Lacking k) t = refl
+  fuel_by s f g h (Unfit n) t = refl
+  fuel_by s f g h (Whole n) t = ap (with_message (take n s) (message_of side (take n s))) (h n t.low t.inside)
 
-  fuel-none : (f : ℕ) (s : List ℕ) → length s ≤ 0 → streamIn side room f s ≡ no_message (unfinished s)
-  unfolding streamIn stream_by at_hand
-  fuel-none zero s h = refl
-  fuel-none (suc f) [] h = refl
-  fuel-none (suc f) (b ∷ s) h = absurd (omega arith)
+  fuel_none : (f : ℕ) (s : List ℕ) → length s ≤ 0 → stream_in side room f s ≡ no_message (unfinished s)
+  unfolding stream_in stream_by at_hand
+  fuel_none zero s h = refl
+  fuel_none (suc f) [] h = refl
+  fuel_none (suc f) (b ∷ s) h = absurd (omega arith)
 
-  pub fuel : (f g : ℕ) (s : List ℕ) → length s ≤ f → length s ≤ g → streamIn side room f s ≡ streamIn side room g s
-  unfolding streamIn
-  fuel zero g s h k = sym (fuel-none g s h)
-  fuel (suc f) zero s h k = fuel-none (suc f) s k
+  pub fuel : (f g : ℕ) (s : List ℕ) → length s ≤ f → length s ≤ g → stream_in side room f s ≡ stream_in side room g s
+  unfolding stream_in
+  fuel zero g s h k = sym (fuel_none g s h)
+  fuel (suc f) zero s h k = fuel_none (suc f) s k
   fuel (suc f) (suc g) s h k =
-      fuel-by s (streamIn side room f) (streamIn side room g)
+      fuel_by s (stream_in side room f) (stream_in side room g)
       (λ n l i. fuel f g (drop n s) (simp length-drop (omega arith)) (simp length-drop (omega arith)))
       (at_hand room s)
       (told room s)
 
   -- ---- a step
 
-  step-some : (b : ℕ) (s : List ℕ) → streamOf side room (b ∷ s) ≡ stream_by side (b ∷ s) (streamOf side room) (at_hand room (b ∷ s))
-  unfolding streamOf streamIn
-  step-some b s =
-      fuel-by (b ∷ s) (streamIn side room (length s)) (streamOf side room)
+  step_some : (b : ℕ) (s : List ℕ) → stream_of side room (b ∷ s) ≡ stream_by side (b ∷ s) (stream_of side room) (at_hand room (b ∷ s))
+  unfolding stream_of stream_in
+  step_some b s =
+      fuel_by (b ∷ s) (stream_in side room (length s)) (stream_of side room)
       (λ n l i. fuel (length s) (length (drop n (b ∷ s))) (drop n (b ∷ s)) (simp length-drop (omega arith)) (omega arith))
       (at_hand room (b ∷ s))
       (told room (b ∷ s))
 
-  pub step : (s : List ℕ) → streamOf side room s ≡ stream_by side s (streamOf side room) (at_hand room s)
-  unfolding streamOf streamIn stream_by at_hand
+  pub step : (s : List ℕ) → stream_of side room s ≡ stream_by side s (stream_of side room) (at_hand room s)
+  unfolding stream_of stream_in stream_by at_hand
   step [] = refl
-  step (b ∷ s) = step-some b s
+  step (b ∷ s) = step_some b s
 
   -- ---- more bytes
 
-  more-read : (m d : List ℕ) (o : MessageRead) (x : Stream)
-      → with_message m o (onward (streamOf side room) d x.messages x.end) ≡ onward (streamOf side room) d (with_message m o x).messages (with_message m o x).end
+  more_read : (m d : List ℕ) (o : MessageRead) (x : Stream)
+      → with_message m o (onward (stream_of side room) d x.messages x.end) ≡ onward (stream_of side room) d (with_message m o x).messages (with_message m o x).end
   unfolding with_message onward
-  more-read m d (unread n p) x = refl
-  more-read m d (read u ws) x = onward_more (streamOf side room) d m x.messages x.end
+  more_read m d (unread n p) x = refl
+  more_read m d (read u ws) x = onward_more (stream_of side room) d m x.messages x.end
 
   module _ (b d : List ℕ) where
     more_by : (a : AtHand) → at_hand room b ≡ a → Told room b a
         → ((n : ℕ) → 5 ≤ n → n ≤ length b
-        → streamOf side room (drop n b ++ d) ≡ onward (streamOf side room) d (streamOf side room (drop n b)).messages (streamOf side room (drop n b)).end)
-        → streamOf side room (b ++ d)
-        ≡ onward (streamOf side room) d (stream_by side b (streamOf side room) a).messages (stream_by side b (streamOf side room) a).end
+        → stream_of side room (drop n b ++ d) ≡ onward (stream_of side room) d (stream_of side room (drop n b)).messages (stream_of side room (drop n b)).end)
+        → stream_of side room (b ++ d)
+        ≡ onward (stream_of side room) d (stream_by side b (stream_of side room) a).messages (stream_by side b (stream_of side room) a).end
     unfolding stream_by onward
     more_by (Lacking k) e t h = refl
     more_by (Unfit n) e t h =
@@ -91,16 +91,16 @@ module _ (side room : ℕ) where
         let i : n ≤ length b = t.inside in
         step (b ++ d)
         ∙ rw (f, take-append-le n b d i, drop-append-le n b d i, h n t.low i)
-        (more-read (take n b) d (message_of side (take n b)) (streamOf side room (drop n b)))
+        (more_read (take n b) d (message_of side (take n b)) (stream_of side room (drop n b)))
 
-  more-in : (f : ℕ) (b d : List ℕ) → length b ≤ f
-      → streamOf side room (b ++ d) ≡ onward (streamOf side room) d (streamOf side room b).messages (streamOf side room b).end
-  more-in zero b d h =
+  more_in : (f : ℕ) (b d : List ℕ) → length b ≤ f
+      → stream_of side room (b ++ d) ≡ onward (stream_of side room) d (stream_of side room b).messages (stream_of side room b).end
+  more_in zero b d h =
       rw (step b) (more_by b d (at_hand room b) refl (told room b) (λ n l i. absurd (omega arith)))
-  more-in (suc f) b d h =
+  more_in (suc f) b d h =
       rw (step b)
-      (more_by b d (at_hand room b) refl (told room b) (λ n l i. more-in f (drop n b) d (simp length-drop (omega arith))))
+      (more_by b d (at_hand room b) refl (told room b) (λ n l i. more_in f (drop n b) d (simp length-drop (omega arith))))
 
   -- more bytes at the end: what was read stands, and the reading goes on from the bytes that were not finished
-  pub more : (b d : List ℕ) → streamOf side room (b ++ d) ≡ onward (streamOf side room) d (streamOf side room b).messages (streamOf side room b).end
-  more b d = more-in (length b) b d (omega arith)
+  pub more : (b d : List ℕ) → stream_of side room (b ++ d) ≡ onward (stream_of side room) d (stream_of side room b).messages (stream_of side room b).end
+  more b d = more_in (length b) b d (omega arith)

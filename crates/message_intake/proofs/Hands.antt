@@ -115,8 +115,8 @@ Told room s (Unfit n) = (n ≡ 2) ⊎ (n ≡ 32)
 Told room s (Whole n) = Ready room s n
 
 module _ (room : ℕ) (s : List ℕ) where
-  told-short : 5 ≤ room → length s < 5 → Missing room s (5 - length s)
-  told-short g h =
+  told_short : 5 ≤ room → length s < 5 → Missing room s (5 - length s)
+  told_short g h =
       record {
         more = omega arith;
         fits = omega arith;
@@ -126,8 +126,8 @@ module _ (room : ℕ) (s : List ℕ) where
       }
 
   module _ (h : 5 ≤ length s) (n : ℕ) (e : n ≡ be (take 4 (drop 1 s)) + 1) (low : 5 ≤ n) (high : n ≤ 65536) (fits : n ≤ room) where
-    told-lacking : length s < n → Missing room s (n - length s)
-    told-lacking k =
+    told_lacking : length s < n → Missing room s (n - length s)
+    told_lacking k =
         record {
           more = omega arith;
           fits = omega arith;
@@ -136,32 +136,32 @@ module _ (room : ℕ) (s : List ℕ) where
           message = λ _. omega arith;
         }
 
-    told-whole : n ≤ length s → Ready room s n
-    told-whole k = record { size = e; low = low; high = high; fits = fits; inside = k }
+    told_whole : n ≤ length s → Ready room s n
+    told_whole k = record { size = e; low = low; high = high; fits = fits; inside = k }
 
-  told-sized : 5 ≤ length s → (n : ℕ) → n ≡ be (take 4 (drop 1 s)) + 1 → 5 ≤ n → n ≤ 65536
+  told_sized : 5 ≤ length s → (n : ℕ) → n ≡ be (take 4 (drop 1 s)) + 1 → 5 ≤ n → n ≤ 65536
       → Told room s (roomed_head room (pick (ltb (length s) n) (body_short n (n - length s)) (body_whole n)))
   unfolding roomed_head
-  told-sized h n e low high =
+  told_sized h n e low high =
       pick_case (λ (x : MessageHead). Told room s (roomed_head room x)) (ltb (length s) n) (body_short n (n - length s)) (body_whole n)
       (λ t. pick_case (Told room s) (ltb room n) (Unfit 32) (Lacking (n - length s)) (λ _. inr refl)
-      (λ q. told-lacking h n e low high (ltb-false room n q) (ltb-true (length s) n t)))
+      (λ q. told_lacking h n e low high (ltb-false room n q) (ltb-true (length s) n t)))
       (λ t. pick_case (Told room s) (ltb room n) (Unfit 32) (Whole n) (λ _. inr refl)
-      (λ q. told-whole h n e low high (ltb-false room n q) (ltb-false (length s) n t)))
+      (λ q. told_whole h n e low high (ltb-false room n q) (ltb-false (length s) n t)))
 
-  told-head : 5 ≤ room → Told room s (roomed_head room (message_head s))
+  told_head : 5 ≤ room → Told room s (roomed_head room (message_head s))
   unfolding roomed_head message_head
-  told-head g =
+  told_head g =
       let n = be (take 4 (drop 1 s)) in
       let P : MessageHead → Type 0 = λ x. Told room s (roomed_head room x) in
-      pick_case P (ltb (length s) 5) _ _ (λ t. told-short g (ltb-true (length s) 5 t))
+      pick_case P (ltb (length s) 5) _ _ (λ t. told_short g (ltb-true (length s) 5 t))
       (λ t. pick_case P (ltb n 4) bad_length _ (λ _. inl refl)
       (λ a. pick_case P (ltb 65535 n) bad_length _ (λ _. inl refl)
-      (λ b. told-sized (ltb-false (length s) 5 t) (n + 1) refl (omega (arith, ltb-false n 4 a)) (omega (arith, ltb-false 65535 n b)))))
+      (λ b. told_sized (ltb-false (length s) 5 t) (n + 1) refl (omega (arith, ltb-false n 4 a)) (omega (arith, ltb-false 65535 n b)))))
 
 pub told : (room : ℕ) (s : List ℕ) → Told room s (at_hand room s)
 unfolding at_hand
 told room [] =
     record { more = omega arith; fits = omega arith; few = omega arith; head = λ _. refl; message = λ k. absurd (omega arith) }
 told room (b ∷ s) =
-    pick_case (Told room (b ∷ s)) (ltb room 5) (Unfit 32) _ (λ _. inr refl) (λ t. told-head room (b ∷ s) (ltb-false room 5 t))
+    pick_case (Told room (b ∷ s)) (ltb room 5) (Unfit 32) _ (λ _. inr refl) (λ t. told_head room (b ∷ s) (ltb-false room 5 t))

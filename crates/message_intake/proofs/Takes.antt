@@ -32,23 +32,23 @@ joined l p held h =
 
 -- a message of `size` bytes at hand, of which size - low are stored behind the held ones
 module _ (l src : List ℕ) (held size low : ℕ) (h : held ≤ length l) (r : size ≤ length l) (s : size ≤ held + length src) (m : low ≡ min held size) where
-  held-size : length (take held l) ≡ held
-  held-size = length-take-le held l h
+  held_size : length (take held l) ≡ held
+  held_size = length-take-le held l h
 
   -- how many are taken
   pub more_is : (size - low) ≡ size - length (take held l)
-  more_is = rw held-size (omega arith)
+  more_is = rw held_size (omega arith)
 
   size_is : length (take size (take held l ++ src)) ≡ size
-  size_is = length-take-le size (take held l ++ src) (simp length-append (omega (arith, held-size)))
+  size_is = length-take-le size (take held l ++ src) (simp length-append (omega (arith, held_size)))
 
   parted : held ≤ size → take size (take held l ++ src) ≡ take held l ++ take (size - low) src
   parted g =
-      let e : size ≡ length (take held l) + (size - low) = omega (arith, held-size) in
+      let e : size ≡ length (take held l) + (size - low) = omega (arith, held_size) in
       ap (λ (n : ℕ). take n (take held l ++ src)) e ∙ take-append-add (take held l) src (size - low)
 
   fronted : size ≤ held → take size (take held l ++ src) ≡ take size l
-  fronted g = take-append-le size (take held l) src (omega (arith, held-size)) ∙ take-take size held l g
+  fronted g = take-append-le size (take held l) src (omega (arith, held_size)) ∙ take-take size held l g
 
   pub room_is : sets l held (take (size - low) src) ≡ over (take size (take held l ++ src)) l
   room_is =
@@ -86,23 +86,23 @@ module _ (l src : List ℕ) (held size low : ℕ) (h : held ≤ length l) (r : s
 -- ---- what the outcome of the bytes at hand says of the lengths
 
 module _ (x : ℕ) (l src : List ℕ) (held : ℕ) (m : held ≡ min x (length l)) (a : AtHand) (o : a ≡ at_hand (length l) (take held l ++ src)) where
-  all-is : length (take held l ++ src) ≡ held + length src
-  all-is = length-append (take held l) src ∙ ap (λ (n : ℕ). n + length src) (length-take-le held l (omega arith))
+  all_is : length (take held l ++ src) ≡ held + length src
+  all_is = length-append (take held l) src ∙ ap (λ (n : ℕ). n + length src) (length-take-le held l (omega arith))
 
   module _ (k : ℕ) (e : a ≡ Lacking k) where
     missing : Missing (length l) (take held l ++ src) k
     missing = rw (sym o ∙ e) at (told (length l) (take held l ++ src))
 
     pub lacking_few : held + length src + k ≤ 65536
-    lacking_few = omega (arith, all-is, missing.few)
+    lacking_few = omega (arith, all_is, missing.few)
 
     pub lacking_fits : held + length src ≤ length l
-    lacking_fits = omega (arith, all-is, missing.fits)
+    lacking_fits = omega (arith, all_is, missing.fits)
 
   pub whole_fits : (n : ℕ) → a ≡ Whole n → (held ≤ length l) × (n ≤ length l) × (n ≤ held + length src) × (n ≤ 65536)
   whole_fits n e =
       let t : Ready (length l) (take held l ++ src) n = rw (sym o ∙ e) at (told (length l) (take held l ++ src)) in
-      (omega arith, t.fits, omega (arith, all-is, t.inside), t.high)
+      (omega arith, t.fits, omega (arith, all_is, t.inside), t.high)
 
 -- ---- the call
 
@@ -117,8 +117,8 @@ module _ (i : Intake) (src l : List ℕ) where
     refused_again z = rw (eq-eqb (length l) i.room h, ne_eqb i.number 0 z) (record { answer = refl; room = refl })
 
     module _ (z : i.number ≡ 0) (held : ℕ) (m : held ≡ min i.held (length l)) where
-      held-is : take i.held l ≡ take held l
-      held-is =
+      held_is : take i.held l ≡ take held l
+      held_is =
           elim (dec_lt (length l) i.held) [
             | yes g ↦ let e : held ≡ length l = omega arith in take_all i.held l (omega arith) ∙ sym (take_all held l (omega arith))
             | no g ↦ let e : held ≡ i.held = omega arith in rw e
@@ -126,7 +126,7 @@ module _ (i : Intake) (src l : List ℕ) where
 
       pub taken_by : take_of i src l ≡ take_by i (take held l) src l (at_hand (length l) (take held l ++ src))
       unfolding take_of pick
-      taken_by = rw (eq-eqb (length l) i.room h, eq-eqb i.number 0 z, held-is)
+      taken_by = rw (eq-eqb (length l) i.room h, eq-eqb i.number 0 z, held_is)
 
       pub unfit : (n : ℕ) → at_hand (length l) (take held l ++ src) ≡ Unfit n → SettlesTaken (take_of i src l) (refused_delivery (intake_ended i n 0) n 0) l
       unfolding take_by

@@ -7,7 +7,7 @@ use lib.Dec.{ltb}
 use lib.ListN.{length, get_or, take, drop, length-append}
 use lib.Seq.{get_or-take, take_at, drop_at}
 use borrow.Author.Tests.{ltb-false, le-ltb}
-use Rattle.wire.proofs.Numbers.{be_bytes, length-bytes}
+use Rattle.wire.proofs.Numbers.{be_bytes, length_bytes}
 use Rattle.wire.proofs.Picks.{pick_case}
 use Rattle.message_read.proofs.Whole.{Whole}
 use Rattle.message_laws.proofs.Covers.{covers}
@@ -73,27 +73,27 @@ is_read side s n u ws w room h =
 -- the message of a body c is whole, once its fields are read
 module _ (t : ℕ) (c : List ℕ) where
   long : 5 + length c ≡ length (message_of_lem t c)
-  long = simp (length-append, length-bytes) (omega arith)
+  long = simp (length-append, length_bytes) (omega arith)
 
   stands : Stands (message_of_lem t c) 5 c
   stands =
       record {
         inside = omega (arith, long);
         rest = [];
-        is = drop_at (bytes_be 4 (length c + 4)) c 4 (length-bytes 4 (length c + 4)) ∙ sym (append-nil c);
+        is = drop_at (bytes_be 4 (length c + 4)) c 4 (length_bytes 4 (length c + 4)) ∙ sym (append-nil c);
       }
 
   module _ (s : List ℕ) (b : take (length (message_of_lem t c)) s ≡ message_of_lem t c) where
     -- its type byte is the one asked for
-    kind-of : get_or s 0 0 ≡ t
-    kind-of = sym (get_or-take (length (message_of_lem t c)) s 0 0 (omega (arith, long))) ∙ ap (λ (x : List ℕ). get_or x 0 0) b
+    kind_of_lem : get_or s 0 0 ≡ t
+    kind_of_lem = sym (get_or-take (length (message_of_lem t c)) s 0 0 (omega (arith, long))) ∙ ap (λ (x : List ℕ). get_or x 0 0) b
 
     accepted : (side : ℕ) (l : Layout) (us : List ℕ) → length c + 4 ≤ 65535 → layout_of side t ≡ some l → fields_read l (message_of_lem t c) 5 ≡ read (5 + length c) us
         → Whole side s (length c + 4) (length (message_of_lem t c)) us
     accepted side l us h k e =
         let v = covers s (message_of_lem t c) b in
         let four : take 4 (drop 1 s) ≡ bytes_be 4 (length c + 4) =
-        v.part 1 4 (omega (arith, long)) ∙ take_at (bytes_be 4 (length c + 4)) c 4 (length-bytes 4 (length c + 4)) in
+        v.part 1 4 (omega (arith, long)) ∙ take_at (bytes_be 4 (length c + 4)) c 4 (length_bytes 4 (length c + 4)) in
         let all : take (length c + 4 + 1) s ≡ message_of_lem t c =
         ap (λ (k : ℕ). take k s) (let q : length c + 4 + 1 ≡ length (message_of_lem t c) = omega (arith, long) in q) ∙ b in
         record {
@@ -103,7 +103,7 @@ module _ (t : ℕ) (c : List ℕ) where
           high = h;
           fits = omega (arith, long, v.long);
           layout = l;
-          kind = ap (layout_of side) kind-of ∙ k;
+          kind = ap (layout_of side) kind_of_lem ∙ k;
           body = rw all (record { outcome = e ∙ ap (λ (n : ℕ). read n us) long; end = omega arith });
         }
 
@@ -133,7 +133,7 @@ accepted_back side t ws src room b e s f room' h =
     rw (← d.is) (record {
       words = x.words;
       is = r;
-      kind_is = kind-of t c s g;
+      kind_is = kind_of_lem t c s g;
       contents_are = pairs_contents s m (covers s m g) x.words (bounded side s room' (length m) x.words r).pairs ∙ same.contents_are;
       length_is = same.length_is;
     })

@@ -7,11 +7,11 @@ use lib.ListN.{length, take, drop, length-take}
 use lib.Seq.{take-take}
 
 -- a part of the first k elements
-pub part-take : (s : List ℕ) (k p n : ℕ) → p + n ≤ k → take n (drop p (take k s)) ≡ take n (drop p s)
-part-take s k zero n h = take-take n k s (omega arith)
-part-take s zero (suc p) n h = absurd (omega arith)
-part-take [] (suc k) (suc p) n h = refl
-part-take (x ∷ s) (suc k) (suc p) n h = part-take s k p n (omega arith)
+pub part_take : (s : List ℕ) (k p n : ℕ) → p + n ≤ k → take n (drop p (take k s)) ≡ take n (drop p s)
+part_take s k zero n h = take-take n k s (omega arith)
+part_take s zero (suc p) n h = absurd (omega arith)
+part_take [] (suc k) (suc p) n h = refl
+part_take (x ∷ s) (suc k) (suc p) n h = part_take s k p n (omega arith)
 
 -- every part of m is that part of s
 pub record Covers (s m : List ℕ) : Type 0 where
@@ -26,5 +26,5 @@ pub covers : (s m : List ℕ) → take (length m) s ≡ m → Covers s m
 covers s m e =
     record {
       long = omega (arith, ap length e, length-take (length m) s);
-      part = λ p n h. sym (part-take s (length m) p n h) ∙ ap (λ (x : List ℕ). take n (drop p x)) e;
+      part = λ p n h. sym (part_take s (length m) p n h) ∙ ap (λ (x : List ℕ). take n (drop p x)) e;
     }

@@ -9,7 +9,7 @@ use lib.Dec.{leb, eqb}
 use lib.ListN.{length, take, drop, length-append, length-drop}
 use lib.Seq.{drop-drop, take-append_seam, drop-append_seam}
 use borrow.Author.Tests.{eqb-true, le-leb}
-use Rattle.wire.proofs.Numbers.{be_bytes, length-bytes}
+use Rattle.wire.proofs.Numbers.{be_bytes, length_bytes}
 use Rattle.wire.proofs.Picks.{both, pick_case}
 use Rattle.forms.specs.declared.FieldRead.TheVariants.{At}
 use Rattle.message_laws.proofs.RoundTrip.{count_next}
@@ -59,11 +59,11 @@ Back m src p o ws unwritten = Unit {0}
 Back m src p o ws (wrote b vs) = Stands m p b → Reads m src o (p + length b) ws vs
 
 module _ (m src : List ℕ) (p : ℕ) (o : MessageRead) (f : ℕ → MessageRead) (ws : List ℕ) where
-  back-after : (b vs : List ℕ) (x : Written) → Back m src p o ws (wrote b vs)
+  back_after : (b vs : List ℕ) (x : Written) → Back m src p o ws (wrote b vs)
       → (Stands m p b → Reads m src o (p + length b) ws vs → Back m src (p + length b) (f (p + length b)) vs x) → Back m src p (then_read o f) ws (put_before b x)
   unfolding then_read read_before put_before
-  back-after b vs unwritten t u = tt
-  back-after b vs (wrote c us) t u = λ s.
+  back_after b vs unwritten t u = tt
+  back_after b vs (wrote c us) t u = λ s.
       let x = t (front b c s) in
       let y = u (front b c s) x (back b c s) in
       record {
@@ -72,11 +72,11 @@ module _ (m src : List ℕ) (p : ℕ) (o : MessageRead) (f : ℕ → MessageRead
         carry = λ ks k. rw append_assoc (x.carry (y.words ++ ks) (y.carry ks k));
       }
 
-  back-then : (w : Written) (g : List ℕ → List ℕ → Written) → Back m src p o ws w
+  back_then : (w : Written) (g : List ℕ → List ℕ → Written) → Back m src p o ws w
       → ((b vs : List ℕ) → Stands m p b → Reads m src o (p + length b) ws vs → Back m src (p + length b) (f (p + length b)) vs (g b vs)) → Back m src p (then_read o f) ws (joined w g)
   unfolding joined
-  back-then unwritten g t u = tt
-  back-then (wrote b vs) g t u = back-after b vs (g b vs) t (u b vs)
+  back_then unwritten g t u = tt
+  back_then (wrote b vs) g t u = back_after b vs (g b vs) t (u b vs)
 
 -- nothing written, nothing read
 back_none : (m src : List ℕ) (p : ℕ) (ws : List ℕ) → Back m src p (read p []) ws (wrote [] ws)
@@ -86,7 +86,7 @@ back_times : (m src : List ℕ) (f : ℕ → MessageRead) (g : List ℕ → Writ
     → (n p : ℕ) (ws : List ℕ) → Back m src p (times_read n f p) ws (times_written n g ws)
 unfolding times_read times_written
 back_times m src f g t zero p ws = back_none m src p ws
-back_times m src f g t (suc n) p ws = back-then m src p (f p) (times_read n f) ws (g ws) (λ b. times_written n g) (t p ws) (λ b vs s x. back_times m src f g t n (p + length b) vs)
+back_times m src f g t (suc n) p ws = back_then m src p (f p) (times_read n f) ws (g ws) (λ b. times_written n g) (t p ws) (λ b vs s x. back_times m src f g t n (p + length b) vs)
 
 -- ---- a field
 
@@ -98,9 +98,9 @@ record Holds (f : Field) (m : List ℕ) (p q : ℕ) (c : List ℕ) : Type 0 wher
   same : take (length c) (drop start m) ≡ c
 
 module _ (m : List ℕ) (small : length m < 256 ^ 4) (p : ℕ) (c : List ℕ) where
-  holds-number : (w : ℕ) (vs : List ℕ) → fitting (number w vs) c ≡ true → Stands m p c → Holds (number w vs) m p (p + length c) c
+  holds_number : (w : ℕ) (vs : List ℕ) → fitting (number w vs) c ≡ true → Stands m p c → Holds (number w vs) m p (p + length c) c
   unfolding field_at fitting pick
-  holds-number w vs e s =
+  holds_number w vs e s =
       let t = both (eqb (length c) w) (permits vs (be c)) e in
       record {
         start = p;
@@ -109,11 +109,11 @@ module _ (m : List ℕ) (small : length m < 256 ^ 4) (p : ℕ) (c : List ℕ) wh
         same = taken s;
       }
 
-  holds-bytes : Stands m p (bytes_be 4 (length c) ++ c) → Holds bytes m p (p + length (bytes_be 4 (length c) ++ c)) c
+  holds_bytes : Stands m p (bytes_be 4 (length c) ++ c) → Holds bytes m p (p + length (bytes_be 4 (length c) ++ c)) c
   unfolding field_at lengthened pick
-  holds-bytes s =
+  holds_bytes s =
       let n = length c in
-      let four : length (bytes_be 4 n) ≡ 4 = length-bytes 4 n in
+      let four : length (bytes_be 4 n) ≡ 4 = length_bytes 4 n in
       let head : take 4 (drop p m) ≡ bytes_be 4 n = rw four at (taken (front (bytes_be 4 n) c s)) in
       let tail : Stands m (p + 4) c = rw four at (back (bytes_be 4 n) c s) in
       let size : be (take 4 (drop p m)) ≡ n = ap be head ∙ be_bytes 4 n (omega (arith, end tail)) in
@@ -125,13 +125,13 @@ module _ (m : List ℕ) (small : length m < 256 ^ 4) (p : ℕ) (c : List ℕ) wh
         same = taken tail;
       }
 
-  holds-field : (f : Field) → fitting f c ≡ true → Stands m p (field_bytes f c) → Holds f m p (p + length (field_bytes f c)) c
+  holds_field : (f : Field) → fitting f c ≡ true → Stands m p (field_bytes f c) → Holds f m p (p + length (field_bytes f c)) c
   unfolding field_at fitting field_bytes textual pick
-  holds-field (number w vs) e s = holds-number w vs e s
-  holds-field text e s =
-      let h = holds-bytes s in
+  holds_field (number w vs) e s = holds_number w vs e s
+  holds_field text e s =
+      let h = holds_bytes s in
       record { start = h.start; found = rw (h.found, h.same, e); ends = h.ends; same = h.same }
-  holds-field bytes e s = holds-bytes s
+  holds_field bytes e s = holds_bytes s
 
 module _ (m : List ℕ) (small : length m < 256 ^ 4) (src : List ℕ) where
   back_field : (f : Field) (p : ℕ) (ws : List ℕ) → Back m src p (field_outcome p (field_at f m p)) ws (next_field f src ws)
@@ -144,7 +144,7 @@ module _ (m : List ℕ) (small : length m < 256 ^ 4) (src : List ℕ) where
       pick_case P (leb (s + n) (length src)) _ unwritten
       (λ _. pick_case P (fitting f c) (wrote (field_bytes f c) ws) unwritten
       (λ e st.
-      let h = holds-field m small p c f e st in
+      let h = holds_field m small p c f e st in
       record {
         words = h.start ∷ length c ∷ [];
         is = rw (h.found, h.ends);
@@ -153,10 +153,10 @@ module _ (m : List ℕ) (small : length m < 256 ^ 4) (src : List ℕ) where
       (λ _. tt))
       (λ _. tt)
 
-  back-run : (f : ℕ → MessageRead) (g : List ℕ → Written) → ((p : ℕ) (ws : List ℕ) → Back m src p (f p) ws (g ws)) → (p : ℕ) (ws : List ℕ)
+  back_run : (f : ℕ → MessageRead) (g : List ℕ → Written) → ((p : ℕ) (ws : List ℕ) → Back m src p (f p) ws (g ws)) → (p : ℕ) (ws : List ℕ)
       → Back m src p (then_read (field_outcome p (field_at u16 m p)) (times_read (be (take 2 (drop p m))) f)) ws (joined (next_field u16 src ws) (λ b. times_written (be b) g))
-  back-run f g t p ws =
-      back-then m src p _ (times_read (be (take 2 (drop p m))) f) ws (next_field u16 src ws) (λ b. times_written (be b) g) (back_field u16 p ws)
+  back_run f g t p ws =
+      back_then m src p _ (times_read (be (take 2 (drop p m))) f) ws (next_field u16 src ws) (λ b. times_written (be b) g) (back_field u16 p ws)
       (λ b vs s x.
       let two : length b ≡ 2 = omega (arith, count_next m p (p + length b) x.words x.is) in
       rw (rw two at (taken s)) (back_times m src f g t (be b) (p + length b) vs))
@@ -167,8 +167,8 @@ module _ (m : List ℕ) (small : length m < 256 ^ 4) (src : List ℕ) where
   unfolding fields_read fields_written
   read_back done p ws = back_none m src p ws
   read_back (one f rest) p ws =
-      back-then m src p _ (fields_read rest m) ws _ (λ b. fields_written rest src) (back_field f p ws) (λ b vs s x. read_back rest (p + length b) vs)
+      back_then m src p _ (fields_read rest m) ws _ (λ b. fields_written rest src) (back_field f p ws) (λ b vs s x. read_back rest (p + length b) vs)
   read_back (run items rest) p ws =
-      back-then m src p _ (fields_read rest m) ws _ (λ b. fields_written rest src)
-      (back-run (fields_read items m) (fields_written items src) (read_back items) p ws)
+      back_then m src p _ (fields_read rest m) ws _ (λ b. fields_written rest src)
+      (back_run (fields_read items m) (fields_written items src) (read_back items) p ws)
       (λ b vs s x. read_back rest (p + length b) vs)

@@ -43,24 +43,24 @@ Trip m p (unread n q) g = Unit {0}
 Trip m p (read q ws) g = (p ≤ q) × (q ≤ length m) × (Bytes m → (vs : List ℕ) → g (ws ++ vs) ≡ wrote (span m p q) vs)
 
 module _ (m : List ℕ) (p : ℕ) where
-  trip-prefixed : (q : ℕ) (ws : List ℕ) (o : MessageRead) (g : List ℕ → Written) (h : List ℕ → List ℕ → Written)
+  trip_prefixed : (q : ℕ) (ws : List ℕ) (o : MessageRead) (g : List ℕ → Written) (h : List ℕ → List ℕ → Written)
       → Trip m p (read q ws) g → Trip m q o (h (span m p q)) → Trip m p (read_before ws o) (λ vs. joined (g vs) h)
   unfolding read_before joined put_before
-  trip-prefixed q ws (unread n r) g h t u = tt
-  trip-prefixed q ws (read r us) g h t u =
+  trip_prefixed q ws (unread n r) g h t u = tt
+  trip_prefixed q ws (read r us) g h t u =
       (omega arith, u.1, λ b vs. rw (append_assoc, t.2 b (us ++ vs), u.2 b vs, span_join m p q r t.0 u.0))
 
-  trip-then : (o : MessageRead) (f : ℕ → MessageRead) (g : List ℕ → Written) (h : List ℕ → List ℕ → Written)
+  trip_then : (o : MessageRead) (f : ℕ → MessageRead) (g : List ℕ → Written) (h : List ℕ → List ℕ → Written)
       → Trip m p o g → ((q : ℕ) (ws : List ℕ) → o ≡ read q ws → q ≤ length m → Trip m q (f q) (h (span m p q))) → Trip m p (then_read o f) (λ vs. joined (g vs) h)
   unfolding then_read
-  trip-then (unread n q) f g h t u = tt
-  trip-then (read q ws) f g h t u = trip-prefixed q ws (f q) g h t (u q ws refl t.1)
+  trip_then (unread n q) f g h t u = tt
+  trip_then (read q ws) f g h t u = trip_prefixed q ws (f q) g h t (u q ws refl t.1)
 
 trip_times : (m : List ℕ) (f : ℕ → MessageRead) (g : List ℕ → Written) → ((p : ℕ) → p ≤ length m → Trip m p (f p) g)
     → (n p : ℕ) → p ≤ length m → Trip m p (times_read n f p) (times_written n g)
 unfolding times_read times_written
 trip_times m f g r zero p h = (omega arith, h, λ _ vs. rw (span_none m p))
-trip_times m f g r (suc n) p h = trip-then m p (f p) (times_read n f) g (λ b. times_written n g) (r p h) (λ q ws e k. trip_times m f g r n q k)
+trip_times m f g r (suc n) p h = trip_then m p (f p) (times_read n f) g (λ b. times_written n g) (r p h) (λ q ws e k. trip_times m f g r n q k)
 
 -- ---- a field
 
@@ -80,9 +80,9 @@ length_part : (m : List ℕ) (s n : ℕ) → s + n ≤ length m → length (take
 length_part m s n h = simp (length-take, length-drop) (omega arith)
 
 module _ (m : List ℕ) (p : ℕ) where
-  lies-number : (w : ℕ) (vs : List ℕ) → p + w ≤ length m → permits vs (be (take w (drop p m))) ≡ true → Lies (number w vs) m p p w
+  lies_number : (w : ℕ) (vs : List ℕ) → p + w ≤ length m → permits vs (be (take w (drop p m))) ≡ true → Lies (number w vs) m p p w
   unfolding fitting field_bytes pick
-  lies-number w vs h e =
+  lies_number w vs h e =
       record {
         onward = omega arith;
         inside = h;
@@ -90,9 +90,9 @@ module _ (m : List ℕ) (p : ℕ) where
         same = λ _. rw add-sub_cancel_left;
       }
 
-  lies-bytes : (n : ℕ) → n ≡ be (take 4 (drop p m)) → p + 4 + n ≤ length m → Lies bytes m p (p + 4) n
+  lies_bytes : (n : ℕ) → n ≡ be (take 4 (drop p m)) → p + 4 + n ≤ length m → Lies bytes m p (p + 4) n
   unfolding fitting field_bytes
-  lies-bytes n e h =
+  lies_bytes n e h =
       let size : p + 4 + n - p ≡ 4 + n = omega arith in
       record {
         onward = omega arith;
@@ -101,19 +101,19 @@ module _ (m : List ℕ) (p : ℕ) where
         same = λ b. rw (length_part m (p + 4) n h, ap (bytes_be 4) e ∙ bytes_be_lem m p 4 b (omega arith), size, take-add 4 n, drop-drop);
       }
 
-  lies-length : LiesAt bytes m p (lengthened m p)
+  lies_length : LiesAt bytes m p (lengthened m p)
   unfolding lengthened
-  lies-length =
+  lies_length =
       pick_case (LiesAt bytes m p) (leb (p + 4) (length m)) _ Short
-      (λ _. pick_case (LiesAt bytes m p) (leb (p + 4 + be (take 4 (drop p m))) (length m)) _ Short (λ b. lies-bytes _ refl (leb-true _ _ b)) (λ _. tt))
+      (λ _. pick_case (LiesAt bytes m p) (leb (p + 4 + be (take 4 (drop p m))) (length m)) _ Short (λ b. lies_bytes _ refl (leb-true _ _ b)) (λ _. tt))
       (λ _. tt)
 
   -- text is bytes that are well-formed
-  lies-text : (o : FieldRead) → LiesAt bytes m p o → LiesAt text m p (textual m o)
+  lies_text : (o : FieldRead) → LiesAt bytes m p o → LiesAt text m p (textual m o)
   unfolding textual fitting field_bytes
-  lies-text Short l = tt
-  lies-text Barred l = tt
-  lies-text (At s n) l =
+  lies_text Short l = tt
+  lies_text Barred l = tt
+  lies_text (At s n) l =
       pick_case (LiesAt text m p) (well_formed (take n (drop s m))) (At s n) Barred
       (λ b. record { onward = l.onward; inside = l.inside; good = b; same = l.same })
       (λ _. tt)
@@ -122,21 +122,21 @@ module _ (m : List ℕ) (p : ℕ) where
   unfolding field_at
   lies_field (number w vs) =
       pick_case (LiesAt (number w vs) m p) (leb (p + w) (length m)) _ Short
-      (λ a. pick_case (LiesAt (number w vs) m p) (permits vs (be (take w (drop p m)))) (At p w) Barred (lies-number w vs (leb-true _ _ a)) (λ _. tt))
+      (λ a. pick_case (LiesAt (number w vs) m p) (permits vs (be (take w (drop p m)))) (At p w) Barred (lies_number w vs (leb-true _ _ a)) (λ _. tt))
       (λ _. tt)
-  lies_field text = lies-text (lengthened m p) lies-length
-  lies_field bytes = lies-length
+  lies_field text = lies_text (lengthened m p) lies_length
+  lies_field bytes = lies_length
 
-  trip-found : (src : List ℕ) → Covers src m → (f : Field) (o : FieldRead) → LiesAt f m p o → Trip m p (field_outcome p o) (next_field f src)
+  trip_found : (src : List ℕ) → Covers src m → (f : Field) (o : FieldRead) → LiesAt f m p o → Trip m p (field_outcome p o) (next_field f src)
   unfolding field_outcome next_field pick
-  trip-found src c f Short l = tt
-  trip-found src c f Barred l = tt
-  trip-found src c f (At s n) l =
+  trip_found src c f Short l = tt
+  trip_found src c f Barred l = tt
+  trip_found src c f (At s n) l =
       let h : s + n ≤ length src = omega (arith, l.inside, c.long) in
       (l.onward, l.inside, λ b us. rw (le-leb (s + n) (length src) h, c.part s n l.inside, l.good, l.same b))
 
-  trip-field : (src : List ℕ) → Covers src m → (f : Field) → Trip m p (field_outcome p (field_at f m p)) (next_field f src)
-  trip-field src c f = trip-found src c f (field_at f m p) (lies_field f)
+  trip_field : (src : List ℕ) → Covers src m → (f : Field) → Trip m p (field_outcome p (field_at f m p)) (next_field f src)
+  trip_field src c f = trip_found src c f (field_at f m p) (lies_field f)
 
 -- a run's count is two bytes
 pub count_next : (m : List ℕ) (p q : ℕ) (ws : List ℕ) → field_outcome p (field_at u16 m p) ≡ read q ws → q - p ≡ 2
@@ -149,17 +149,17 @@ count_next m p q ws =
 -- ---- every layout
 
 module _ (m src : List ℕ) (c : Covers src m) where
-  trip-run : (f : ℕ → MessageRead) (g : List ℕ → Written) → ((q : ℕ) → q ≤ length m → Trip m q (f q) g) → (p : ℕ)
+  trip_run : (f : ℕ → MessageRead) (g : List ℕ → Written) → ((q : ℕ) → q ≤ length m → Trip m q (f q) g) → (p : ℕ)
       → Trip m p (then_read (field_outcome p (field_at u16 m p)) (times_read (be (take 2 (drop p m))) f)) (λ vs. joined (next_field u16 src vs) (λ b. times_written (be b) g))
-  trip-run f g r p =
-      trip-then m p _ (times_read (be (take 2 (drop p m))) f) (next_field u16 src) (λ b. times_written (be b) g) (trip-field m p src c u16)
+  trip_run f g r p =
+      trip_then m p _ (times_read (be (take 2 (drop p m))) f) (next_field u16 src) (λ b. times_written (be b) g) (trip_field m p src c u16)
       (λ q ws e k. rw (count_next m p q ws e) (trip_times m f g r (be (take 2 (drop p m))) q k))
 
   pub round_trip : (x : Layout) (p : ℕ) → p ≤ length m → Trip m p (fields_read x m p) (fields_written x src)
   unfolding fields_read fields_written
   round_trip done p h = (omega arith, h, λ _ vs. rw (span_none m p))
-  round_trip (one f rest) p h = trip-then m p _ _ _ (λ b. fields_written rest src) (trip-field m p src c f) (λ q ws e k. round_trip rest q k)
+  round_trip (one f rest) p h = trip_then m p _ _ _ (λ b. fields_written rest src) (trip_field m p src c f) (λ q ws e k. round_trip rest q k)
   round_trip (run items rest) p h =
-      trip-then m p _ _ _ (λ b. fields_written rest src)
-      (trip-run (fields_read items m) (fields_written items src) (round_trip items) p)
+      trip_then m p _ _ _ (λ b. fields_written rest src)
+      (trip_run (fields_read items m) (fields_written items src) (round_trip items) p)
       (λ q ws e k. round_trip rest q k)

@@ -53,39 +53,39 @@ Sound n (unread k p) = (4 ≤ k) × (k ≤ 6)
 Sound n (read q ws) = Pairs n ws
 
 module _ (n : ℕ) where
-  sound-prefixed : (ws : List ℕ) (o : MessageRead) → Pairs n ws → Sound n o → Sound n (read_before ws o)
+  sound_prefixed : (ws : List ℕ) (o : MessageRead) → Pairs n ws → Sound n o → Sound n (read_before ws o)
   unfolding read_before
-  sound-prefixed ws (unread k p) h g = g
-  sound-prefixed ws (read q vs) h g = pairs_append n ws vs h g
+  sound_prefixed ws (unread k p) h g = g
+  sound_prefixed ws (read q vs) h g = pairs_append n ws vs h g
 
-  sound-then : (o : MessageRead) (f : ℕ → MessageRead) → Sound n o → ((q : ℕ) → Sound n (f q)) → Sound n (then_read o f)
+  sound_then : (o : MessageRead) (f : ℕ → MessageRead) → Sound n o → ((q : ℕ) → Sound n (f q)) → Sound n (then_read o f)
   unfolding then_read
-  sound-then (unread k p) f h g = h
-  sound-then (read q ws) f h g = sound-prefixed ws (f q) h (g q)
+  sound_then (unread k p) f h g = h
+  sound_then (read q ws) f h g = sound_prefixed ws (f q) h (g q)
 
-  sound-times : (f : ℕ → MessageRead) → ((p : ℕ) → Sound n (f p)) → (k p : ℕ) → Sound n (times_read k f p)
+  sound_times : (f : ℕ → MessageRead) → ((p : ℕ) → Sound n (f p)) → (k p : ℕ) → Sound n (times_read k f p)
   unfolding times_read
-  sound-times f h zero p = tt
-  sound-times f h (suc k) p = sound-then (f p) (times_read k f) (h p) (sound-times f h k)
+  sound_times f h zero p = tt
+  sound_times f h (suc k) p = sound_then (f p) (times_read k f) (h p) (sound_times f h k)
 
 module _ (m : List ℕ) where
-  sound-found : (f : Field) (p : ℕ) (o : FieldRead) → LiesAt f m p o → Sound (length m) (field_outcome p o)
+  sound_found : (f : Field) (p : ℕ) (o : FieldRead) → LiesAt f m p o → Sound (length m) (field_outcome p o)
   unfolding field_outcome
-  sound-found f p Short l = (lit≤ tt, lit≤ tt)
-  sound-found f p Barred l = (lit≤ tt, lit≤ tt)
-  sound-found f p (At s k) l = (l.inside, tt)
+  sound_found f p Short l = (lit≤ tt, lit≤ tt)
+  sound_found f p Barred l = (lit≤ tt, lit≤ tt)
+  sound_found f p (At s k) l = (l.inside, tt)
 
-  sound-field : (f : Field) (p : ℕ) → Sound (length m) (field_outcome p (field_at f m p))
-  sound-field f p = sound-found f p (field_at f m p) (lies_field m p f)
+  sound_field : (f : Field) (p : ℕ) → Sound (length m) (field_outcome p (field_at f m p))
+  sound_field f p = sound_found f p (field_at f m p) (lies_field m p f)
 
   pub sound_fields : (x : Layout) (p : ℕ) → Sound (length m) (fields_read x m p)
   unfolding fields_read
   sound_fields done p = tt
-  sound_fields (one f rest) p = sound-then (length m) _ (fields_read rest m) (sound-field f p) (sound_fields rest)
+  sound_fields (one f rest) p = sound_then (length m) _ (fields_read rest m) (sound_field f p) (sound_fields rest)
   sound_fields (run items rest) p =
-      sound-then (length m) _ (fields_read rest m)
-      (sound-then (length m) _ (times_read (be (take 2 (drop p m))) (fields_read items m)) (sound-field u16 p)
-      (sound-times (length m) (fields_read items m) (sound_fields items) (be (take 2 (drop p m)))))
+      sound_then (length m) _ (fields_read rest m)
+      (sound_then (length m) _ (times_read (be (take 2 (drop p m))) (fields_read items m)) (sound_field u16 p)
+      (sound_times (length m) (fields_read items m) (sound_fields items) (be (take 2 (drop p m)))))
       (sound_fields rest)
 
 -- ---- a message

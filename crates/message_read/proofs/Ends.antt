@@ -90,19 +90,19 @@ module _ (side : ℕ) (s l l' : List ℕ) where
         check_more j = refuses _ 1 0 l l' (rw (← e, le-ltb (length s) 5 h, le-ltb n 4 g, le-ltb 65535 n k, lt-ltb (length s) (n + 1) j))
 
         module _ (j : n + 1 ≤ length s) (r : ℕ) (f : r ≡ start_of side (get_or s 0 0)) where
-          message-is : message_of side s ≡ body_read (known_at r) (take (n + 1) s)
+          message_is : message_of side s ≡ body_read (known_at r) (take (n + 1) s)
           unfolding message_of message_by message_head pick
-          message-is =
+          message_is =
               let d = start_known r side (get_or s 0 0) f in
               rw (← e, le-ltb (length s) 5 h, le-ltb n 4 g, le-ltb 65535 n k, le-ltb (length s) (n + 1) j, ← d)
 
           pub check_unknown : 51 ≤ r → Checks (message_of side s) (Answer.Refused 3 0) l l'
           unfolding body_read known_at pick
-          check_unknown q = refuses _ 3 0 l l' (message-is ∙ rw (le-ltb r 51 q))
+          check_unknown q = refuses _ 3 0 l l' (message_is ∙ rw (le-ltb r 51 q))
 
           pub check_known : (a : Answer) → r < 51 → Checks (message_end (take (n + 1) s) (fields_read (layout_at r) (take (n + 1) s) 5)) a l l' → Checks (message_of side s) a l l'
           unfolding body_read known_at pick
-          check_known a q v = rw (message-is, lt-ltb r 51 q) v
+          check_known a q v = rw (message_is, lt-ltb r 51 q) v
 
 -- ---- an accepted message's words
 

@@ -27,17 +27,17 @@ module _ (m : List ℕ) (c at n : ℕ) (h : 2 < c) (en : n ≡ width_of c) where
 
   module _ (w : at + n ≤ length m) (j : Bool) where
     module _ (b : Bool) (e : b ≡ permits (values_of c) (be (take (width_of c) (drop at m)))) (ej : j ≡ true) where
-      judged-is : field_at (judged j (field_of c)) m at ≡ pick b (At at n) Barred
+      judged_is : field_at (judged j (field_of c)) m at ≡ pick b (At at n) Barred
       unfolding field_at judged pick
-      judged-is = rw (ej, number_code c h, ← e, ← en, le-leb _ _ w)
+      judged_is = rw (ej, number_code c h, ← e, ← en, le-leb _ _ w)
 
       pub number_good : b ≡ true → At at n ≡ field_at (judged j (field_of c)) m at
       unfolding pick
-      number_good t = sym (judged-is ∙ rw t)
+      number_good t = sym (judged_is ∙ rw t)
 
       pub number_bad : b ≡ false → Barred ≡ field_at (judged j (field_of c)) m at
       unfolding pick
-      number_bad t = sym (judged-is ∙ rw t)
+      number_bad t = sym (judged_is ∙ rw t)
 
     pub number_any : j ≡ false → At at n ≡ field_at (judged j (field_of c)) m at
     unfolding field_at judged permits pick
@@ -89,16 +89,16 @@ module _ (m : List ℕ) (c at : ℕ) (j : Bool) where
       go false = refl
 
   module _ (z : 0 < c) (s : c ≤ 2) (n : c ≡ 2 → ⊥) where
-    is-text : field_of c ≡ text
-    is-text = text_code c (omega (arith, n))
+    is_text : field_of c ≡ text
+    is_text = text_code c (omega (arith, n))
 
     pub text_judged : j ≡ true → textual m (lengthened m at) ≡ field_at (judged j (field_of c)) m at
     unfolding field_at judged
-    text_judged e = rw (e, is-text)
+    text_judged e = rw (e, is_text)
 
     pub text_taken : j ≡ false → lengthened m at ≡ field_at (judged j (field_of c)) m at
     unfolding field_at judged
-    text_taken e = rw (e, is-text)
+    text_taken e = rw (e, is_text)
 
 -- ---- what is found stays inside
 

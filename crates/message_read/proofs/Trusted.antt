@@ -38,32 +38,32 @@ keeps_times f f' r zero q = refl
 keeps_times f f' r (suc n) q = keeps_then (f q) (f' q) (times_read n f) (times_read n f') (r q) (keeps_times f f' r n)
 
 module _ (m : List ℕ) (at : ℕ) where
-  keeps-number : (w : ℕ) (a b : Bool) → Keeps (field_outcome at (pick a (pick b (At at w) Barred) Short)) (field_outcome at (pick a (pick true (At at w) Barred) Short))
+  keeps_number : (w : ℕ) (a b : Bool) → Keeps (field_outcome at (pick a (pick b (At at w) Barred) Short)) (field_outcome at (pick a (pick true (At at w) Barred) Short))
   unfolding field_outcome pick
-  keeps-number w false b = tt
-  keeps-number w true false = tt
-  keeps-number w true true = refl
+  keeps_number w false b = tt
+  keeps_number w true false = tt
+  keeps_number w true true = refl
 
-  keeps-text : (f : FieldRead) → Keeps (field_outcome at (textual m f)) (field_outcome at f)
+  keeps_text : (f : FieldRead) → Keeps (field_outcome at (textual m f)) (field_outcome at f)
   unfolding field_outcome textual pick
-  keeps-text Short = tt
-  keeps-text Barred = tt
-  keeps-text (At s n) = either (well_formed (take n (drop s m)))
+  keeps_text Short = tt
+  keeps_text Barred = tt
+  keeps_text (At s n) = either (well_formed (take n (drop s m)))
     where
       either : (b : Bool) → Keeps (field_outcome at (pick b (At s n) Barred)) (field_outcome at (At s n))
       either true = refl
       either false = tt
 
-  keeps-field : (f : Field) → Keeps (field_outcome at (field_at f m at)) (field_outcome at (field_at (judged false f) m at))
+  keeps_field : (f : Field) → Keeps (field_outcome at (field_at f m at)) (field_outcome at (field_at (judged false f) m at))
   unfolding field_at judged permits
-  keeps-field (number w vs) = keeps-number w (leb (at + w) (length m)) (permits vs (be (take w (drop at m))))
-  keeps-field text = keeps-text (lengthened m at)
-  keeps-field bytes = keeps_same (field_outcome at (lengthened m at))
+  keeps_field (number w vs) = keeps_number w (leb (at + w) (length m)) (permits vs (be (take w (drop at m))))
+  keeps_field text = keeps_text (lengthened m at)
+  keeps_field bytes = keeps_same (field_outcome at (lengthened m at))
 
 pub keeps_fields : (l : Layout) (m : List ℕ) (at : ℕ) → Keeps (fields_read l m at) (fields_read (unjudged l) m at)
 unfolding fields_read unjudged
 keeps_fields done m at = refl
-keeps_fields (one f rest) m at = keeps_then _ _ _ _ (keeps-field m at f) (keeps_fields rest m)
+keeps_fields (one f rest) m at = keeps_then _ _ _ _ (keeps_field m at f) (keeps_fields rest m)
 keeps_fields (run items rest) m at =
     keeps_then _ _ _ _
     (keeps_then _ _ _ _ (keeps_same (field_outcome at (field_at u16 m at))) (keeps_times (fields_read items m) (fields_read (unjudged items) m) (keeps_fields items m) (be (take 2 (drop at m)))))

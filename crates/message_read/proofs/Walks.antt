@@ -10,7 +10,7 @@ use native.Mathlib.Numerals.{add-one, sub-one}
 use lib.ListN.{length, get_or, take, drop, length-append}
 use lib.Seq.{sets}
 use borrow.Author.Tests.{lt-ltb, le-ltb, lt-leb}
-use Rattle.wire.proofs.Stores.{sets-append}
+use Rattle.wire.proofs.Stores.{sets_append}
 use Rattle.message_layout.specs.Judged.{judged, judged_all}
 use Rattle.message_layout.specs.Tables.{codes, field_of, layout_at}
 use Rattle.message_layout.proofs.Codes.{lt_or_ge, at_end, at_field, at_run, count_code}
@@ -70,7 +70,7 @@ count_whole j a w l' m at k l s e q =
 led_prefixed : (ws : List ℕ) (o : MessageRead) (k : ℕ) (l : List ℕ) → led (read_before ws o) k l ≡ led o (k + length ws) (sets l k ws)
 unfolding read_before led
 led_prefixed ws (unread n p) k l = refl
-led_prefixed ws (read at vs) k l = rw (sets-append, length-append, add_assoc)
+led_prefixed ws (read at vs) k l = rw (sets_append, length-append, add_assoc)
 
 stop_at : (n p : ℕ) (o : MessageRead) (k : ℕ) (l : List ℕ) (f : ℕ → MessageRead) → stopped n p ≡ led o k l → stopped n p ≡ led (then_read o f) k l
 unfolding led then_read

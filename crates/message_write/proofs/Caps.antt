@@ -39,8 +39,8 @@ cap_add a b =
         ⊎_elim (λ (h : 65537 < 65537 + k). cap_large (65537 + k) h) (λ (h : 65537 + k ≤ 65537). cap_small (65537 + k) h ∙ omega arith) (lt_or_ge 65537 (65537 + k))
 
 -- a store past the end does nothing, wherever the length stopped
-pub cap-sets : (l : List ℕ) (k : ℕ) (vs : List ℕ) → length l ≤ 65536 → sets l (cap k) vs ≡ sets l k vs
-cap-sets l k vs h =
+pub cap_sets : (l : List ℕ) (k : ℕ) (vs : List ℕ) → length l ≤ 65536 → sets l (cap k) vs ≡ sets l k vs
+cap_sets l k vs h =
     ⊎_elim
     (λ (g : 65537 < k). rw (cap_large k g) (sets_out l 65537 vs (omega arith) ∙ sym (sets_out l k vs (omega arith))))
     (λ (g : k ≤ 65537). rw (cap_small k g))

@@ -9,8 +9,8 @@ use native.Mathlib.Nat.{eq-or-lt_of_le}
 use lib.ListN.{length, take, drop, length-append}
 use lib.Seq.{sets, sets-eq, take-length}
 use borrow.Author.Tests.{eq-eqb, ne_eqb}
-use Rattle.wire.proofs.Numbers.{length-bytes}
-use Rattle.wire.proofs.Stores.{sets-append}
+use Rattle.wire.proofs.Numbers.{length_bytes}
+use Rattle.wire.proofs.Stores.{sets_append}
 use Rattle.message_layout.specs.Judged.{judged}
 use Rattle.message_layout.specs.Tables.{field_of, width_of, values_of}
 use Rattle.message_layout.proofs.Rules.{text_code, bytes_code, number_code}
@@ -51,16 +51,16 @@ module _ (c : ℕ) (b : List ℕ) (j : Bool) where
       go false = refl
 
   module _ (z : 0 < c) (s : c ≤ 2) (n : c ≡ 2 → ⊥) where
-    is-text : field_of c ≡ text
-    is-text = text_code c (omega (arith, n))
+    is_text : field_of c ≡ text
+    is_text = text_code c (omega (arith, n))
 
     pub text_fits : (r : Bool) → j ≡ true → r ≡ well_formed b → r ≡ fitting (judged j (field_of c)) b
     unfolding fitting judged
-    text_fits r e w = rw (e, is-text) w
+    text_fits r e w = rw (e, is_text) w
 
     pub text_any : j ≡ false → true ≡ fitting (judged j (field_of c)) b
     unfolding fitting judged
-    text_any e = rw (e, is-text)
+    text_any e = rw (e, is_text)
 
 -- ---- how content is put out
 
@@ -83,7 +83,7 @@ framed_of c b p q =
 -- four bytes stored in an array of four
 head_is : (v : ℕ) → sets (0 ∷ 0 ∷ 0 ∷ 0 ∷ []) 0 (bytes_be 4 v) ≡ bytes_be 4 v
 head_is v =
-    let e : 0 + length (bytes_be 4 v) ≡ 4 = omega (arith, length-bytes 4 v) in
+    let e : 0 + length (bytes_be 4 v) ≡ 4 = omega (arith, length_bytes 4 v) in
     sets-eq (bytes_be 4 v) (0 ∷ 0 ∷ 0 ∷ 0 ∷ []) 0 (omega arith)
     ∙ ap (λ (k : ℕ). bytes_be 4 v ++ drop k (0 ∷ 0 ∷ 0 ∷ 0 ∷ [])) e
     ∙ append-nil (bytes_be 4 v)
@@ -98,10 +98,10 @@ module _ (c at : ℕ) (b out : List ℕ) (r : ℕ) where
   framed_content head out₁ out' p q er e f g =
       rw (framed_of c b p q)
       (record {
-        next = er ∙ ap cap (omega (arith, length-append (bytes_be 4 (length b)) b, length-bytes 4 (length b)));
+        next = er ∙ ap cap (omega (arith, length-append (bytes_be 4 (length b)) b, length_bytes 4 (length b)));
         output =
             g
             ∙ ap (λ (l : List ℕ). sets l (at + 4) b) (f ∙ ap (sets out at) (e ∙ head_is (length b)))
-            ∙ ap (λ (k : ℕ). sets (sets out at (bytes_be 4 (length b))) (at + k) b) (sym (length-bytes 4 (length b)))
-            ∙ sets-append out at (bytes_be 4 (length b)) b;
+            ∙ ap (λ (k : ℕ). sets (sets out at (bytes_be 4 (length b))) (at + k) b) (sym (length_bytes 4 (length b)))
+            ∙ sets_append out at (bytes_be 4 (length b)) b;
       })

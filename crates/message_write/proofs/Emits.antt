@@ -11,7 +11,7 @@ use lib.Dec.{eqb, leb}
 use lib.ListN.{length, take, drop, get_or, length-take, length-drop, length-append}
 use lib.Seq.{sets, length-sets, drop-cons, get_or-drop}
 use borrow.Author.Tests.{eqb-true, leb-true, le-leb, lt-leb, lt-ltb, le-ltb}
-use Rattle.wire.proofs.Stores.{sets-append}
+use Rattle.wire.proofs.Stores.{sets_append}
 use Rattle.message_layout.specs.Judged.{judged, judged_all}
 use Rattle.message_layout.specs.Tables.{codes, field_of, layout_at}
 use Rattle.message_layout.proofs.Codes.{lt_or_ge, at_end, at_field, at_run, count_code}
@@ -19,7 +19,7 @@ use Rattle.message_layout.proofs.Judged.{judged_done, judged_one, judged_run, ju
 use Rattle.message_write.specs.Emitting.{cap, Framed, Stand, broken, stands, put_at, stand_of, item_from}
 use Rattle.message_write.specs.declared.Emit.{Emit}
 use Rattle.message_write.specs.declared.Emit.TheVariants.{Faulty, Done}
-use Rattle.message_write.proofs.Caps.{cap_small, cap_add, cap-sets}
+use Rattle.message_write.proofs.Caps.{cap_small, cap_add, cap_sets}
 use Rattle.message_write.proofs.Contents.{framed_judged}
 use Rattle.protocol.specs.Numbers.{pick, be}
 use Rattle.protocol.specs.Messages.{Field, u16, permits, Written, unwritten, wrote, fitting, field_bytes, next_field, put_before, joined, times_written, fields_written}
@@ -29,7 +29,7 @@ unfolding put_before put_at
 put_after b unwritten at out h = refl
 put_after b (wrote c ws) at out h =
     let k : length (sets out at b) ≤ 65536 = rw (length-sets out at b) h in
-    rw (length-append, ← add_assoc, ← sets-append, cap_add, cap-sets (sets out at b) (at + length b) c k)
+    rw (length-append, ← add_assoc, ← sets_append, cap_add, cap_sets (sets out at b) (at + length b) c k)
 
 module _ (at : ℕ) (out : List ℕ) where
   pub stop_from : (w : Written) (f : List ℕ → List ℕ → Written) → broken ≡ put_at w at out → broken ≡ put_at (joined w f) at out
@@ -38,11 +38,11 @@ module _ (at : ℕ) (out : List ℕ) where
   stop_from (wrote b ws) f e = let z : ◌≡◌ {A = ℕ} 0 1 = cc in absurd (omega arith)
 
   module _ (small : length out ≤ 65536) where
-    go-any : (w : Written) (f : List ℕ → List ℕ → Written) (ws : List ℕ) (at' : ℕ) (out' : List ℕ) → stands ws at' out' ≡ put_at w at out
+    go_any : (w : Written) (f : List ℕ → List ℕ → Written) (ws : List ℕ) (at' : ℕ) (out' : List ℕ) → stands ws at' out' ≡ put_at w at out
         → (b : List ℕ) × (w ≡ wrote b ws) × (put_at (joined w f) at out ≡ put_at (f b ws) at' out')
     unfolding joined put_at
-    go-any unwritten f ws at' out' e = let z : ◌≡◌ {A = ℕ} 0 1 = cc in absurd (omega arith)
-    go-any (wrote b us) f ws at' out' e =
+    go_any unwritten f ws at' out' e = let z : ◌≡◌ {A = ℕ} 0 1 = cc in absurd (omega arith)
+    go_any (wrote b us) f ws at' out' e =
         let eu : us ≡ ws = cc in
         let ea : cap (at + length b) ≡ at' = cc in
         let eo : sets out at b ≡ out' = cc in
@@ -50,7 +50,7 @@ module _ (at : ℕ) (out : List ℕ) where
 
     pub go_from : (w : Written) (g : List ℕ → Written) (ws : List ℕ) (at' : ℕ) (out' : List ℕ) → stands ws at' out' ≡ put_at w at out
         → put_at (joined w (λ b. g)) at out ≡ put_at (g ws) at' out'
-    go_from w g ws at' out' e = (go-any w (λ b. g) ws at' out' e).2
+    go_from w g ws at' out' e = (go_any w (λ b. g) ws at' out' e).2
 
 part_length : (m : List ℕ) (a k : ℕ) → a + k ≤ length m → length (take k (drop a m)) ≡ k
 part_length m a k g = simp (length-take, length-drop) (omega arith)
@@ -139,7 +139,7 @@ module _ (j : Bool) (c : ℕ) (src ws : List ℕ) (at : ℕ) (out : List ℕ) wh
       counted : (b : List ℕ) × (next_field (judged j (field_of 7)) src ws ≡ wrote b us)
           × (put_at (joined (next_field (judged j (field_of 7)) src ws) (λ b. times_written (be b) (fields_written (judged_all j (layout_at (c - 16))) src))) at out
           ≡ put_at (times_written (be b) (fields_written (judged_all j (layout_at (c - 16))) src) us) at' out')
-      counted = go-any at out small (next_field (judged j (field_of 7)) src ws) (λ b. times_written (be b) (fields_written (judged_all j (layout_at (c - 16))) src)) us at' out' e
+      counted = go_any at out small (next_field (judged j (field_of 7)) src ws) (λ b. times_written (be b) (fields_written (judged_all j (layout_at (c - 16))) src)) us at' out' e
 
       count_of : Count src ws counted.0 us
       count_of = count_is src ws counted.0 us (rw (count_code, judged_count) at counted.1)

@@ -9,8 +9,8 @@ use native.Mathlib.Nat.{zero-add}
 use lib.ListN.{length, take, drop, set, length-append, length-take, drop_of_length-le}
 use lib.Seq.{sets, sets-eq, take-set-lt, drop-set-lt}
 use borrow.Author.Tests.{lt-ltb, le-ltb}
-use Rattle.wire.proofs.Numbers.{length-bytes}
-use Rattle.wire.proofs.Stores.{sets-append}
+use Rattle.wire.proofs.Numbers.{length_bytes}
+use Rattle.wire.proofs.Stores.{sets_append}
 use Rattle.message_layout.specs.Judged.{judged_all}
 use Rattle.message_layout.specs.Tables.{layout_at, known_at, start_of}
 use Rattle.message_layout.proofs.Starts.{start_known}
@@ -58,27 +58,27 @@ none_left (u ∷ us) e = absurd (omega arith)
 
 -- ---- the type, the length and the body, stored one after the other
 
-take-sets : (n : ℕ) (l : List ℕ) (i : ℕ) (vs : List ℕ) → i + length vs ≤ n → take n (sets l i vs) ≡ sets (take n l) i vs
-take-sets n l i [] h = refl
-take-sets n l i (v ∷ vs) h =
-    take-sets n (set l i v) (suc i) vs (omega arith)
+take_sets : (n : ℕ) (l : List ℕ) (i : ℕ) (vs : List ℕ) → i + length vs ≤ n → take n (sets l i vs) ≡ sets (take n l) i vs
+take_sets n l i [] h = refl
+take_sets n l i (v ∷ vs) h =
+    take_sets n (set l i v) (suc i) vs (omega arith)
     ∙ ap (λ (k : List ℕ). sets k (suc i) vs) (take-set-lt n l i v (omega arith))
 
-drop-sets : (n : ℕ) (l : List ℕ) (i : ℕ) (vs : List ℕ) → i + length vs ≤ n → drop n (sets l i vs) ≡ drop n l
-drop-sets n l i [] h = refl
-drop-sets n l i (v ∷ vs) h = drop-sets n (set l i v) (suc i) vs (omega arith) ∙ drop-set-lt n l i v (omega arith)
+drop_sets : (n : ℕ) (l : List ℕ) (i : ℕ) (vs : List ℕ) → i + length vs ≤ n → drop n (sets l i vs) ≡ drop n l
+drop_sets n l i [] h = refl
+drop_sets n l i (v ∷ vs) h = drop_sets n (set l i v) (suc i) vs (omega arith) ∙ drop-set-lt n l i v (omega arith)
 
 -- what is stored in the first part of a list, with the rest after it
 laid_out : (t n at : ℕ) (b out : List ℕ) → 5 + length b ≡ at → at ≤ length out
     → sets (take at (sets (set out 0 t) 1 (bytes_be 4 n))) 5 b ++ drop at (sets (set out 0 t) 1 (bytes_be 4 n)) ≡ (t ∷ bytes_be 4 n ++ b) ++ drop (length (t ∷ bytes_be 4 n ++ b)) out
 laid_out t n at b out ea h =
-    let four : length (t ∷ bytes_be 4 n) ≡ 5 = omega (arith, length-bytes 4 n) in
-    let all : length (t ∷ bytes_be 4 n ++ b) ≡ at = omega (arith, length-append (bytes_be 4 n) b, length-bytes 4 n) in
+    let four : length (t ∷ bytes_be 4 n) ≡ 5 = omega (arith, length_bytes 4 n) in
+    let all : length (t ∷ bytes_be 4 n ++ b) ≡ at = omega (arith, length-append (bytes_be 4 n) b, length_bytes 4 n) in
     let size : length (take at out) ≡ at = simp length-take (omega arith) in
-    let front : take at (sets out 0 (t ∷ bytes_be 4 n)) ≡ sets (take at out) 0 (t ∷ bytes_be 4 n) = take-sets at out 0 (t ∷ bytes_be 4 n) (omega arith) in
-    let back : drop at (sets out 0 (t ∷ bytes_be 4 n)) ≡ drop at out = drop-sets at out 0 (t ∷ bytes_be 4 n) (omega arith) in
+    let front : take at (sets out 0 (t ∷ bytes_be 4 n)) ≡ sets (take at out) 0 (t ∷ bytes_be 4 n) = take_sets at out 0 (t ∷ bytes_be 4 n) (omega arith) in
+    let back : drop at (sets out 0 (t ∷ bytes_be 4 n)) ≡ drop at out = drop_sets at out 0 (t ∷ bytes_be 4 n) (omega arith) in
     let joined : sets (sets (take at out) 0 (t ∷ bytes_be 4 n)) (0 + length (t ∷ bytes_be 4 n)) b ≡ sets (take at out) 0 (t ∷ bytes_be 4 n ++ b) =
-    sets-append (take at out) 0 (t ∷ bytes_be 4 n) b in
+    sets_append (take at out) 0 (t ∷ bytes_be 4 n) b in
     let five : 0 + length (t ∷ bytes_be 4 n) ≡ 5 = omega arith in
     let filled : sets (take at out) 0 (t ∷ bytes_be 4 n ++ b) ≡ (t ∷ bytes_be 4 n ++ b) ++ drop (0 + length (t ∷ bytes_be 4 n ++ b)) (take at out) =
     sets-eq (t ∷ bytes_be 4 n ++ b) (take at out) 0 (omega arith) in
@@ -118,8 +118,8 @@ module _ (side t : ℕ) (ws src out : List ℕ) (r : ℕ) (e : r ≡ start_of si
           go (v ∷ vs) l = record { answer = refl; output = refl }
 
       module _ (none : length us ≡ 0) where
-        all-is : message_written side t ws src (length out) ≡ message_whole t (length out) (wrote d.body [])
-        all-is = written_is ∙ ap (message_whole t (length out)) (d.is ∙ ap (wrote d.body) (none_left us none))
+        all_is : message_written side t ws src (length out) ≡ message_whole t (length out) (wrote d.body [])
+        all_is = written_is ∙ ap (message_whole t (length out)) (d.is ∙ ap (wrote d.body) (none_left us none))
 
         pub puts_long : 65536 < at → Puts (message_written side t ws src (length out)) (Refused 2) out out
         unfolding message_whole wrote_of output_after pick
@@ -128,7 +128,7 @@ module _ (side t : ℕ) (ws src out : List ℕ) (r : ℕ) (e : r ≡ start_of si
             ⊎_elim (λ (l : 65535 < length d.body + 4). l)
             (λ (l : length d.body + 4 ≤ 65535). absurd (omega (arith, d.next, cap_small (5 + length d.body) (omega arith))))
             (lt_or_ge 65535 (length d.body + 4)) in
-            rw (all-is, lt-ltb 65535 (length d.body + 4) k) (record { answer = refl; output = refl })
+            rw (all_is, lt-ltb 65535 (length d.body + 4) k) (record { answer = refl; output = refl })
 
         module _ (fit : at ≤ 65536) where
           size : 5 + length d.body ≡ at
@@ -141,7 +141,7 @@ module _ (side t : ℕ) (ws src out : List ℕ) (r : ℕ) (e : r ≡ start_of si
           unfolding message_whole wrote_of output_after pick
           puts_full g =
               let k : length out < length d.body + 5 = omega (arith, size) in
-              rw (all-is, le-ltb 65535 (length d.body + 4) short, lt-ltb (length out) (length d.body + 5) k) (record { answer = refl; output = refl })
+              rw (all_is, le-ltb 65535 (length d.body + 4) short, lt-ltb (length out) (length d.body + 5) k) (record { answer = refl; output = refl })
 
           pub puts_whole : at ≤ length out → (x : Emit) (list out₁ front : List ℕ) → out₁ ≡ sets (set out 0 t) 1 (bytes_be 4 (at - 1))
               → stand_of x list front ≡ put_at (fields_written (judged_all false (layout_at r)) src ws) 5 (take at out₁)
@@ -153,8 +153,8 @@ module _ (side t : ℕ) (ws src out : List ℕ) (r : ℕ) (e : r ≡ start_of si
               let u = unjudged_writes (layout_at r) src ws d.body us d.is in
               let o : front ≡ sets (take at out₁) 5 d.body = output_is x list _ d.body us 5 (take at out₁) front u q in
               let len : at ≡ length (t ∷ bytes_be 4 (length d.body + 4) ++ d.body) =
-              omega (arith, size, length-append (bytes_be 4 (length d.body + 4)) d.body, length-bytes 4 (length d.body + 4)) in
-              rw (all-is, le-ltb 65535 (length d.body + 4) short, le-ltb (length out) (length d.body + 5) k)
+              omega (arith, size, length-append (bytes_be 4 (length d.body + 4)) d.body, length_bytes 4 (length d.body + 4)) in
+              rw (all_is, le-ltb 65535 (length d.body + 4) short, le-ltb (length out) (length d.body + 5) k)
               (record {
                 answer = ap Whole len;
                 output = rw (o, e, n) (laid_out t (length d.body + 4) at d.body out size g);

@@ -37,11 +37,11 @@ keeps_times f f' r (suc n) ws = keeps_joined (f ws) (f' ws) (λ b. times_written
 
 module _ (src : List ℕ) where
   -- with less asked of the content
-  keeps-pair : (a x y : Bool) (c ws : List ℕ) → (x ≡ true → y ≡ true) → Keeps (pick a (pick x (wrote c ws) unwritten) unwritten) (pick a (pick y (wrote c ws) unwritten) unwritten)
+  keeps_pair : (a x y : Bool) (c ws : List ℕ) → (x ≡ true → y ≡ true) → Keeps (pick a (pick x (wrote c ws) unwritten) unwritten) (pick a (pick y (wrote c ws) unwritten) unwritten)
   unfolding pick
-  keeps-pair false x y c ws h = tt
-  keeps-pair true false y c ws h = tt
-  keeps-pair true true y c ws h = rw (h refl)
+  keeps_pair false x y c ws h = tt
+  keeps_pair true false y c ws h = tt
+  keeps_pair true true y c ws h = rw (h refl)
 
   -- the width alone
   width : (b x : Bool) → pick b x false ≡ true → pick b true false ≡ true
@@ -49,20 +49,20 @@ module _ (src : List ℕ) where
   width true x e = refl
   width false x e = e
 
-  keeps-field : (f : Field) (ws : List ℕ) → Keeps (next_field f src ws) (next_field (judged false f) src ws)
+  keeps_field : (f : Field) (ws : List ℕ) → Keeps (next_field f src ws) (next_field (judged false f) src ws)
   unfolding next_field judged fitting field_bytes permits
-  keeps-field (number w vs) [] = tt
-  keeps-field (number w vs) (s ∷ []) = tt
-  keeps-field (number w vs) (s ∷ n ∷ ws) = keeps-pair (leb (s + n) (length src)) _ _ (take n (drop s src)) ws (width (eqb (length (take n (drop s src))) w) (permits vs (be (take n (drop s src)))))
-  keeps-field text [] = tt
-  keeps-field text (s ∷ []) = tt
-  keeps-field text (s ∷ n ∷ ws) = keeps-pair (leb (s + n) (length src)) (well_formed (take n (drop s src))) true (field_bytes text (take n (drop s src))) ws (λ e. refl)
-  keeps-field bytes ws = keeps_same (next_field bytes src ws)
+  keeps_field (number w vs) [] = tt
+  keeps_field (number w vs) (s ∷ []) = tt
+  keeps_field (number w vs) (s ∷ n ∷ ws) = keeps_pair (leb (s + n) (length src)) _ _ (take n (drop s src)) ws (width (eqb (length (take n (drop s src))) w) (permits vs (be (take n (drop s src)))))
+  keeps_field text [] = tt
+  keeps_field text (s ∷ []) = tt
+  keeps_field text (s ∷ n ∷ ws) = keeps_pair (leb (s + n) (length src)) (well_formed (take n (drop s src))) true (field_bytes text (take n (drop s src))) ws (λ e. refl)
+  keeps_field bytes ws = keeps_same (next_field bytes src ws)
 
 pub keeps_fields : (l : Layout) (src ws : List ℕ) → Keeps (fields_written l src ws) (fields_written (unjudged l) src ws)
 unfolding fields_written unjudged
 keeps_fields done src ws = refl
-keeps_fields (one f rest) src ws = keeps_joined _ _ _ _ (keeps-field src f ws) (λ b. keeps_fields rest src)
+keeps_fields (one f rest) src ws = keeps_joined _ _ _ _ (keeps_field src f ws) (λ b. keeps_fields rest src)
 keeps_fields (run items rest) src ws =
     keeps_joined _ _ _ _
     (keeps_joined _ _ (λ b. times_written (be b) (fields_written items src)) (λ b. times_written (be b) (fields_written (unjudged items) src))

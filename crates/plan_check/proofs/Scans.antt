@@ -23,37 +23,37 @@ use Rattle.protocol.specs.Plans.{PlanNode, node_size, node_height, NodesRead, ma
 -- ---- one step of the reading
 
 module _ (f : ℕ) (p : List ℕ) (at : ℕ) (seen : List PlanNode) where
-  read-end : at ≡ length p → read_nodes (suc f) p at seen ≡ nodes seen
+  read_end : at ≡ length p → read_nodes (suc f) p at seen ≡ nodes seen
   unfolding read_nodes
-  read-end e = pick_yes _ _ _ (eq-eqb _ _ e)
+  read_end e = pick_yes _ _ _ (eq-eqb _ _ e)
 
   module _ (l : at < length p) where
-    read-many : 1024 ≤ length seen → read_nodes (suc f) p at seen ≡ malformed
+    read_many : 1024 ≤ length seen → read_nodes (suc f) p at seen ≡ malformed
     unfolding read_nodes
-    read-many m = pick_no _ _ _ (ne_eqb _ _ (λ (e : at ≡ length p). omega arith)) ∙ pick_no _ _ _ (le-ltb _ _ m)
+    read_many m = pick_no _ _ _ (ne_eqb _ _ (λ (e : at ≡ length p). omega arith)) ∙ pick_no _ _ _ (le-ltb _ _ m)
 
     module _ (few : length seen < 1024) where
-      read-on : read_nodes (suc f) p at seen ≡ then_nodes (read_node p at seen) (read_nodes f p (at + node_size (get_or p at 0) (get_or p (at + 1) 0)))
+      read_on : read_nodes (suc f) p at seen ≡ then_nodes (read_node p at seen) (read_nodes f p (at + node_size (get_or p at 0) (get_or p (at + 1) 0)))
       unfolding read_nodes
-      read-on = pick_no _ _ _ (ne_eqb _ _ (λ (e : at ≡ length p). omega arith)) ∙ pick_yes _ _ _ (lt-ltb _ _ few)
+      read_on = pick_no _ _ _ (ne_eqb _ _ (λ (e : at ≡ length p). omega arith)) ∙ pick_yes _ _ _ (lt-ltb _ _ few)
 
       next : NodesRead → NodesRead
       next r = then_nodes r (read_nodes f p (at + node_size (get_or p at 0) (get_or p (at + 1) 0)))
 
       read_short : length p < at + node_size (get_or p at 0) (get_or p (at + 1) 0) → read_nodes (suc f) p at seen ≡ malformed
       unfolding then_nodes read_node next
-      read_short w = read-on ∙ ap next (pick_no _ _ _ (lt-leb _ _ w))
+      read_short w = read_on ∙ ap next (pick_no _ _ _ (lt-leb _ _ w))
 
       module _ (w : at + node_size (get_or p at 0) (get_or p (at + 1) 0) ≤ length p) where
-        read-bad : node_height p at seen (get_or p at 0) (get_or p (at + 1) 0) ≡ 0 → read_nodes (suc f) p at seen ≡ malformed
+        read_bad : node_height p at seen (get_or p at 0) (get_or p (at + 1) 0) ≡ 0 → read_nodes (suc f) p at seen ≡ malformed
         unfolding then_nodes read_node next
-        read-bad e = read-on ∙ ap next (pick_yes _ _ _ (le-leb _ _ w) ∙ pick_yes _ _ _ (eq-eqb _ _ e))
+        read_bad e = read_on ∙ ap next (pick_yes _ _ _ (le-leb _ _ w) ∙ pick_yes _ _ _ (eq-eqb _ _ e))
 
         read_next : (h : ℕ) → h ≡ node_height p at seen (get_or p at 0) (get_or p (at + 1) 0) → (h ≡ 0 → ⊥)
             → read_nodes (suc f) p at seen ≡ read_nodes f p (at + node_size (get_or p at 0) (get_or p (at + 1) 0)) (seen ++ (record { start = at; kind = get_or p at 0; height = h } ∷ []))
         unfolding then_nodes read_node next
         read_next h e z =
-            rw e (read-on ∙ ap next (pick_yes _ _ _ (le-leb _ _ w) ∙ pick_no _ _ _ (ne_eqb _ _ (λ q. z (e ∙ q)))))
+            rw e (read_on ∙ ap next (pick_yes _ _ _ (le-leb _ _ w) ∙ pick_no _ _ _ (ne_eqb _ _ (λ q. z (e ∙ q)))))
 
 -- ---- the lists
 
@@ -101,8 +101,8 @@ module _ (p s h : List ℕ) (n at : ℕ) (g : Going p s h n at) where
   fuel : suc (length p) - n ≡ suc (suc (length p) - (n + 1))
   fuel = omega (arith, g.low, g.scanned.inside)
 
-  from-here : nodes_of p ≡ read_nodes (suc (suc (length p) - (n + 1))) p at (known_of p s h n)
-  from-here = g.same ∙ ap (λ (f : ℕ). read_nodes f p at (known_of p s h n)) fuel
+  from_here : nodes_of p ≡ read_nodes (suc (suc (length p) - (n + 1))) p at (known_of p s h n)
+  from_here = g.same ∙ ap (λ (f : ℕ). read_nodes f p at (known_of p s h n)) fuel
 
   count : length (known_of p s h n) ≡ n
   count = known_length p s h n
@@ -116,18 +116,18 @@ module _ (p s h : List ℕ) (n at : ℕ) (g : Going p s h n at) where
   unfolding read_of count_of
   going_end l =
       let e : at ≡ length p = omega (arith, g.scanned.inside) in
-      record { same = from-here ∙ read-end (suc (length p) - (n + 1)) p at (known_of p s h n) e; rising = g.scanned.rising }
+      record { same = from_here ∙ read_end (suc (length p) - (n + 1)) p at (known_of p s h n) e; rising = g.scanned.rising }
 
   module _ (l : at < length p) where
     pub going_many : 1024 ≤ n → Reads p s h Faulty
-    going_many m = stopped (from-here ∙ read-many (suc (length p) - (n + 1)) p at (known_of p s h n) l (rw count m))
+    going_many m = stopped (from_here ∙ read_many (suc (length p) - (n + 1)) p at (known_of p s h n) l (rw count m))
 
     module _ (few : n < 1024) (size : ℕ) (is : size ≡ node_size (get_or p at 0) (get_or p (at + 1) 0)) where
       small : length (known_of p s h n) < 1024
       small = rw count few
 
       pub going_short : length p < at + size → Reads p s h Faulty
-      going_short w = stopped (from-here ∙ read_short (suc (length p) - (n + 1)) p at (known_of p s h n) l small (rw is at w))
+      going_short w = stopped (from_here ∙ read_short (suc (length p) - (n + 1)) p at (known_of p s h n) l small (rw is at w))
 
       module _ (w : at + size ≤ length p) where
         whole : at + node_size (get_or p at 0) (get_or p (at + 1) 0) ≤ length p
@@ -135,7 +135,7 @@ module _ (p s h : List ℕ) (n at : ℕ) (g : Going p s h n at) where
 
         module _ (y : ℕ) (e : y ≡ node_height p at (known_of p s h n) (get_or p at 0) (get_or p (at + 1) 0)) where
           pub going_bad : y ≡ 0 → Reads p s h Faulty
-          going_bad z = stopped (from-here ∙ read-bad (suc (length p) - (n + 1)) p at (known_of p s h n) l small whole (sym e ∙ z))
+          going_bad z = stopped (from_here ∙ read_bad (suc (length p) - (n + 1)) p at (known_of p s h n) l small whole (sym e ∙ z))
 
           pub going_next : (y ≡ 0 → ⊥) → n < length s → n < length h → Going p (set s n at) (set h n y) (n + 1) (at + size)
           going_next z a b =
@@ -169,7 +169,7 @@ module _ (p s h : List ℕ) (n at : ℕ) (g : Going p s h n at) where
                 low = omega (arith, g.low);
                 few = omega arith;
                 same =
-                    from-here
+                    from_here
                     ∙ read_next (suc (length p) - (n + 1)) p at (known_of p s h n) l small whole y e z
                     ∙ rw (known_next p s h n at y a b, is);
               }

@@ -69,10 +69,10 @@ module _ (p s h : List ℕ) where
   known_length zero = refl
   known_length (suc n) = rw (length-append, known_length n) (add-one n)
 
-  find-last : (xs : List PlanNode) (x : PlanNode) (r : ℕ) → placed_at xs r ≡ none → placed_at (xs ++ (x ∷ [])) r ≡ pick (eqb x.start r) (some x) none
+  find_last : (xs : List PlanNode) (x : PlanNode) (r : ℕ) → placed_at xs r ≡ none → placed_at (xs ++ (x ∷ [])) r ≡ pick (eqb x.start r) (some x) none
   unfolding placed_at
-  find-last [] x r e = refl
-  find-last (y ∷ xs) x r e = go (eqb y.start r) e (find-last xs x r)
+  find_last [] x r e = refl
+  find_last (y ∷ xs) x r e = go (eqb y.start r) e (find_last xs x r)
     where
       go : (t : Bool) → pick t (some y) (placed_at xs r) ≡ none
           → (placed_at xs r ≡ none → placed_at (xs ++ (x ∷ [])) r ≡ pick (eqb x.start r) (some x) none)
@@ -84,7 +84,7 @@ module _ (p s h : List ℕ) where
   unfolding known_of placed_at known_at
   find_miss zero r f = refl
   find_miss (suc n) r f =
-      find-last (known_of p s h n) (known_at p s h n) r (find_miss n r (λ j l. f j (omega arith)))
+      find_last (known_of p s h n) (known_at p s h n) r (find_miss n r (λ j l. f j (omega arith)))
       ∙ pick_no _ _ _ (ne_eqb _ _ (f n (omega arith)))
 
   pub find_hit : (n r i : ℕ) → Rising s n → i < n → get_or s i 0 ≡ r → placed_at (known_of p s h n) r ≡ some (known_at p s h i)
@@ -93,7 +93,7 @@ module _ (p s h : List ℕ) where
   find_hit (suc n) r i u l e =
       ⊎_elim
       (λ (q : i ≡ n).
-      find-last (known_of p s h n) (known_at p s h n) r (find_miss n r (λ j x y. omega (arith, u.order j i (omega arith) (omega arith))))
+      find_last (known_of p s h n) (known_at p s h n) r (find_miss n r (λ j x y. omega (arith, u.order j i (omega arith) (omega arith))))
       ∙ pick_yes _ _ _ (eq-eqb _ _ (ap (λ (m : ℕ). get_or s m 0) (sym q) ∙ e))
       ∙ ap (λ (m : ℕ). some (known_at p s h m)) (sym q))
       (λ (x : i < n).

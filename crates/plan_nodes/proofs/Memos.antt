@@ -26,18 +26,18 @@ use Rattle.protocol.specs.Plans.{pair_card, cards_at, node_size}
 module _ (p : List ℕ) (at : ℕ) where
   -- one more element, whose cardinality stands in the plan
   module _ (i found : ℕ) (l : i < get_or p (at + 1) 0) (e : found ≡ needed (cards_at p at) i) where
-    card-here : get_or (cards_at p at) i 0 ≡ get_or p (at + 3 + 2 * i) 0
+    card_here : get_or (cards_at p at) i 0 ≡ get_or p (at + 3 + 2 * i) 0
     unfolding pair_card
-    card-here = cards_at_lem p at i l
+    card_here = cards_at_lem p at i l
 
     pub count_yes : requires (get_or p (at + 3 + 2 * i) 0) ≡ true → found + 1 ≡ needed (cards_at p at) (i + 1)
     count_yes r =
-        ap (λ (m : ℕ). m + 1) e ∙ ap (λ (m : ℕ). needed (cards_at p at) i + m) (sym (pick_yes _ 1 0 (ap requires card-here ∙ r))) ∙ needed_next (cards_at p at) i
+        ap (λ (m : ℕ). m + 1) e ∙ ap (λ (m : ℕ). needed (cards_at p at) i + m) (sym (pick_yes _ 1 0 (ap requires card_here ∙ r))) ∙ needed_next (cards_at p at) i
 
     pub count_no : requires (get_or p (at + 3 + 2 * i) 0) ≡ false → found ≡ needed (cards_at p at) (i + 1)
     count_no r =
         let z : needed (cards_at p at) i ≡ needed (cards_at p at) i + 0 = omega arith in
-        e ∙ z ∙ ap (λ (m : ℕ). needed (cards_at p at) i + m) (sym (pick_no _ 1 0 (ap requires card-here ∙ r))) ∙ needed_next (cards_at p at) i
+        e ∙ z ∙ ap (λ (m : ℕ). needed (cards_at p at) i + m) (sym (pick_no _ 1 0 (ap requires card_here ∙ r))) ∙ needed_next (cards_at p at) i
 
   pub count_end : (n i found : ℕ) → n ≡ get_or p (at + 1) 0 → i ≡ n → found ≡ needed (cards_at p at) i → found ≡ needed_at p at
   unfolding needed_at
@@ -98,14 +98,14 @@ module _ (p : List ℕ) (at : ℕ) where
   starts_none (suc f) h = pick_no _ _ _ (lt-leb (at + size) (length p) h)
 
   -- a whole node
-  starts-next :
+  starts_next :
       (f : ℕ)
       → length p ≤ at + f
       → at + size ≤ length p
       → sparse_from f p at ≡ pick (eqb (get_or p at 0) 6) (at ∷ []) [] ++ sparse_from (f - 1) p (at + size)
   unfolding sparse_from
-  starts-next zero w h = absurd (omega (arith, size_positive (get_or p at 0) (get_or p (at + 1) 0)))
-  starts-next (suc f) w h = rw sub-one (pick_yes _ _ _ (le-leb (at + size) (length p) h))
+  starts_next zero w h = absurd (omega (arith, size_positive (get_or p at 0) (get_or p (at + 1) 0)))
+  starts_next (suc f) w h = rw sub-one (pick_yes _ _ _ (le-leb (at + size) (length p) h))
 
   module _ (t₀ t : List ℕ) (m : ℕ) (q : Filling p t₀ t m at) where
     pub filling_end : length p < at + size → Filled p t₀ t m
@@ -152,12 +152,12 @@ module _ (p : List ℕ) (at : ℕ) where
 
       pub filling_other : (get_or p at 0 ≡ 6 → ⊥) → Filling p t₀ t m (at + size)
       unfolding pick
-      filling_other n = past (rw (starts-next q.fuel q.enough h, ne_eqb _ _ n))
+      filling_other n = past (rw (starts_next q.fuel q.enough h, ne_eqb _ _ n))
 
       pub filling_sparse : get_or p at 0 ≡ 6 → (t' : List ℕ) (r : ℕ) → OneMore p t t' m at r → Filling p t₀ t' r (at + size)
       unfolding room_for pick
       filling_sparse e t' r o =
-          let s : sparse_from q.fuel p at ≡ at ∷ sparse_from (q.fuel - 1) p (at + size) = starts-next q.fuel q.enough h ∙ rw (eq-eqb _ _ e) in
+          let s : sparse_from q.fuel p at ≡ at ∷ sparse_from (q.fuel - 1) p (at + size) = starts_next q.fuel q.enough h ∙ rw (eq-eqb _ _ e) in
           elim (dec_lt (length t) (2 * m + 2)) [
             | yes l ↦
                 let z : length t₀ / 2 - m ≡ 0 = omega (arith, q.same, q.few) in
@@ -186,8 +186,8 @@ length_pairs p [] = refl
 length_pairs p (k ∷ ks) = let e = length_pairs p ks in omega arith
 
 module _ (p t t' : List ℕ) (m : ℕ) (u : Filled p t t' m) where
-  words-kept : take (2 * m) t' ≡ pair_words p (kept p t)
-  words-kept =
+  words_kept : take (2 * m) t' ≡ pair_words p (kept p t)
+  words_kept =
       let ws = pair_words p (kept p t) in
       let n : length ws ≡ 2 * m = length_pairs p (kept p t) ∙ ap (λ (k : ℕ). 2 * k) (sym u.count) in
       let l : length t' ≡ length t = ap (λ (k : List ℕ). length k) u.words ∙ length-sets t 0 ws in
@@ -195,7 +195,7 @@ module _ (p t t' : List ℕ) (m : ℕ) (u : Filled p t t' m) where
 
   pub filled_memo : Memo p (take (2 * m) t')
   filled_memo =
-      rw words-kept
+      rw words_kept
       (record { right = λ k x. pairs_right p (kept p t) k (omega (arith, length_pairs p (kept p t))) })
 
 -- a pair that is found

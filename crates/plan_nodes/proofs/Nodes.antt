@@ -104,8 +104,8 @@ module _ (p : List ℕ) (k : ℕ) (a : At p k) where
       go (nodes all) r e = record { all = all; read = r; inside = all_read (suc (length p)) p 2 [] all (omega arith) (sound_none p) r k e }
 
   -- the node's height, by its kind, is not 0
-  fine-as : (K : ℕ) → get_or p k 0 ≡ K → node_height p k placed.inside.seen K (get_or p (k + 1) 0) ≡ 0 → ⊥
-  fine-as K e z = placed.inside.fine (ap (λ (m : ℕ). node_height p k placed.inside.seen m (get_or p (k + 1) 0)) e ∙ z)
+  fine_as : (K : ℕ) → get_or p k 0 ≡ K → node_height p k placed.inside.seen K (get_or p (k + 1) 0) ≡ 0 → ⊥
+  fine_as K e z = placed.inside.fine (ap (λ (m : ℕ). node_height p k placed.inside.seen m (get_or p (k + 1) 0)) e ∙ z)
 
   -- a reference that was found leads to where an earlier node starts
   ref_in : (r : ℕ) → is_some (placed_at placed.inside.seen r) ≡ true → At p r × (r < k)
@@ -138,7 +138,7 @@ module _ (p : List ℕ) (k : ℕ) (a : At p k) where
 
   pub at_format : get_or p k 0 ≡ 1 → get_or p (k + 1) 0 < 20
   unfolding node_height pick many_height
-  at_format e = elim (dec_lt (get_or p (k + 1) 0) 20) [ yes l ↦ l | no l ↦ absurd (fine-as 1 e (rw (le-ltb (get_or p (k + 1) 0) 20 (omega arith)))) ]
+  at_format e = elim (dec_lt (get_or p (k + 1) 0) 20) [ yes l ↦ l | no l ↦ absurd (fine_as 1 e (rw (le-ltb (get_or p (k + 1) 0) 20 (omega arith)))) ]
 
   -- the second word stands in the plan, but of an enumeration, which has none
   pub at_second : (get_or p k 0 ≡ 8 → ⊥) → k + 1 < length p
@@ -153,11 +153,11 @@ module _ (p : List ℕ) (k : ℕ) (a : At p k) where
         | yes l ↦
             absurd
             (elim (dec_lt (get_or p k 0) 5) [
-              | yes m ↦ fine-as 4 (omega arith) (rw (lt-ltb 512 n l))
+              | yes m ↦ fine_as 4 (omega arith) (rw (lt-ltb 512 n l))
               | no m ↦
                   ⊎_elim
-                  (λ e. fine-as 5 e (rw (lt-ltb 512 n l)))
-                  (λ e. fine-as 6 e (rw (lt-ltb 512 n l)))
+                  (λ e. fine_as 5 e (rw (lt-ltb 512 n l)))
+                  (λ e. fine_as 6 e (rw (lt-ltb 512 n l)))
                   (five_six (get_or p k 0) (omega arith) b)
             ])
         | no l ↦ omega arith
@@ -186,34 +186,34 @@ module _ (p : List ℕ) (k : ℕ) (a : At p k) where
       let n = get_or p (k + 1) 0 in
       let seen = placed.inside.seen in
       ⊎_elim
-      (λ q. (refer_found seen 2 n 1 (fine-as 2 (e ∙ q))).0)
-      (λ o. ⊎_elim (λ q. (refer_found seen 3 n 1 (fine-as 3 (e ∙ q))).0) (λ q. (refer_found seen 7 n 1 (fine-as 7 (e ∙ q))).0) o)
+      (λ q. (refer_found seen 2 n 1 (fine_as 2 (e ∙ q))).0)
+      (λ o. ⊎_elim (λ q. (refer_found seen 3 n 1 (fine_as 3 (e ∙ q))).0) (λ q. (refer_found seen 7 n 1 (fine_as 7 (e ∙ q))).0) o)
       o
 
-  tuple-found : get_or p k 0 ≡ 4 → (i : ℕ) → i < get_or p (k + 1) 0 → is_some (placed_at placed.inside.seen (get_or p (k + 2 + i) 0)) ≡ true
+  tuple_found : get_or p k 0 ≡ 4 → (i : ℕ) → i < get_or p (k + 1) 0 → is_some (placed_at placed.inside.seen (get_or p (k + 2 + i) 0)) ≡ true
   unfolding node_height pick many_height
-  tuple-found e i lt =
+  tuple_found e i lt =
       let n = get_or p (k + 1) 0 in
       let few : n ≤ 512 = at_few (omega arith) (omega arith) in
-      refers_found placed.inside.seen 4 (λ j. get_or p (k + 2 + j) 0) n i (λ z. fine-as 4 e (rw (le-ltb 512 n few) z)) lt
+      refers_found placed.inside.seen 4 (λ j. get_or p (k + 2 + j) 0) n i (λ z. fine_as 4 e (rw (le-ltb 512 n few) z)) lt
 
-  pairs-fine : (K : ℕ) → (K ≡ 5) ⊎ (K ≡ 6) → get_or p k 0 ≡ K → (all_cardinalities (pair_card p k) (get_or p (k + 1) 0) ≡ true) × (refer_all placed.inside.seen K (pair_ref p k) (get_or p (k + 1) 0) ≡ 0 → ⊥)
+  pairs_fine : (K : ℕ) → (K ≡ 5) ⊎ (K ≡ 6) → get_or p k 0 ≡ K → (all_cardinalities (pair_card p k) (get_or p (k + 1) 0) ≡ true) × (refer_all placed.inside.seen K (pair_ref p k) (get_or p (k + 1) 0) ≡ 0 → ⊥)
   unfolding node_height pick many_height
-  pairs-fine K o e =
+  pairs_fine K o e =
       let n = get_or p (k + 1) 0 in
       let few : n ≤ 512 = at_few (⊎_elim (λ q. omega arith) (λ q. omega arith) o) (⊎_elim (λ q. omega arith) (λ q. omega arith) o) in
       ⊎_elim
-      (λ q. rw q (chosen _ _ (λ z. fine-as 5 (e ∙ q) (rw (le-ltb 512 n few) z))))
-      (λ q. rw q (chosen _ _ (λ z. fine-as 6 (e ∙ q) (rw (le-ltb 512 n few) z))))
+      (λ q. rw q (chosen _ _ (λ z. fine_as 5 (e ∙ q) (rw (le-ltb 512 n few) z))))
+      (λ q. rw q (chosen _ _ (λ z. fine_as 6 (e ∙ q) (rw (le-ltb 512 n few) z))))
       o
 
-  pairs-found : 5 ≤ get_or p k 0 → get_or p k 0 ≤ 6 → (i : ℕ) → i < get_or p (k + 1) 0 → is_some (placed_at placed.inside.seen (pair_ref p k i)) ≡ true
-  pairs-found a b i lt =
-      refers_found placed.inside.seen (get_or p k 0) (pair_ref p k) (get_or p (k + 1) 0) i (pairs-fine (get_or p k 0) (five_six (get_or p k 0) a b) refl).1 lt
+  pairs_found : 5 ≤ get_or p k 0 → get_or p k 0 ≤ 6 → (i : ℕ) → i < get_or p (k + 1) 0 → is_some (placed_at placed.inside.seen (pair_ref p k i)) ≡ true
+  pairs_found a b i lt =
+      refers_found placed.inside.seen (get_or p k 0) (pair_ref p k) (get_or p (k + 1) 0) i (pairs_fine (get_or p k 0) (five_six (get_or p k 0) a b) refl).1 lt
 
   -- the cardinalities of an object are of the five
   pub at_card : 5 ≤ get_or p k 0 → get_or p k 0 ≤ 6 → (i : ℕ) → i < get_or p (k + 1) 0 → is_cardinality (pair_card p k i) ≡ true
-  at_card a b i lt = cards_in (pair_card p k) (get_or p (k + 1) 0) i (pairs-fine (get_or p k 0) (five_six (get_or p k 0) a b) refl).0 lt
+  at_card a b i lt = cards_in (pair_card p k) (get_or p (k + 1) 0) i (pairs_fine (get_or p k 0) (five_six (get_or p k 0) a b) refl).0 lt
 
   -- each reference of a node leads to where an earlier one starts
   refers : (i r : ℕ) → ref_at (look p k) i ≡ some r → At p r × (r < k)
@@ -230,7 +230,7 @@ module _ (p : List ℕ) (k : ℕ) (a : At p k) where
       let s = elem_in (up_to (pair_ref p k) n) i r h in
       let lt : i < n = omega (arith, s.0, up_length (pair_ref p k) n) in
       let q : pair_ref p k i ≡ r = sym (s.1 ∙ up_at (pair_ref p k) n i lt) in
-      ref_in r (rw q at (pairs-found a b i lt))
+      ref_in r (rw q at (pairs_found a b i lt))
       in
       pick_case Q (eqb K 1) _ _ (λ _ h. let z : ◌≡◌ {A = ℕ} 0 1 = cc in absurd (omega arith))
       (λ _. pick_case Q (eqb K 2) _ _ (λ e. one 2 (inl refl) (eqb-true _ _ e))
@@ -240,7 +240,7 @@ module _ (p : List ℕ) (k : ℕ) (a : At p k) where
       let s = elem_in (take n (drop (k + 2) p)) i r h in
       let lt : i < n = omega (arith, s.0, length-take n (drop (k + 2) p)) in
       let q : get_or p (k + 2 + i) 0 ≡ r = sym (s.1 ∙ get_or-take n (drop (k + 2) p) i 0 lt ∙ get_or-drop (k + 2) p i 0) in
-      ref_in r (rw q at (tuple-found (eqb-true _ _ e) i lt)))
+      ref_in r (rw q at (tuple_found (eqb-true _ _ e) i lt)))
       (λ _. pick_case Q (eqb K 5) _ _ (λ e. let five : K ≡ 5 = eqb-true _ _ e in pairs (omega arith) (omega arith))
       (λ _. pick_case Q (eqb K 6) _ _ (λ e. let six : K ≡ 6 = eqb-true _ _ e in pairs (omega arith) (omega arith))
       (λ _. pick_case Q (eqb K 7) _ _ (λ e. one 7 (inr (inr refl)) (eqb-true _ _ e))

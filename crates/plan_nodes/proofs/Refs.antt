@@ -34,16 +34,16 @@ module _ (p : List ℕ) (k : ℕ) (a : At p k) (i : ℕ) (h : Refers (look p k) 
   seen_as : (v : Node) → look p k ≡ v → ref_at v i ≡ some h.to
   seen_as v e = ap (λ (w : Node). ref_at w i) (sym e) ∙ h.is
 
-  tuple-few : get_or p k 0 ≡ 4 → i < get_or p (k + 1) 0
+  tuple_few : get_or p k 0 ≡ 4 → i < get_or p (k + 1) 0
   unfolding ref_at
-  tuple-few e =
+  tuple_few e =
       let n = get_or p (k + 1) 0 in
       let s = elem_in (take n (drop (k + 2) p)) i h.to (seen_as (tuple (take n (drop (k + 2) p))) (look_tuple p k e)) in
       omega (arith, s.0, length-take n (drop (k + 2) p))
 
-  pairs-few : (get_or p k 0 ≡ 5) ⊎ (get_or p k 0 ≡ 6) → i < get_or p (k + 1) 0
+  pairs_few : (get_or p k 0 ≡ 5) ⊎ (get_or p k 0 ≡ 6) → i < get_or p (k + 1) 0
   unfolding ref_at
-  pairs-few o =
+  pairs_few o =
       let s =
       elem_in (refs_at p k) i h.to
       (⊎_elim (λ e. seen_as (object (refs_at p k) (cards_at p k)) (look_object p k e)) (λ e. seen_as (sparse (refs_at p k) (cards_at p k)) (look_sparse p k e)) o)
@@ -64,17 +64,17 @@ module _ (p : List ℕ) (k : ℕ) (a : At p k) (i : ℕ) (h : Refers (look p k) 
       ]
 
   pub tuple_inside : get_or p k 0 ≡ 4 → k + 2 + i < length p
-  tuple_inside e = omega (arith, tuple-few e, at_tuple_size p k a e)
+  tuple_inside e = omega (arith, tuple_few e, at_tuple_size p k a e)
 
   pub tuple_gives : get_or p k 0 ≡ 4 → ref_at (look p k) i ≡ some (get_or p (k + 2 + i) 0)
-  tuple_gives e = ref_tuple p k i e (at_tuple_size p k a e) (tuple-few e)
+  tuple_gives e = ref_tuple p k i e (at_tuple_size p k a e) (tuple_few e)
 
   pub pairs_inside : 5 ≤ get_or p k 0 → get_or p k 0 ≤ 6 → k + 2 + 2 * i < length p
-  pairs_inside x y = omega (arith, pairs-few (five_six (get_or p k 0) x y), at_pairs_size p k a x y)
+  pairs_inside x y = omega (arith, pairs_few (five_six (get_or p k 0) x y), at_pairs_size p k a x y)
 
   pub pairs_gives : 5 ≤ get_or p k 0 → get_or p k 0 ≤ 6 → ref_at (look p k) i ≡ some (get_or p (k + 2 + 2 * i) 0)
   unfolding pair_ref
-  pairs_gives x y = let o = five_six (get_or p k 0) x y in ref_pairs p k i o (pairs-few o)
+  pairs_gives x y = let o = five_six (get_or p k 0) x y in ref_pairs p k i o (pairs_few o)
 
   pub one_inside : (4 ≤ get_or p k 0 → 6 < get_or p k 0) → k + 1 < length p
   one_inside f =

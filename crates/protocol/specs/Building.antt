@@ -134,18 +134,18 @@ part_made rule v (some r) c rest ws =
     pick (eqb c.size ABSENT) (absent_made v r c rest) (headed v c.index (rule r c.index ws))
 
 module _ {S : Type 0} (order : Order S) (rule : Builder) (v : Node) where
-  unfoldable pub memberMade : S → List ℕ → Next → Made
-  memberMade st ws short = wrong
-  memberMade st ws (next c rest) = pick (order.admits st c.index) (part_made rule v (ref_at v c.index) c rest ws) wrong
+  unfoldable pub member_made : S → List ℕ → Next → Made
+  member_made st ws short = wrong
+  member_made st ws (next c rest) = pick (order.admits st c.index) (part_made rule v (ref_at v c.index) c rest ws) wrong
 
-  unfoldable pub stateAfter : S → Next → S
-  stateAfter st short = st
-  stateAfter st (next c rest) = order.after st c.index
+  unfoldable pub state_after : S → Next → S
+  state_after st short = st
+  state_after st (next c rest) = order.after st c.index
 
   -- n elements
-  unfoldable pub elementsMade : ℕ → S → List ℕ → Made
-  elementsMade zero st ws = pick (order.lacks st) wrong (made [] ws)
-  elementsMade (suc n) st ws = then_made (memberMade st ws (next_of ws)) (elementsMade n (stateAfter st (next_of ws)))
+  unfoldable pub elements_made : ℕ → S → List ℕ → Made
+  elements_made zero st ws = pick (order.lacks st) wrong (made [] ws)
+  elements_made (suc n) st ws = then_made (member_made st ws (next_of ws)) (elements_made n (state_after st (next_of ws)))
 
 -- ---- a value
 
@@ -160,44 +160,44 @@ leaf_made good src c ws =
 
 unfoldable pub row_made : Builder → Node → Front → Claim → List ℕ → Made
 row_made rule v no_front c ws = wrong
-row_made rule v (front b first) c ws = made_before b (elementsMade row_order rule v c.count first ws)
+row_made rule v (front b first) c ws = made_before b (elements_made row_order rule v c.count first ws)
 
 unfoldable pub sparse_made : Builder → List ℕ → List ℕ → Front → Claim → List ℕ → Made
 sparse_made rule refs cards no_front c ws = wrong
 sparse_made rule refs cards (front b first) c ws =
-    made_before b (elementsMade (sparse_order cards) rule (sparse refs cards) c.count no_marks ws)
+    made_before b (elements_made (sparse_order cards) rule (sparse refs cards) c.count no_marks ws)
 
 module _ (src : List ℕ) where
   -- a present value of a node, whose entry is c
-  unfoldable pub nodeMade : Node → Builder → Claim → List ℕ → Made
-  nodeMade (leaf f) rule c ws = leaf_made (scalar f) src c ws
-  nodeMade enum rule c ws = leaf_made enumeration src c ws
-  nodeMade (row r) rule c ws = row_made rule (row r) (front_of (row r) src c) c ws
-  nodeMade (arrays r) rule c ws = row_made rule (arrays r) (front_of (arrays r) src c) c ws
-  nodeMade (tuple refs) rule c ws = row_made rule (tuple refs) (front_of (tuple refs) src c) c ws
-  nodeMade (object refs cards) rule c ws = row_made rule (object refs cards) (front_of (object refs cards) src c) c ws
-  nodeMade (sparse refs cards) rule c ws = sparse_made rule refs cards (front_of (sparse refs cards) src c) c ws
-  nodeMade (range r) rule c ws = row_made rule (range r) (front_of (range r) src c) c ws
+  unfoldable pub node_made : Node → Builder → Claim → List ℕ → Made
+  node_made (leaf f) rule c ws = leaf_made (scalar f) src c ws
+  node_made enum rule c ws = leaf_made enumeration src c ws
+  node_made (row r) rule c ws = row_made rule (row r) (front_of (row r) src c) c ws
+  node_made (arrays r) rule c ws = row_made rule (arrays r) (front_of (arrays r) src c) c ws
+  node_made (tuple refs) rule c ws = row_made rule (tuple refs) (front_of (tuple refs) src c) c ws
+  node_made (object refs cards) rule c ws = row_made rule (object refs cards) (front_of (object refs cards) src c) c ws
+  node_made (sparse refs cards) rule c ws = sparse_made rule refs cards (front_of (sparse refs cards) src c) c ws
+  node_made (range r) rule c ws = row_made rule (range r) (front_of (range r) src c) c ws
 
   -- its entry must be that of the node with the key k and of the index i, and present
-  unfoldable pub entryMade : Node → Builder → ℕ → ℕ → Next → Made
-  entryMade v rule k i short = wrong
-  entryMade v rule k i (next c ws) =
-      pick (eqb c.node k) (pick (eqb c.index i) (pick (eqb c.size ABSENT) wrong (nodeMade v rule c ws)) wrong) wrong
+  unfoldable pub entry_made : Node → Builder → ℕ → ℕ → Next → Made
+  entry_made v rule k i short = wrong
+  entry_made v rule k i (next c ws) =
+      pick (eqb c.node k) (pick (eqb c.index i) (pick (eqb c.size ABSENT) wrong (node_made v rule c ws)) wrong) wrong
 
   -- a value of the node with a key, where no chain of references is longer than the fuel
   unfoldable pub build : (ℕ → Node) → ℕ → Builder
   build look zero k i ws = wrong
-  build look (suc f) k i ws = entryMade (look k) (build look f) k i (next_of ws)
+  build look (suc f) k i ws = entry_made (look k) (build look f) k i (next_of ws)
 
-  unfoldable pub buildOf : (ℕ → Node) → Builder
-  buildOf look = build look fuel
+  unfoldable pub build_of : (ℕ → Node) → Builder
+  build_of look = build look fuel
 
 -- ---- the call
 
 -- R8.11: no type has the supply of no words
 unfoldable pub made_by : List ℕ → List ℕ → List ℕ → Made
-made_by p ws src = pick (without_type p) (made [] ws) (buildOf src (look p) (get_or p 1 0) 0 ws)
+made_by p ws src = pick (without_type p) (made [] ws) (build_of src (look p) (get_or p 1 0) 0 ws)
 
 -- R8.6, R8.10: nor has an accepted value one with words left over, or one that makes too many bytes
 unfoldable pub supplied_by : Made → Put

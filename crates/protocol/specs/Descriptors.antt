@@ -192,23 +192,23 @@ new_name others = passing NAME_TWICE (λ t. not (any (λ o. same_bytes o t) othe
 
 module _ (earlier : List Block) where
   -- an id that is new and not zero, or 15 (R3.7)
-  unfoldable pub newId : Reader ℕ
-  newId = passing BAD_ID (λ i. not (any (eqb i) (0 ∷ map (λ (b : Block). b.id) earlier))) (number_field 16)
+  unfoldable pub new_id : Reader ℕ
+  new_id = passing BAD_ID (λ i. not (any (eqb i) (0 ∷ map (λ (b : Block). b.id) earlier))) (number_field 16)
 
   -- the index of an earlier block, or 13 (R3.10); of one that fits, or 14 (R3.11)
-  unfoldable pub refersTo : (Block → Bool) → ℕ → Option Block → Reader ℕ
-  refersTo fits t none = refuse BAD_REFERENCE
-  refersTo fits t (some b) = pick (fits b) (give t) (refuse WRONG_KIND)
+  unfoldable pub refers_to : (Block → Bool) → ℕ → Option Block → Reader ℕ
+  refers_to fits t none = refuse BAD_REFERENCE
+  refers_to fits t (some b) = pick (fits b) (give t) (refuse WRONG_KIND)
 
   unfoldable pub reference : (Block → Bool) → Reader ℕ
-  reference fits = do t ← number_field 2; refersTo fits t (get_elem? earlier t)
+  reference fits = do t ← number_field 2; refers_to fits t (get_elem? earlier t)
 
-  unfoldable pub anyBlock : Reader ℕ
-  anyBlock = reference (λ b. true)
+  unfoldable pub any_block : Reader ℕ
+  any_block = reference (λ b. true)
 
   -- the references of an output shape to object types, which nobody looks at where it is free (R3.12)
-  unfoldable pub objectReference : ℕ → Reader ℕ
-  objectReference free = pick (eqb free 1) (number_field 2) (reference of_objects)
+  unfoldable pub object_reference : ℕ → Reader ℕ
+  object_reference free = pick (eqb free 1) (number_field 2) (reference of_objects)
 
   -- the type of an element; over one of height 32 the block would be too high: 17, after 14 (R3.13)
   unfoldable pub element : (Block → Bool) → Reader ℕ
@@ -216,88 +216,88 @@ module _ (earlier : List Block) where
 
   -- ---- the blocks, each with its fields in their order (R3.3)
 
-  unfoldable pub outputElement : ℕ → Reader OutputElement
-  outputElement free = do
+  unfoldable pub output_element : ℕ → Reader OutputElement
+  output_element free = do
     flags ← output_flags
     cardinal ← cardinal_of
     name ← text_field
     type ← element has_values
-    source ← objectReference free
+    source ← object_reference free
     give (record { flags = flags; cardinal = cardinal; name = name; type = type; source = source })
 
   -- name, schema_defined, and for some ancestors
   unfoldable pub schema : Reader Schema
-  schema = do name ← text_field; defined ← bool_field; ancestors ← counted (λ _. anyBlock); give (record { name = name; defined = defined; ancestors = ancestors })
+  schema = do name ← text_field; defined ← bool_field; ancestors ← counted (λ _. any_block); give (record { name = name; defined = defined; ancestors = ancestors })
 
   -- A scalar without a format of its own takes its last ancestor's: one must be there (12), and be a scalar with a format of its own
   -- (14). R3.16.
-  unfoldable pub formatGiven : Option ℕ → Reader ℕ
-  formatGiven none = refuse WRONG_KIND
-  formatGiven (some f) = give f
+  unfoldable pub format_given : Option ℕ → Reader ℕ
+  format_given none = refuse WRONG_KIND
+  format_given (some f) = give f
 
-  unfoldable pub formatFrom : Option Block → Reader ℕ
-  formatFrom none = refuse BAD_REFERENCE
-  formatFrom (some b) = formatGiven (pick (eqb b.tag TAG_SCALAR) (format_by_id b.id) none)
+  unfoldable pub format_from : Option Block → Reader ℕ
+  format_from none = refuse BAD_REFERENCE
+  format_from (some b) = format_given (pick (eqb b.tag TAG_SCALAR) (format_by_id b.id) none)
 
-  unfoldable pub scalarWith : Option ℕ → ℕ → Text → ℕ → Reader BlockKind
-  scalarWith (some f) n name defined = do
-    ancestors ← item_run (λ _. anyBlock) n []
+  unfoldable pub scalar_with : Option ℕ → ℕ → Text → ℕ → Reader BlockKind
+  scalar_with (some f) n name defined = do
+    ancestors ← item_run (λ _. any_block) n []
     give (scalar_of (record { name = name; defined = defined; ancestors = ancestors }) f)
-  scalarWith none zero name defined = refuse BAD_CONTENT
-  scalarWith none (suc n) name defined = do
-    ancestors ← item_run (λ _. anyBlock) n []
-    last ← anyBlock
-    f ← formatFrom (get_elem? earlier last)
+  scalar_with none zero name defined = refuse BAD_CONTENT
+  scalar_with none (suc n) name defined = do
+    ancestors ← item_run (λ _. any_block) n []
+    last ← any_block
+    f ← format_from (get_elem? earlier last)
     give (scalar_of (record { name = name; defined = defined; ancestors = ancestors ++ (last ∷ []) }) f)
 
-  unfoldable pub tupleElement : List NamedElement → Reader NamedElement
-  tupleElement others = do name ← new_name (map (λ (e : NamedElement). e.name) others); type ← element has_values; give (record { name = name; type = type })
+  unfoldable pub tuple_element : List NamedElement → Reader NamedElement
+  tuple_element others = do name ← new_name (map (λ (e : NamedElement). e.name) others); type ← element has_values; give (record { name = name; type = type })
 
-  unfoldable pub inputElement : List InputElement → Reader InputElement
-  inputElement others = do
+  unfoldable pub input_element : List InputElement → Reader InputElement
+  input_element others = do
     _ ← input_flags
     cardinal ← cardinal_of
     name ← new_name (map (λ (e : InputElement). e.name) others)
     type ← element has_values
     give (record { cardinal = cardinal; name = name; type = type })
 
-  unfoldable pub recordElement : Reader NamedElement
-  recordElement = do name ← text_field; type ← anyBlock; give (record { name = name; type = type })
+  unfoldable pub record_element : Reader NamedElement
+  record_element = do name ← text_field; type ← any_block; give (record { name = name; type = type })
 
   -- an annotation is read like the others, and leaves no block (R3.4)
-  unfoldable pub annotationBlock : Reader (Option Block)
-  annotationBlock = do _ ← anyBlock; _ ← text_field; _ ← text_field; give none
+  unfoldable pub annotation_block : Reader (Option Block)
+  annotation_block = do _ ← any_block; _ ← text_field; _ ← text_field; give none
 
   -- the fields after tag and id; the last are those of tag 13
   unfoldable pub fields_of : ℕ → ℕ → Reader BlockKind
   fields_of tag id =
       pick (eqb tag TAG_SET) (do type ← element set_element; give (set_of type))
-      (pick (eqb tag TAG_OUTPUT_SHAPE) (do free ← bool_field; type ← objectReference free; es ← counted (λ _. outputElement free); give (output_shape free type es))
-      (pick (eqb tag TAG_SCALAR) (do name ← text_field; defined ← bool_field; n ← item_count; scalarWith (format_by_id id) n name defined)
+      (pick (eqb tag TAG_OUTPUT_SHAPE) (do free ← bool_field; type ← object_reference free; es ← counted (λ _. output_element free); give (output_shape free type es))
+      (pick (eqb tag TAG_SCALAR) (do name ← text_field; defined ← bool_field; n ← item_count; scalar_with (format_by_id id) n name defined)
       (pick (eqb tag TAG_TUPLE) (do s ← schema; types ← counted (λ _. element has_values); give (tuple_of s types))
-      (pick (eqb tag TAG_NAMED_TUPLE) (do s ← schema; es ← counted tupleElement; give (named_tuple s es))
+      (pick (eqb tag TAG_NAMED_TUPLE) (do s ← schema; es ← counted tuple_element; give (named_tuple s es))
       (pick (eqb tag TAG_ARRAY) (do s ← schema; type ← element array_element; _ ← dimensions; _ ← unbound; give (array_of s type))
       (pick (eqb tag TAG_ENUMERATION) (do s ← schema; members ← counted (λ _. text_field); give (enum_of s members))
-      (pick (eqb tag TAG_INPUT_SHAPE) (do es ← counted inputElement; give (input_shape es))
+      (pick (eqb tag TAG_INPUT_SHAPE) (do es ← counted input_element; give (input_shape es))
       (pick (eqb tag TAG_RANGE) (do s ← schema; type ← element range_element; give (range_of s type))
       (pick (eqb tag TAG_OBJECT_TYPE) (do name ← text_field; defined ← bool_field; give (object_type (rootless name defined)))
       (pick (eqb tag TAG_COMPOUND_TYPE) (do name ← text_field; defined ← bool_field; op ← operation; cs ← counted (λ _. reference of_objects); give (compound_type (rootless name defined) op cs))
-      (do es ← counted (λ _. recordElement); give (sql_record es))))))))))))
+      (do es ← counted (λ _. record_element); give (sql_record es))))))))))))
 
-  unfoldable pub indexedBlock : ℕ → Reader (Option Block)
-  indexedBlock tag = do
-    id ← newId
+  unfoldable pub indexed_block : ℕ → Reader (Option Block)
+  indexed_block tag = do
+    id ← new_id
     kind ← fields_of tag id
     give (some (record { tag = tag; id = id; kind = kind; height = height_over earlier 1 (types kind) }))
 
   -- an unknown tag is 11 (R3.2), and then one block too many 17 (R3.14)
   unfoldable pub tagged : ℕ → Reader (Option Block)
   tagged tag =
-      pick (eqb tag TAG_ANNOTATION) annotationBlock
+      pick (eqb tag TAG_ANNOTATION) annotation_block
       (pick (not (any (eqb tag)
       (TAG_SET ∷ TAG_OUTPUT_SHAPE ∷ TAG_SCALAR ∷ TAG_TUPLE ∷ TAG_NAMED_TUPLE ∷ TAG_ARRAY ∷ TAG_ENUMERATION ∷ TAG_INPUT_SHAPE ∷ TAG_RANGE ∷ TAG_OBJECT_TYPE ∷ TAG_COMPOUND_TYPE ∷ TAG_RECORD ∷ [])))
       (refuse UNKNOWN_TAG)
-      (pick (leb MOST_BLOCKS (length earlier)) (refuse DESCRIPTOR_SIZE) (indexedBlock tag)))
+      (pick (leb MOST_BLOCKS (length earlier)) (refuse DESCRIPTOR_SIZE) (indexed_block tag)))
 
   -- a block in its bare form: tag and fields
   unfoldable pub block : Reader (Option Block)
@@ -325,13 +325,13 @@ after_block place bs (parsed b s) rest = rest s (with_block bs b)
 
 module _ (form : BlockForm) (d : List ℕ) where
   -- A refusal's place is the block's first byte. Each block has one, so that the steps, one more than there are bytes, never run out.
-  unfoldable pub readBlocks : ℕ → List ℕ → List Block → Outcome (List Block)
-  readBlocks zero s bs = refused DESCRIPTOR_END (length d - length s)
-  readBlocks (suc n) [] bs = accepted bs
-  readBlocks (suc n) (x ∷ s) bs = after_block (length d - length (x ∷ s)) bs (form bs (x ∷ s)) (readBlocks n)
+  unfoldable pub read_blocks : ℕ → List ℕ → List Block → Outcome (List Block)
+  read_blocks zero s bs = refused DESCRIPTOR_END (length d - length s)
+  read_blocks (suc n) [] bs = accepted bs
+  read_blocks (suc n) (x ∷ s) bs = after_block (length d - length (x ∷ s)) bs (form bs (x ∷ s)) (read_blocks n)
 
-  unfoldable pub allBlocks : Outcome (List Block)
-  allBlocks = readBlocks (suc (length d)) d []
+  unfoldable pub all_blocks : Outcome (List Block)
+  all_blocks = read_blocks (suc (length d)) d []
 
 -- ---- a whole descriptor (R3.17)
 
@@ -359,5 +359,5 @@ unfoldable pub describe : BlockForm → List ℕ → List ℕ → Outcome Descri
 describe form d root =
     pick (ltb MOST_DESCRIPTOR (length d)) (refused DESCRIPTOR_SIZE 0)
     (pick (not (eqb (length root) 16)) (refused NO_ROOT (length d))
-    (pick (not (eqb (be root) 0)) (rooted_blocks (length d) (be root) (allBlocks form d))
+    (pick (not (eqb (be root) 0)) (rooted_blocks (length d) (be root) (all_blocks form d))
     (pick (eqb (length d) 0) (accepted no_type) (refused NO_ROOT (length d)))))

@@ -50,12 +50,12 @@ stream_by side s after (Whole n) = with_message (take n s) (message_of side (tak
 
 module _ (side room : ℕ) where
   -- a message has bytes, so that the steps, as many as there are bytes, never run out
-  unfoldable pub streamIn : ℕ → List ℕ → Stream
-  streamIn zero s = no_message (unfinished s)
-  streamIn (suc k) s = stream_by side s (streamIn k) (at_hand room s)
+  unfoldable pub stream_in : ℕ → List ℕ → Stream
+  stream_in zero s = no_message (unfinished s)
+  stream_in (suc k) s = stream_by side s (stream_in k) (at_hand room s)
 
-  unfoldable pub streamOf : List ℕ → Stream
-  streamOf s = streamIn (length s) s
+  unfoldable pub stream_of : List ℕ → Stream
+  stream_of s = stream_in (length s) s
 
 -- ---- states (R10.2, R10.5)
 

@@ -131,19 +131,19 @@ zero_member rule v s at (Present i start size) = zero_head v (between s at start
 
 module _ {S : Type 0} (form : Form S) (rule : ℕ → List ℕ → List ℕ) (v : Node) (s : List ℕ) where
   -- n elements from `at` on
-  unfoldable pub zeroElements : ℕ → S → ℕ → List ℕ
-  zeroElements zero st at = []
-  zeroElements (suc n) st at =
-      zero_member rule v s at (form.head st at) ++ zeroElements n (form.next st (form.head st at)) (end_of (form.head st at))
+  unfoldable pub zero_elements : ℕ → S → ℕ → List ℕ
+  zero_elements zero st at = []
+  zero_elements (suc n) st at =
+      zero_member rule v s at (form.head st at) ++ zero_elements n (form.next st (form.head st at)) (end_of (form.head st at))
 
 unfoldable pub zero_row : (ℕ → List ℕ → List ℕ) → Node → Opening → List ℕ → List ℕ
 zero_row rule v (Wrong n) s = s
-zero_row rule v (Elements n first at) s = zero_opening v (take at s) ++ zeroElements (row_form v s) rule v s n first at
+zero_row rule v (Elements n first at) s = zero_opening v (take at s) ++ zero_elements (row_form v s) rule v s n first at
 
 unfoldable pub zero_sparse : (ℕ → List ℕ → List ℕ) → List ℕ → List ℕ → Opening → List ℕ → List ℕ
 zero_sparse rule refs cards (Wrong n) s = s
 zero_sparse rule refs cards (Elements n first at) s =
-    zero_opening (sparse refs cards) (take at s) ++ zeroElements (sparse_form cards s) rule (sparse refs cards) s n no_marks at
+    zero_opening (sparse refs cards) (take at s) ++ zero_elements (sparse_form cards s) rule (sparse refs cards) s n no_marks at
 
 -- a value of a node with its containers' reserved fields zero
 unfoldable pub zero_node : Node → (ℕ → List ℕ → List ℕ) → List ℕ → List ℕ

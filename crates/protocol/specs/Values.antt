@@ -70,13 +70,13 @@ pub record Form (S : Type 0) : Type 0 where
 
 module _ {S : Type 0} (form : Form S) (rule : Rule) (ref : ℕ → Option ℕ) (base : ℕ) (s : List ℕ) where
   -- R5.14
-  unfoldable pub containerEnd : S → ℕ → ValueOutcome
-  containerEnd st at =
+  unfoldable pub container_end : S → ℕ → ValueOutcome
+  container_end st at =
       pick (eqb at (length s)) (pick (form.lacks st) (refused REQUIRED base) (accepted empty)) (refused VALUE_LEFT base)
 
   -- n elements from `at` on
   unfoldable pub elements : ℕ → S → ℕ → ValueOutcome
-  elements zero st at = containerEnd st at
+  elements zero st at = container_end st at
   elements (suc n) st at =
       then (element_outcome rule ref base s (form.head st at)) (elements n (form.next st (form.head st at)) (end_of (form.head st at)))
 

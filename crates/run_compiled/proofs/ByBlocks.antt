@@ -33,9 +33,9 @@ module _ (bs : List Block) (root : ℕ) (a : Accepted bs) (v : Valued bs root) w
       (λ k g. look_block bs a root k g)
       root v (omega (arith, v.inside, a.few)) 0 0 s
 
-  run-same : (s : List ℕ) → checked (plan_words bs root) s ≡ judged (described bs root) s
+  run_same : (s : List ℕ) → checked (plan_words bs root) s ≡ judged (described bs root) s
   unfolding checked value_by judged plan_words admitted
-  run-same s =
+  run_same s =
       pick_yes _ _ _ (plan_formed_lem bs a root v)
       ∙ ap (λ (o : ValueOutcome). pick (ltb 65535 (length s)) (refused 28 0) o) (pick_no _ _ _ (some_type bs a root v) ∙ value_same s)
 
@@ -51,9 +51,9 @@ none_same s = refl
 
 module _ (d root ws : List ℕ) (e : plan_of (description_of d root) ≡ descriptor.plan ws) where
   -- the plan of an accepted descriptor is well formed, and has the outcome of the rules
-  blocks-both : (plan_formed ws ≡ true) × ((s : List ℕ) → checked ws s ≡ judged (description_of d root) s)
+  blocks_both : (plan_formed ws ≡ true) × ((s : List ℕ) → checked ws s ≡ judged (description_of d root) s)
   unfolding plan_of
-  blocks-both = go (description_of d root) refl e
+  blocks_both = go (description_of d root) refl e
     where
       go : (t : Description) → description_of d root ≡ t → plan_of t ≡ descriptor.plan ws → (plan_formed ws ≡ true) × ((s : List ℕ) → checked ws s ≡ judged t s)
       go (refused_by n p) w e = let z : ◌≡◌ {A = ℕ} 0 1 = cc in absurd (omega arith)
@@ -61,11 +61,11 @@ module _ (d root ws : List ℕ) (e : plan_of (description_of d root) ≡ descrip
       go (described bs i) w e =
           let q : plan_words bs i ≡ ws = cc in
           let h = described_is d root bs i w in
-          rw (← q) (plan_formed_lem bs h.0 i h.1, run-same bs i h.0 h.1)
+          rw (← q) (plan_formed_lem bs h.0 i h.1, run_same bs i h.0 h.1)
 
   pub blocks_formed : plan_formed ws ≡ true
-  blocks_formed = blocks-both.0
+  blocks_formed = blocks_both.0
 
   pub blocks_three : (s : List ℕ) (room : ℕ) → run_of ws s room ≡ rules_of d root s room
   unfolding run_of rules_of
-  blocks_three s room = ap (list_roomed room) (blocks-both.1 s)
+  blocks_three s room = ap (list_roomed room) (blocks_both.1 s)

@@ -23,10 +23,10 @@ pub record Reached (known : List Known) (seen : List PlanNode) (kind r : ℕ) (e
   pub low : (target known e).height ≤ 31
 
 module _ (known : List Known) (seen : List PlanNode) (kind : ℕ) where
-  refer-reached : (r h : ℕ) (e : Element) → 1 ≤ h → Reached known seen kind r e → refer seen kind r h ≡ at_least h ((target known e).height + 1)
+  refer_reached : (r h : ℕ) (e : Element) → 1 ≤ h → Reached known seen kind r e → refer seen kind r h ≡ at_least h ((target known e).height + 1)
   unfolding refer raised pick
-  refer-reached r zero e l q = absurd (omega arith)
-  refer-reached r (suc h) e l q = rw (q.found, q.may, q.same, lt-ltb (target known e).height 32 (omega (arith, q.low)))
+  refer_reached r zero e l q = absurd (omega arith)
+  refer_reached r (suc h) e l q = rw (q.found, q.may, q.same, lt-ltb (target known e).height 32 (omega (arith, q.low)))
 
   module _ (es : List Element) (f : ℕ → ℕ) (all : (k : ℕ) → k < length es → Reached known seen kind (f k) (get_or es k no_element)) where
     climb : (n : ℕ) → n ≤ length es → refer_all seen kind f n ≡ raised_by known 1 (take n es)
@@ -34,7 +34,7 @@ module _ (known : List Known) (seen : List PlanNode) (kind : ℕ) where
     climb zero l = refl
     climb (suc n) l =
         rw (climb n (omega arith))
-        (refer-reached (f n) (raised_by known 1 (take n es)) (get_or es n no_element) (raised_least known 1 (take n es)) (all n l)
+        (refer_reached (f n) (raised_by known 1 (take n es)) (get_or es n no_element) (raised_least known 1 (take n es)) (all n l)
         ∙ sym (ap (raised_by known 1) (take-suc es n no_element l) ∙ raised_snoc known 1 (take n es) (get_or es n no_element)))
 
     pub climb_all : refer_all seen kind f (length es) ≡ raised_by known 1 es

@@ -5,7 +5,7 @@ use Prim.Native.Nat.{ℕ, ◌+◌, ◌≤◌}
 use native.Mathlib.Omega.{arith}
 use lib.ListN.{length, take, drop}
 use lib.Seq.{take_at}
-use Rattle.value_laws.proofs.Forests.{words-length}
+use Rattle.value_laws.proofs.Forests.{words_length}
 use Rattle.value_laws.proofs.Bound.{Fits}
 use Rattle.protocol.specs.Descriptors.{bare_form}
 use Rattle.protocol.specs.OffDescriptor.{rules_by, compiled_then}
@@ -29,7 +29,7 @@ use Rattle.protocol.specs.Running.{list_after, run_of}
 few_of : (n : ℕ) (o : ListOutcome) → Fits (n + 4) o → Few n (run.answer_of o)
 unfolding Few run.answer_of
 few_of n (refusedList m q) h = tt
-few_of n (accepted f) h = record { entries = entry_count f; words = words-length f; most = omega arith }
+few_of n (accepted f) h = record { entries = entry_count f; words = words_length f; most = omega arith }
 
 -- the rules read off a descriptor list few entries
 pub rules_few : (d root s : List ℕ) (room : ℕ) → Few (length s) (run.answer_of (rules_by bare_form d root s room))

@@ -131,13 +131,13 @@ module _ (bs : List Block) (a : Accepted bs) where
   -- ---- what is found
 
   -- no node of the first i blocks starts after them
-  find-low : (i k : ℕ) → i ≤ length bs → place bs i ≤ k → placed_at (seen_of (take i bs)) k ≡ none
+  find_low : (i k : ℕ) → i ≤ length bs → place bs i ≤ k → placed_at (seen_of (take i bs)) k ≡ none
   unfolding seen_of placed_at known_of
-  find-low zero k l h = refl
-  find-low (suc i) k l h =
+  find_low zero k l h = refl
+  find_low (suc i) k l h =
       let m : i < length bs = omega arith in
       rw (seen_next i m)
-      (find_after (seen_of (take i bs)) _ k (find-low i k (omega arith) (omega (arith, place_next i m)))
+      (find_after (seen_of (take i bs)) _ k (find_low i k (omega arith) (omega (arith, place_next i m)))
       ∙ pick_case (λ l. placed_at l k ≡ none) (valued (block i).tag) (known_of (block i) ∷ []) []
       (λ t.
       pick_no _ _ _
@@ -157,7 +157,7 @@ module _ (bs : List Block) (a : Accepted bs) where
       (⊎_elim
       (λ (e : r ≡ i).
       let z : place bs i ≤ (block r).node = omega (arith, node_is i m, ap (λ (k : ℕ). (block k).node) e) in
-      find_after (seen_of (take i bs)) _ (block r).node (find-low i (block r).node (omega arith) z)
+      find_after (seen_of (take i bs)) _ (block r).node (find_low i (block r).node (omega arith) z)
       ∙ ap (λ (k : ℕ). placed_at (pick (valued (block k).tag) (known_of (block k) ∷ []) []) (block r).node) (sym e)
       ∙ ap (λ (l : List PlanNode). placed_at l (block r).node) (pick_yes (valued (block r).tag) (known_of (block r) ∷ []) [] v)
       ∙ pick_yes _ _ none (eq-eqb (block r).node (block r).node refl))

@@ -42,9 +42,9 @@ small_more {w} {ws} a b = record { each = go }
 small_rest : {w : ℕ} {ws : List ℕ} → Small (w ∷ ws) → Small ws
 small_rest s = record { each = λ j. s.each (suc j) }
 
-small-append : (xs : List ℕ) {ys : List ℕ} → Small xs → Small ys → Small (xs ++ ys)
-small-append [] a b = b
-small-append (x ∷ xs) a b = small_more (a.each 0) (small-append xs (small_rest a) b)
+small_append : (xs : List ℕ) {ys : List ℕ} → Small xs → Small ys → Small (xs ++ ys)
+small_append [] a b = b
+small_append (x ∷ xs) a b = small_more (a.each 0) (small_append xs (small_rest a) b)
 
 small_map : (ρ : ℕ → ℕ) → ((k : ℕ) → ρ k < 2 ^ 32) → (l : List ℕ) → Small (map ρ l)
 small_map ρ h [] = small_none
@@ -99,12 +99,12 @@ module _ (bs : List Block) (a : Accepted bs) where
   block_words : (i : ℕ) (v : Valued bs i) → (get_or bs i missing).words ≡ node_as_words (rename (node_at (summaries bs)) (get_or bs i missing).shape)
   block_words i v = words_are bs a i v.inside v.values ∙ ap node_as_words (renames_same bs a i v)
 
-  block-proper : (i : ℕ) (v : Valued bs i) → Proper (rename (node_at (summaries bs)) (get_or bs i missing).shape)
-  block-proper i v = rename_proper (node_at (summaries bs)) (get_or bs i missing).shape (facts bs a i v).proper
+  block_proper : (i : ℕ) (v : Valued bs i) → Proper (rename (node_at (summaries bs)) (get_or bs i missing).shape)
+  block_proper i v = rename_proper (node_at (summaries bs)) (get_or bs i missing).shape (facts bs a i v).proper
 
   -- what holds of no words and of a block's node holds of a block's words
-  block-case : (P : List ℕ → Type 0) (i : ℕ) → i < length bs → P [] → ((v : Valued bs i) → P (node_as_words (rename (node_at (summaries bs)) (get_or bs i missing).shape))) → P (get_or bs i missing).words
-  block-case P i l n f = go (valued (get_or bs i missing).tag) refl
+  block_case : (P : List ℕ → Type 0) (i : ℕ) → i < length bs → P [] → ((v : Valued bs i) → P (node_as_words (rename (node_at (summaries bs)) (get_or bs i missing).shape))) → P (get_or bs i missing).words
+  block_case P i l n f = go (valued (get_or bs i missing).tag) refl
     where
       go : (t : Bool) → valued (get_or bs i missing).tag ≡ t → P (get_or bs i missing).words
       go true t = let v : Valued bs i = record { inside = l; values = t } in rw (block_words i v) (f v)
@@ -115,7 +115,7 @@ module _ (bs : List Block) (a : Accepted bs) where
   place_most zero l = omega arith
   place_most (suc i) l =
       let m : i < length bs = omega arith in
-      let w : length (get_or bs i missing).words ≤ 1026 = block-case (λ ws. length ws ≤ 1026) i m (omega arith) (λ v. node_most _ (block-proper i v)) in
+      let w : length (get_or bs i missing).words ≤ 1026 = block_case (λ ws. length ws ≤ 1026) i m (omega arith) (λ v. node_most _ (block_proper i v)) in
       omega (arith, place_next bs a i m, place_most i (omega arith))
 
   pub node_word : (r : ℕ) → node_at (summaries bs) r < 2 ^ 32
@@ -132,8 +132,8 @@ module _ (bs : List Block) (a : Accepted bs) where
   all_small (suc i) l =
       let m : i < length bs = omega arith in
       rw (all_next bs a i m)
-      (small-append (all_words (take i bs)) (all_small i (omega arith))
-      (block-case Small i m small_none (λ v. node_small (node_at (summaries bs)) node_word (get_or bs i missing).shape (block-proper i v))))
+      (small_append (all_words (take i bs)) (all_small i (omega arith))
+      (block_case Small i m small_none (λ v. node_small (node_at (summaries bs)) node_word (get_or bs i missing).shape (block_proper i v))))
 
   module _ (root : ℕ) where
     pub plan_length : length (plan_words bs root) ≤ 1050626

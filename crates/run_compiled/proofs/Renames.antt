@@ -46,8 +46,8 @@ module _ (ρ : ℕ → ℕ) where
   rename_refs (sparse rs cs) = refl
   rename_refs (range r) = refl
 
-  paired-rename : (rs cs : List ℕ) → Paired rs cs → Paired (map ρ rs) cs
-  paired-rename rs cs h = record { same = rw length-map h.same; few = rw length-map h.few; cards = h.cards }
+  paired_rename : (rs cs : List ℕ) → Paired rs cs → Paired (map ρ rs) cs
+  paired_rename rs cs h = record { same = rw length-map h.same; few = rw length-map h.few; cards = h.cards }
 
   pub rename_proper : (v : Node) → Proper v → Proper (rename ρ v)
   unfolding rename Proper
@@ -56,8 +56,8 @@ module _ (ρ : ℕ → ℕ) where
   rename_proper (row r) h = tt
   rename_proper (arrays r) h = tt
   rename_proper (tuple rs) h = rw length-map h
-  rename_proper (object rs cs) h = paired-rename rs cs h
-  rename_proper (sparse rs cs) h = paired-rename rs cs h
+  rename_proper (object rs cs) h = paired_rename rs cs h
+  rename_proper (sparse rs cs) h = paired_rename rs cs h
   rename_proper (range r) h = tt
 
   -- only the new keys of its references matter

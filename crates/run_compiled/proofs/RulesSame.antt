@@ -39,9 +39,9 @@ shape_same all (o ∷ os) (b ∷ bs) s zero h v = rw (s.0, pick_yes (valued o.ta
 shape_same all (o ∷ os) (b ∷ bs) s (suc k) h v = shape_same all os bs s.1 k (omega arith) v
 
 module _ (d : List ℕ) (os : List OldBlock) (bs : List Block) (t : Twins d os bs) (a : Accepted os) where
-  look-same : (k : ℕ) → Valued os k → block_look bs k ≡ block_at os k
+  look_same : (k : ℕ) → Valued os k → block_look bs k ≡ block_at os k
   unfolding block_look
-  look-same k g = shape_same bs os bs t.shapes k g.inside g.values
+  look_same k g = shape_same bs os bs t.shapes k g.inside g.values
 
   same_length : length os ≡ length bs
   same_length = sym (length-map os summary) ∙ pairs_length d (summaries os) bs t.pairs
@@ -56,38 +56,38 @@ module _ (d : List ℕ) (os : List OldBlock) (bs : List Block) (t : Twins d os b
       (λ j l. rw (refs_at_lem os a k g j) (place_same (get_or (facts os a k g).list j no_element).ref (earlier os a k g j (rw (refs_count os a k g) at l)).has))
 
   module _ (root : ℕ) (v : Valued os root) where
-    look-new : (k : ℕ) → Valued os k → look (plan_words os root) (node_position bs k) ≡ rename (node_position bs) (block_look bs k)
-    look-new k g =
+    look_new : (k : ℕ) → Valued os k → look (plan_words os root) (node_position bs k) ≡ rename (node_position bs) (block_look bs k)
+    look_new k g =
         ap (look (plan_words os root)) (place_same k g) ∙ look_block os a root k g ∙ ap (rename (node_at (summaries os))) (shape_at os k)
         ∙ sym (places_same k g)
-        ∙ ap (rename (node_position bs)) (sym (shape_at os k) ∙ sym (look-same k g))
+        ∙ ap (rename (node_position bs)) (sym (shape_at os k) ∙ sym (look_same k g))
 
-    value-new : (s : List ℕ) → value_off bs root s ≡ value_in os root s
+    value_new : (s : List ℕ) → value_off bs root s ≡ value_in os root s
     unfolding value_off
-    value-new s =
+    value_new s =
         sym
         (relabel_value (node_position bs) (block_look bs) (look (plan_words os root)) (Valued os)
-        (λ k i r g e. closed os a k g i r (ap (λ (u : Node). ref_at u i) (sym (look-same k g)) ∙ e))
-        look-new
+        (λ k i r g e. closed os a k g i r (ap (λ (u : Node). ref_at u i) (sym (look_same k g)) ∙ e))
+        look_new
         root v (omega (arith, v.inside, a.few)) 0 0 s)
         ∙ ap (λ (n : ℕ). value_of (look (plan_words os root)) n 0 0 s) (place_same root v)
         ∙ value_same os root a v s
 
 module _ (d root s : List ℕ) where
-  judged-same : (o : Description) (n : Outcome DescribedType) → description_of d root ≡ o → Alike d o n → judged_off n s ≡ judged o s
+  judged_same : (o : Description) (n : Outcome DescribedType) → description_of d root ≡ o → Alike d o n → judged_off n s ≡ judged o s
   unfolding judged_off type_off judged
-  judged-same (refused_by n p) (refused m q) i e = rw (e.0, e.1)
-  judged-same (refused_by n p) (accepted u) i e = absurd e
-  judged-same without_type (refused m q) i e = absurd e
-  judged-same without_type (accepted no_type) i e = refl
-  judged-same without_type (accepted (block_type bs k)) i e = absurd e
-  judged-same (described os j) (refused m q) i e = absurd e
-  judged-same (described os j) (accepted no_type) i e = absurd e
-  judged-same (described os j) (accepted (block_type bs k)) i e =
+  judged_same (refused_by n p) (refused m q) i e = rw (e.0, e.1)
+  judged_same (refused_by n p) (accepted u) i e = absurd e
+  judged_same without_type (refused m q) i e = absurd e
+  judged_same without_type (accepted no_type) i e = refl
+  judged_same without_type (accepted (block_type bs k)) i e = absurd e
+  judged_same (described os j) (refused m q) i e = absurd e
+  judged_same (described os j) (accepted no_type) i e = absurd e
+  judged_same (described os j) (accepted (block_type bs k)) i e =
       let h = described_is d root os j i in
-      rw (← e.1, value-new d os bs e.0 h.0 j h.1 s)
+      rw (← e.1, value_new d os bs e.0 h.0 j h.1 s)
 
 -- The rules read off a descriptor are the same by both definitions.
 pub rules_same : (d root s : List ℕ) (room : ℕ) → rules_by bare_form d root s room ≡ rules_of d root s room
 unfolding rules_by rules_of
-rules_same d root s room = ap (list_roomed room) (judged-same d root s (description_of d root) (describe bare_form d root) refl (description_same d root))
+rules_same d root s room = ap (list_roomed room) (judged_same d root s (description_of d root) (describe bare_form d root) refl (description_same d root))

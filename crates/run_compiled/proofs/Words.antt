@@ -120,30 +120,30 @@ module _ (pre rest : List ℕ) where
   place_next k = omega arith
 
   module _ (v : Node) (n : ℕ) (rs cs : List ℕ) (w : node_as_words v ≡ n ∷ length rs ∷ ref_cards rs cs) (h : length cs ≡ length rs) where
-    pair-ref : (k : ℕ) → k < length rs → pair_ref (around pre v rest) (length pre) k ≡ get_or rs k 0
+    pair_ref_lem : (k : ℕ) → k < length rs → pair_ref (around pre v rest) (length pre) k ≡ get_or rs k 0
     unfolding pair_ref
-    pair-ref k l =
+    pair_ref_lem k l =
         ap (λ (m : ℕ). get_or (around pre v rest) m 0) (place (2 * k)) ∙ word_at v (suc (suc (2 * k)))
         ∙ ap (λ (ws : List ℕ). get_or (ws ++ rest) (suc (suc (2 * k))) 0) w
         ∙ (pairs_at rs cs rest k h l).0
 
-    pair-card : (k : ℕ) → k < length rs → pair_card (around pre v rest) (length pre) k ≡ get_or cs k 0
+    pair_card_lem : (k : ℕ) → k < length rs → pair_card (around pre v rest) (length pre) k ≡ get_or cs k 0
     unfolding pair_card
-    pair-card k l =
+    pair_card_lem k l =
         ap (λ (m : ℕ). get_or (around pre v rest) m 0) (place_next (2 * k)) ∙ word_at v (suc (suc (suc (2 * k))))
         ∙ ap (λ (ws : List ℕ). get_or (ws ++ rest) (suc (suc (suc (2 * k)))) 0) w
         ∙ (pairs_at rs cs rest k h l).1
 
-    pair-count : get_or (around pre v rest) (length pre + 1) 0 ≡ length rs
-    pair-count = word_at v 1 ∙ ap (λ (ws : List ℕ). get_or (ws ++ rest) 1 0) w
+    pair_count : get_or (around pre v rest) (length pre + 1) 0 ≡ length rs
+    pair_count = word_at v 1 ∙ ap (λ (ws : List ℕ). get_or (ws ++ rest) 1 0) w
 
-    pair-refs : refs_at (around pre v rest) (length pre) ≡ rs
+    pair_refs : refs_at (around pre v rest) (length pre) ≡ rs
     unfolding refs_at
-    pair-refs = rw pair-count (up_same (pair_ref (around pre v rest) (length pre)) rs pair-ref)
+    pair_refs = rw pair_count (up_same (pair_ref (around pre v rest) (length pre)) rs pair_ref_lem)
 
-    pair-cards : cards_at (around pre v rest) (length pre) ≡ cs
+    pair_cards : cards_at (around pre v rest) (length pre) ≡ cs
     unfolding cards_at
-    pair-cards = rw (pair-count, ← h) (up_same (pair_card (around pre v rest) (length pre)) cs (λ k l. pair-card k (rw (← h) l)))
+    pair_cards = rw (pair_count, ← h) (up_same (pair_card (around pre v rest) (length pre)) cs (λ k l. pair_card_lem k (rw (← h) l)))
 
   -- ---- looking it up
 
@@ -157,9 +157,9 @@ module _ (pre rest : List ℕ) where
       look_tuple _ _ (kind_word (tuple rs))
       ∙ ap tuple (rw (word_at (tuple rs) 1, drop-append-add pre (node_as_words (tuple rs) ++ rest) 2) (take-append_seam rs rest))
   look_node (object rs cs) h =
-      look_object _ _ (kind_word (object rs cs)) ∙ ap₂ object (pair-refs (object rs cs) 5 rs cs refl h.same) (pair-cards (object rs cs) 5 rs cs refl h.same)
+      look_object _ _ (kind_word (object rs cs)) ∙ ap₂ object (pair_refs (object rs cs) 5 rs cs refl h.same) (pair_cards (object rs cs) 5 rs cs refl h.same)
   look_node (sparse rs cs) h =
-      look_sparse _ _ (kind_word (sparse rs cs)) ∙ ap₂ sparse (pair-refs (sparse rs cs) 6 rs cs refl h.same) (pair-cards (sparse rs cs) 6 rs cs refl h.same)
+      look_sparse _ _ (kind_word (sparse rs cs)) ∙ ap₂ sparse (pair_refs (sparse rs cs) 6 rs cs refl h.same) (pair_cards (sparse rs cs) 6 rs cs refl h.same)
   look_node (range r) h = look_range _ _ (kind_word (range r)) ∙ ap range (word_at (range r) 1)
 
   -- ---- its size
@@ -185,15 +185,15 @@ module _ (pre rest : List ℕ) where
 
     -- references and cardinalities
     module _ (v : Node) (n : ℕ) (rs cs : List ℕ) (w : node_as_words v ≡ n ∷ length rs ∷ ref_cards rs cs) (h : Paired rs cs) where
-      pairs-climb : pick (ltb 512 (length rs)) 0
+      pairs_climb : pick (ltb 512 (length rs)) 0
           (pick (all_cardinalities (pair_card (around pre v rest) (length pre)) (length rs)) (refer_all seen n (pair_ref (around pre v rest) (length pre)) (length rs)) 0)
           ≡ refer_all seen n (λ k. get_or rs k 0) (length rs)
-      pairs-climb =
+      pairs_climb =
           pick_no _ _ _ (le-ltb 512 (length rs) h.few)
           ∙ pick_yes _ _ _
           (cards_all (pair_card (around pre v rest) (length pre)) (length rs)
-          (λ k l. ap is_cardinality (pair-card v n rs cs w h.same k l) ∙ h.cards k (rw h.same l)))
-          ∙ refers_same seen n (pair_ref (around pre v rest) (length pre)) (λ k. get_or rs k 0) (length rs) (pair-ref v n rs cs w h.same)
+          (λ k l. ap is_cardinality (pair_card_lem v n rs cs w h.same k l) ∙ h.cards k (rw h.same l)))
+          ∙ refers_same seen n (pair_ref (around pre v rest) (length pre)) (λ k. get_or rs k 0) (length rs) (pair_ref_lem v n rs cs w h.same)
 
     pub height_node : (v : Node) → Proper v → Climbs v
     unfolding Proper node_as_words kind_of refs_of node_height refer_all pick many_height
@@ -207,8 +207,8 @@ module _ (pre rest : List ℕ) where
         ∙ refers_same seen 4 (λ k. get_or (around pre (tuple rs) rest) (length pre + 2 + k) 0) (λ k. get_or rs k 0) (length rs)
         (λ k l.
         ap (λ (m : ℕ). get_or (around pre (tuple rs) rest) m 0) (place k) ∙ word_at (tuple rs) (suc (suc k)) ∙ get_or-append rs rest 0 k l))
-    height_node (object rs cs) h = rw (kind_word (object rs cs), word_at (object rs cs) 1) (pairs-climb (object rs cs) 5 rs cs refl h)
-    height_node (sparse rs cs) h = rw (kind_word (sparse rs cs), word_at (sparse rs cs) 1) (pairs-climb (sparse rs cs) 6 rs cs refl h)
+    height_node (object rs cs) h = rw (kind_word (object rs cs), word_at (object rs cs) 1) (pairs_climb (object rs cs) 5 rs cs refl h)
+    height_node (sparse rs cs) h = rw (kind_word (sparse rs cs), word_at (sparse rs cs) 1) (pairs_climb (sparse rs cs) 6 rs cs refl h)
     height_node (range r) h = rw (kind_word (range r), word_at (range r) 1)
 
 -- a node whose words stand at a place of a plan

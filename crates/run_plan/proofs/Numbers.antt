@@ -31,21 +31,21 @@ Expected n (refused m q) = ((m ≡ 28) × (q ≡ 0)) ⊎ ((ValueFault m × (q �
 Expected n (accepted f) = Unit {0}
 
 module _ (n : ℕ) where
-  judged-sized : (o : ValueOutcome) → Judged n o → Sized n o
-  judged-sized (refused m q) x = inr x
-  judged-sized (accepted f) x = tt
+  judged_sized : (o : ValueOutcome) → Judged n o → Sized n o
+  judged_sized (refused m q) x = inr x
+  judged_sized (accepted f) x = tt
 
   module _ (room : ℕ) where
-    roomed-expected : (o : ValueOutcome) → Sized n o → Expected n (list_roomed room o)
+    roomed_expected : (o : ValueOutcome) → Sized n o → Expected n (list_roomed room o)
     unfolding list_roomed
-    roomed-expected (refused m q) x = ⊎_elim (λ a. inl a) (λ b. inr (inl b)) x
-    roomed-expected (accepted f) x = pick_case (Expected n) _ _ _ (λ _. inr (inr (refl, refl))) (λ _. tt)
+    roomed_expected (refused m q) x = ⊎_elim (λ a. inl a) (λ b. inr (inl b)) x
+    roomed_expected (accepted f) x = pick_case (Expected n) _ _ _ (λ _. inr (inr (refl, refl))) (λ _. tt)
 
     -- the room adds 31 to the numbers of a value's faults
-    roomed-number : (m q : ℕ) (o : ValueOutcome) → Judged n o → list_roomed room o ≡ refused m q → ValueFault m ⊎ (m ≡ 31)
+    roomed_number : (m q : ℕ) (o : ValueOutcome) → Judged n o → list_roomed room o ≡ refused m q → ValueFault m ⊎ (m ≡ 31)
     unfolding list_roomed
-    roomed-number m q (refused k r) x e = let h : k ≡ m = cc in inl (rw h at x.0)
-    roomed-number m q (accepted f) x e =
+    roomed_number m q (refused k r) x e = let h : k ≡ m = cc in inl (rw h at x.0)
+    roomed_number m q (accepted f) x e =
         ⊎_elim (λ y. let h = y.1 in inr (cc)) (λ y. let h = y.1 in let z : ◌≡◌ {A = ℕ} 0 1 = cc in absurd (omega arith)) (pick_split _ _ _ _ e)
 
 -- a sparse object of a plan has as many references as cardinalities
@@ -61,9 +61,9 @@ look_covered p k =
     (λ _. pick_case Covered _ _ _ (λ _. tt) (λ _. tt)))))))
 
 module _ (p s : List ℕ) where
-  unformed-is : plan_formed p ≡ false → checked p s ≡ refused 33 0
+  unformed_is : plan_formed p ≡ false → checked p s ≡ refused 33 0
   unfolding checked admitted
-  unformed-is e = pick_no _ _ _ e
+  unformed_is e = pick_no _ _ _ e
 
   module _ (f : plan_formed p ≡ true) where
     large_is : ltb 65535 (length s) ≡ true → checked p s ≡ refused 28 0
@@ -76,9 +76,9 @@ module _ (p s : List ℕ) where
 
 module _ (p : List ℕ) (w : (j : ℕ) → get_or p j 0 < 2 ^ 32) (s : List ℕ) where
   -- a value by a well-formed plan
-  value-is : plan_formed p ≡ true → Judged (length s) (value_by p s)
+  value_is : plan_formed p ≡ true → Judged (length s) (value_by p s)
   unfolding value_by value_of nothing_in
-  value-is formed =
+  value_is formed =
       let J = Judged (length s) in
       pick_case J _ _ _
       (λ _. pick_case J _ _ _ (λ _. tt) (λ _. ((lit≤ tt, lit≤ tt), omega arith)))
@@ -86,24 +86,24 @@ module _ (p : List ℕ) (w : (j : ℕ) → get_or p j 0 < 2 ^ 32) (s : List ℕ)
       let a = at_root p formed t w in
       value_judged (look p) (At p) (at_ref p) (λ k _. look_covered p k) (length s) fuel (get_or p 1 0) a a.small 0 0 s (omega arith))
 
-  checked-sized : plan_formed p ≡ true → Sized (length s) (checked p s)
+  checked_sized : plan_formed p ≡ true → Sized (length s) (checked p s)
   unfolding checked admitted
-  checked-sized formed =
+  checked_sized formed =
       let S = Sized (length s) in
       pick_case S _ _ _
-      (λ _. pick_case S _ _ _ (λ _. inl (refl, refl)) (λ _. judged-sized (length s) (value_by p s) (value-is formed)))
+      (λ _. pick_case S _ _ _ (λ _. inl (refl, refl)) (λ _. judged_sized (length s) (value_by p s) (value_is formed)))
       (λ e. let z : ◌≡◌ {A = ℕ} 0 1 = cc in absurd (omega arith))
 
   module _ (room : ℕ) where
     -- A run by a well-formed plan gives nothing else.
     pub run_expected : plan_formed p ≡ true → Expected (length s) (run_of p s room)
     unfolding run_of
-    run_expected formed = roomed-expected (length s) room (checked p s) (checked-sized formed)
+    run_expected formed = roomed_expected (length s) room (checked p s) (checked_sized formed)
 
     -- 33 is given exactly when the plan is not well formed.
     pub exact_33 : (run_of p s room ≡ refused 33 0) ↔ (plan_formed p ≡ false)
     unfolding run_of list_roomed
-    exact_33 = (λ e. go (plan_formed p) refl e, λ e. ap (list_roomed room) (unformed-is p s e))
+    exact_33 = (λ e. go (plan_formed p) refl e, λ e. ap (list_roomed room) (unformed_is p s e))
       where
         never : Expected (length s) (refused 33 0) → ⊥
         never x = ⊎_elim (λ a. omega (arith, a.0)) (λ y. ⊎_elim (λ b. omega (arith, b.0.1)) (λ c. omega (arith, c.0)) y) x
@@ -127,7 +127,7 @@ module _ (p : List ℕ) (w : (j : ℕ) → get_or p j 0 < 2 ^ 32) (s : List ℕ)
             absurd (omega arith)
         go true true f l e = (f, ltb-true 65535 (length s) l)
         go true false f l e =
-            let n = roomed-number (length s) room 28 0 (value_by p s) (value-is f) (ap (list_roomed room) (sym (small_is p s f l)) ∙ e) in
+            let n = roomed_number (length s) room 28 0 (value_by p s) (value_is f) (ap (list_roomed room) (sym (small_is p s f l)) ∙ e) in
             absurd (⊎_elim (λ a. omega (arith, a.1)) (λ b. omega arith) n)
 
     -- 31 is given exactly when the value is accepted and its list has more words than the room.
@@ -139,8 +139,8 @@ module _ (p : List ℕ) (w : (j : ℕ) → get_or p j 0 < 2 ^ 32) (s : List ℕ)
     )
       where
         never : (t : Bool) (n q : ℕ) → plan_formed p ≡ t → checked p s ≡ refused n q → n ≡ 31 → ⊥
-        never true n q f c e = ⊎_elim (λ a. omega (arith, a.0)) (λ b. omega (arith, b.0.1)) (rw c at (checked-sized f))
-        never false n q f c e = let h = unformed-is p s f in let z : n ≡ 33 = cc in omega arith
+        never true n q f c e = ⊎_elim (λ a. omega (arith, a.0)) (λ b. omega (arith, b.0.1)) (rw c at (checked_sized f))
+        never false n q f c e = let h = unformed_is p s f in let z : n ≡ 33 = cc in omega arith
 
         go : (o : ValueOutcome) → checked p s ≡ o → list_roomed room o ≡ refused 31 0 → (f : Forest) × (checked p s ≡ accepted f) × (room < length (words f))
         go (refused n q) c e = absurd (never (plan_formed p) n q refl c (cc))

@@ -55,21 +55,21 @@ module _ (p s : List ℕ) (f : plan_formed p ≡ true) (l l' : List ℕ) where
     check_bytes e = refuses _ _ 21 0 l l' (nothing_is ∙ rw (ne_eqb (length s) 0 e))
 
   module _ (r : ℕ) (er : r ≡ get_or p 1 0) (nz : r ≡ 0 → ⊥) where
-    value-is : value_by p s ≡ value_of (look p) r 0 0 s
+    value_is : value_by p s ≡ value_of (look p) r 0 0 s
     unfolding value_by pick
-    value-is = rw (root_some p f (λ e. nz (er ∙ e)), er)
+    value_is = rw (root_some p f (λ e. nz (er ∙ e)), er)
 
     module _ (x : Step.Step) (q : walk_of x l' ≡ led (value_of (look p) r 0 0 s) 0 l) where
       pub check_refused : (n m : ℕ) → x ≡ Refused n m → Checks (length s) (value_by p s) (Answer.Refused n m) l l'
       unfolding walk_of
-      check_refused n m e = refuses _ _ n m l l' (value-is ∙ stopped_is _ n m l (rw e at q))
+      check_refused n m e = refuses _ _ n m l l' (value_is ∙ stopped_is _ n m l (rw e at q))
 
       pub check_listed : (at : ℕ) → x ≡ Reached at → Within (0 + length s) x → Checks (length s) (value_by p s) (Listed at) l l'
       unfolding walk_of Within answer_of Stored
       check_listed at e b =
           let h = reached_is (value_of (look p) r 0 0 s) at l l' (rw e at q) in
           let c = rw e at b in
-          rw (value-is, h.1) (record { answer = ap Listed h.2; words = (h.3, omega (arith, h.2)) })
+          rw (value_is, h.1) (record { answer = ap Listed h.2; words = (h.3, omega (arith, h.2)) })
 
 -- ---- the tests before the value, in their order
 
@@ -87,28 +87,28 @@ module _ (p s : List ℕ) where
     unfolding early_fault fault_in admitted pick
     fault_none h = rw (f, le-ltb 65535 (length s) h)
 
-  early-cases : (n : ℕ) (a b : Bool) → n ≡ fault_in (pick a (pick b (refused 28 0) (accepted empty)) (refused 33 0)) → (n ≡ 0 → ⊥)
+  early_cases : (n : ℕ) (a b : Bool) → n ≡ fault_in (pick a (pick b (refused 28 0) (accepted empty)) (refused 33 0)) → (n ≡ 0 → ⊥)
       → pick a (pick b (refused 28 0) (value_by p s)) (refused 33 0) ≡ refused n 0
   unfolding pick fault_in
-  early-cases n true true e z = rw e
-  early-cases n true false e z = absurd (z e)
-  early-cases n false b e z = rw e
+  early_cases n true true e z = rw e
+  early_cases n true false e z = absurd (z e)
+  early_cases n false b e z = rw e
 
   pub early_refused : (n : ℕ) → n ≡ early_fault p s → (n ≡ 0 → ⊥) → checked p s ≡ refused n 0
   unfolding early_fault admitted checked fault_in
-  early_refused n e z = early-cases n (plan_formed p) (ltb 65535 (length s)) e z
+  early_refused n e z = early_cases n (plan_formed p) (ltb 65535 (length s)) e z
 
-  none-cases : (a b : Bool) → ◌≡◌ {A = ℕ} 0 (fault_in (pick a (pick b (refused 28 0) (accepted empty)) (refused 33 0))) → (a ≡ true) × (b ≡ false)
+  none_cases : (a b : Bool) → ◌≡◌ {A = ℕ} 0 (fault_in (pick a (pick b (refused 28 0) (accepted empty)) (refused 33 0))) → (a ≡ true) × (b ≡ false)
   unfolding pick fault_in
-  none-cases true true e = absurd (omega arith)
-  none-cases true false e = (refl, refl)
-  none-cases false b e = absurd (omega arith)
+  none_cases true true e = absurd (omega arith)
+  none_cases true false e = (refl, refl)
+  none_cases false b e = absurd (omega arith)
 
   -- where none refuses, the value's own rules are left
   pub early_none : (n : ℕ) → n ≡ early_fault p s → n ≡ 0 → (plan_formed p ≡ true) × (length s ≤ 65535) × (checked p s ≡ value_by p s)
   unfolding early_fault fault_in admitted checked pick
   early_none n e z =
-      let h = none-cases (plan_formed p) (ltb 65535 (length s)) (sym z ∙ e) in
+      let h = none_cases (plan_formed p) (ltb 65535 (length s)) (sym z ∙ e) in
       (h.0, ltb-false 65535 (length s) h.1, rw (h.0, h.1))
 
   module _ (l l' : List ℕ) where

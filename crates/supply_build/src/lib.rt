@@ -12,7 +12,7 @@ ghost use Rattle.protocol.specs.Constants.{ABSENT};
 ghost use Rattle.protocol.specs.Nodes.{ref_at};
 ghost use Rattle.protocol.specs.Plans.{look, cards_at};
 ghost use Rattle.protocol.specs.Supplies.{next_of, next};
-ghost use Rattle.protocol.specs.Building.{leaf_made, may_lack, absent_made, part_made, row_order, sparse_order, elementsMade, buildOf};
+ghost use Rattle.protocol.specs.Building.{leaf_made, may_lack, absent_made, part_made, row_order, sparse_order, elements_made, build_of};
 
 use supply_entries::{Built, Entry, Gathered, Opened, Read, front, head, leaf, list};
 
@@ -113,7 +113,7 @@ pub fn build_value(
     requires { (At plan.now node) × (next_of (drop word list.now) ≡ next (claim entry) (drop (word + 5) list.now))
         × (entry.size ≡ ABSENT → ⊥) × (word + 5 ≤ length list.now) × (at ≤ 65551) × (Memo plan.now needs.now) }
     ensures { stand_of result list.now out.new
-        ≡ put_at (buildOf src.now (look plan.now) node entry.index (drop word list.now)) at out.old }
+        ≡ put_at (build_of src.now (look plan.now) node entry.index (drop word list.now)) at out.old }
 {
     if entry.node as usize != node {
         return Built::Failed;
@@ -154,7 +154,7 @@ fn build_row(
 ) -> Built
     requires { (At plan.now node) × (Holds (look plan.now node) (first + count)) × (first + count < 2 ^ 33) × (at ≤ 65535) × (Memo plan.now needs.now) }
     ensures { stand_of result list.now out.new
-        ≡ put_at (elementsMade row_order (buildOf src.now (look plan.now)) (look plan.now node) count first (drop word list.now)) at out.old }
+        ≡ put_at (elements_made row_order (build_of src.now (look plan.now)) (look plan.now node) count first (drop word list.now)) at out.old }
 {
     let kind = plan_nodes::node::kind_at(plan, node);
     let end = first + count;
@@ -193,7 +193,7 @@ fn build_sparse(
 ) -> Built
     requires { (At plan.now node) × (get_or plan.now node 0 ≡ 6) × (run.at ≤ 65535) × (Memo plan.now needs.now) × (Counted plan.now node run.seen.marks run.given) }
     ensures { stand_of result list.now out.new
-        ≡ put_at (elementsMade (sparse_order (cards_at plan.now node)) (buildOf src.now (look plan.now))
+        ≡ put_at (elements_made (sparse_order (cards_at plan.now node)) (build_of src.now (look plan.now))
         (look plan.now node) run.left run.seen.marks (drop run.word list.now))
         run.at out.old }
 {
@@ -243,7 +243,7 @@ fn build_member(
         × (next_of (drop word list.now) ≡ next (claim entry) (drop (word + 5) list.now)) × (word + 5 ≤ length list.now) × (at ≤ 65535)
         × (Memo plan.now needs.now) }
     ensures { stand_of result list.now out.new
-        ≡ put_at (part_made (buildOf src.now (look plan.now)) (look plan.now node)
+        ≡ put_at (part_made (build_of src.now (look plan.now)) (look plan.now node)
         (ref_at (look plan.now node) entry.index) (claim entry) (drop (word + 5) list.now)
         (drop word list.now)) at
         out.old }

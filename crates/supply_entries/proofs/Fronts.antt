@@ -10,7 +10,7 @@ use lib.Seq.{sets, get_or-drop, get_or-take}
 use borrow.Author.Tests.{eq-eqb, ne_eqb, le-leb, lt-leb, lt-ltb, le-ltb, leb-true, leb-false}
 use native.Mathlib.Nat.{add-zero, add-sub_cancel_left}
 use native.Mathlib.Decide.{dec_lt}
-use Rattle.wire.proofs.Numbers.{length-bytes}
+use Rattle.wire.proofs.Numbers.{length_bytes}
 use Rattle.forms.specs.declared.Opening.{Opening}
 use Rattle.forms.specs.declared.Opening.TheVariants.{Elements, Wrong}
 use Rattle.value_heads.proofs.Bounds.{range_opened}
@@ -42,49 +42,49 @@ module _ (b : List ℕ) (first at : ℕ) (out : List ℕ) (n : ℕ) (en : length
 
 module _ (n at : ℕ) (out : List ℕ) where
   module _ (e : n ≡ 0) where
-    none-bytes : set_bytes n ≡ bytes_be 4 0 ++ (bytes_be 4 0 ++ bytes_be 4 0)
+    none_bytes : set_bytes n ≡ bytes_be 4 0 ++ (bytes_be 4 0 ++ bytes_be 4 0)
     unfolding set_bytes pick bytes_be
-    none-bytes = rw (eq-eqb n 0 e)
+    none_bytes = rw (eq-eqb n 0 e)
 
-    none-length : length (set_bytes n) ≡ 12
+    none_length : length (set_bytes n) ≡ 12
     unfolding bytes_be
-    none-length = rw none-bytes
+    none_length = rw none_bytes
 
     pub empty_not : 65535 < at + 12 → shut ≡ begin_at (front (set_bytes n) 0) at out
-    empty_not h = begun_not (set_bytes n) 0 at out 12 none-length h
+    empty_not h = begun_not (set_bytes n) 0 at out 12 none_length h
 
     pub empty_begun : at + 12 ≤ 65535 → (l l' : List ℕ) → l ≡ sets out at (bytes_be 4 0 ++ bytes_be 4 0) → l' ≡ sets l (at + 8) (bytes_be 4 0)
         → begins 0 (at + 12) l' ≡ begin_at (front (set_bytes n) 0) at out
-    empty_begun h l l' f g = begun (set_bytes n) 0 at out 12 none-length h l' (put_eight out l l' at 0 0 (bytes_be 4 0) f g ∙ ap (sets out at) (sym none-bytes))
+    empty_begun h l l' f g = begun (set_bytes n) 0 at out 12 none_length h l' (put_eight out l l' at 0 0 (bytes_be 4 0) f g ∙ ap (sets out at) (sym none_bytes))
 
   module _ (e : n ≡ 0 → ⊥) where
     some_bytes : set_bytes n ≡ bytes_be 4 1 ++ (bytes_be 4 0 ++ (bytes_be 4 0 ++ (bytes_be 4 n ++ bytes_be 4 1)))
     unfolding set_bytes pick bytes_be
     some_bytes = rw (ne_eqb n 0 e)
 
-    some-length : length (set_bytes n) ≡ 20
+    some_length : length (set_bytes n) ≡ 20
     unfolding bytes_be
-    some-length = rw some_bytes
+    some_length = rw some_bytes
 
     pub some_not : 65535 < at + 20 → shut ≡ begin_at (front (set_bytes n) 0) at out
-    some_not h = begun_not (set_bytes n) 0 at out 20 some-length h
+    some_not h = begun_not (set_bytes n) 0 at out 20 some_length h
 
     pub some_begun : at + 20 ≤ 65535 → (l l' l'' : List ℕ) → l ≡ sets out at (bytes_be 4 1 ++ bytes_be 4 0) → l' ≡ sets l (at + 8) (bytes_be 4 0 ++ bytes_be 4 n)
         → l'' ≡ sets l' (at + 16) (bytes_be 4 1) → begins 0 (at + 20) l'' ≡ begin_at (front (set_bytes n) 0) at out
     some_begun h l l' l'' f g k =
         let s : at + 8 + 8 ≡ at + 16 = omega arith in
         let t : l'' ≡ sets l (at + 8) (bytes_be 4 0 ++ (bytes_be 4 n ++ bytes_be 4 1)) = put_eight l l' l'' (at + 8) 0 n (bytes_be 4 1) g (rw s k) in
-        begun (set_bytes n) 0 at out 20 some-length h l''
+        begun (set_bytes n) 0 at out 20 some_length h l''
         (put_eight out l l'' at 1 0 (bytes_be 4 0 ++ (bytes_be 4 n ++ bytes_be 4 1)) f t ∙ ap (sets out at) (sym some_bytes))
 
 -- ---- a number of elements
 
 module _ (n at : ℕ) (out : List ℕ) where
   pub count_not : 65535 < at + 4 → shut ≡ begin_at (front (bytes_be 4 n) 0) at out
-  count_not h = begun_not (bytes_be 4 n) 0 at out 4 (length-bytes 4 n) h
+  count_not h = begun_not (bytes_be 4 n) 0 at out 4 (length_bytes 4 n) h
 
   pub count_begun : at + 4 ≤ 65535 → (l : List ℕ) → l ≡ sets out at (bytes_be 4 n) → begins 0 (at + 4) l ≡ begin_at (front (bytes_be 4 n) 0) at out
-  count_begun h l e = begun (bytes_be 4 n) 0 at out 4 (length-bytes 4 n) h l e
+  count_begun h l e = begun (bytes_be 4 n) 0 at out 4 (length_bytes 4 n) h l e
 
 -- ---- a range
 
@@ -97,53 +97,53 @@ module _ (src : List ℕ) (c : Claim) (at : ℕ) (out : List ℕ) where
     flags : ℕ
     flags = get_or src c.start 0
 
-    range-is : range_front src c ≡ pick (range_flags flags) (bounds_front flags c.count (bounds flags)) no_front
+    range_is : range_front src c ≡ pick (range_flags flags) (bounds_front flags c.count (bounds flags)) no_front
     unfolding range_front pick flags
-    range-is = rw (lt-ltb c.start (length src) h)
+    range_is = rw (lt-ltb c.start (length src) h)
 
     -- the head that is read from the byte of the flags alone, as the code lends it
-    opening-is : range_opening (take (c.start + 1 - c.start) (drop c.start src)) ≡ pick (range_flags flags) (bounds flags) (Wrong 22)
+    opening_is : range_opening (take (c.start + 1 - c.start) (drop c.start src)) ≡ pick (range_flags flags) (bounds flags) (Wrong 22)
     unfolding range_opening pick flags
-    opening-is =
+    opening_is =
         let n : c.start + 1 - c.start ≡ 1 = add-sub_cancel_left c.start 1 in
         let k : 1 ≤ length (take 1 (drop c.start src)) = simp (length-take, length-drop) (omega arith) in
         rw (n, le-ltb (length (take 1 (drop c.start src))) 1 k, get_or-take 1 (drop c.start src) 0 0 (omega arith), get_or-drop, add-zero)
 
     module _ (o : Opening) (e : o ≡ range_opening (take (c.start + 1 - c.start) (drop c.start src))) where
-      by-opening : range_front src c ≡ bounds_front flags c.count o
+      by_opening : range_front src c ≡ bounds_front flags c.count o
       unfolding bounds_front pick
-      by-opening = go (range_flags flags) refl
+      by_opening = go (range_flags flags) refl
         where
           go : (b : Bool) → range_flags flags ≡ b → range_front src c ≡ bounds_front flags c.count o
-          go true f = range-is ∙ rw (f, e, opening-is, f)
-          go false f = range-is ∙ rw (f, e, opening-is, f)
+          go true f = range_is ∙ rw (f, e, opening_is, f)
+          go false f = range_is ∙ rw (f, e, opening_is, f)
 
       pub range_unknown : (n : ℕ) → o ≡ Wrong n → shut ≡ begin_at (range_front src c) at out
       unfolding bounds_front begin_at
-      range_unknown n f = rw (by-opening, f)
+      range_unknown n f = rw (by_opening, f)
 
       module _ (n first from : ℕ) (f : o ≡ Elements n first from) where
         pub range_other : (c.count ≡ n → ⊥) → shut ≡ begin_at (range_front src c) at out
         unfolding bounds_front begin_at pick
-        range_other g = rw (by-opening, f, ne_eqb c.count n g)
+        range_other g = rw (by_opening, f, ne_eqb c.count n g)
 
         module _ (g : c.count ≡ n) where
-          begun-is : range_front src c ≡ front (flags ∷ []) first
+          begun_is : range_front src c ≡ front (flags ∷ []) first
           unfolding bounds_front pick
-          begun-is = by-opening ∙ rw (f, eq-eqb c.count n g)
+          begun_is = by_opening ∙ rw (f, eq-eqb c.count n g)
 
           pub range_not : 65535 ≤ at → shut ≡ begin_at (range_front src c) at out
-          range_not l = rw begun-is (begun_not (flags ∷ []) first at out 1 refl (omega arith))
+          range_not l = rw begun_is (begun_not (flags ∷ []) first at out 1 refl (omega arith))
 
           pub range_begun : at < 65535 → (out' : List ℕ) → out' ≡ set out at (get_or src c.start 0) → begins first (at + 1) out' ≡ begin_at (range_front src c) at out
           unfolding flags
-          range_begun l out' x = rw begun-is (begun (flags ∷ []) first at out 1 refl (omega arith) out' x)
+          range_begun l out' x = rw begun_is (begun (flags ∷ []) first at out 1 refl (omega arith) out' x)
 
   -- the first index
-  first-bound : (flags : ℕ) (b : List ℕ) (first : ℕ) (o : Opening) → ((n i from : ℕ) → o ≡ Elements n i from → i ≤ 2) → bounds_front flags c.count o ≡ front b first → first ≤ 2
+  first_bound : (flags : ℕ) (b : List ℕ) (first : ℕ) (o : Opening) → ((n i from : ℕ) → o ≡ Elements n i from → i ≤ 2) → bounds_front flags c.count o ≡ front b first → first ≤ 2
   unfolding bounds_front pick
-  first-bound f b first (Wrong n) h e = let z : ◌≡◌ {A = ℕ} 0 1 = cc in absurd (omega arith)
-  first-bound f b first (Elements n i from) h e = go (eqb c.count n) e
+  first_bound f b first (Wrong n) h e = let z : ◌≡◌ {A = ℕ} 0 1 = cc in absurd (omega arith)
+  first_bound f b first (Elements n i from) h e = go (eqb c.count n) e
     where
       go : (t : Bool) → pick t (front (f ∷ []) i) no_front ≡ front b first → first ≤ 2
       go true g = let x : i ≡ first = cc in omega (arith, h n i from refl)
@@ -153,9 +153,9 @@ module _ (src : List ℕ) (c : Claim) (at : ℕ) (out : List ℕ) where
   unfolding range_front pick
   range_first b first e =
       elim (dec_lt c.start (length src)) [
-        | yes h ↦ first-bound _ b first (range_opening (take (c.start + 1 - c.start) (drop c.start src)))
+        | yes h ↦ first_bound _ b first (range_opening (take (c.start + 1 - c.start) (drop c.start src)))
             (λ n i from f. omega (arith, (range_opened (take (c.start + 1 - c.start) (drop c.start src)) n i from f).0))
-            (sym (by-opening h _ refl) ∙ e)
+            (sym (by_opening h _ refl) ∙ e)
         | no h ↦ let f = rw (le-ltb c.start (length src) (omega arith)) at e in let z : ◌≡◌ {A = ℕ} 0 1 = cc in absurd (omega arith)
       ]
 

@@ -8,7 +8,7 @@ use lib.Dec.{eqb}
 use lib.ListN.{length, get_or, length-append}
 use lib.Seq.{sets}
 use borrow.Author.Tests.{eq-eqb, ne_eqb}
-use Rattle.wire.proofs.Numbers.{length-bytes}
+use Rattle.wire.proofs.Numbers.{length_bytes}
 use Rattle.wire.proofs.Picks.{clash}
 use Rattle.value_parts.specs.Walk.{Container}
 use Rattle.supply_entries.specs.Emitting.{head_of, head_size, with_kind}
@@ -55,10 +55,10 @@ module _ (p : List ℕ) (k kind : ℕ) (c : Container p k kind) (i n : ℕ) wher
   head_is = by_kind p k kind c (λ m v. head_of m i n ≡ head_bytes v i n) refl refl refl refl refl refl
 
   pair : (a b : ℕ) → length (bytes_be 4 a ++ bytes_be 4 b) ≡ 8
-  pair a b = omega (arith, length-append (bytes_be 4 a) (bytes_be 4 b), length-bytes 4 a, length-bytes 4 b)
+  pair a b = omega (arith, length-append (bytes_be 4 a) (bytes_be 4 b), length_bytes 4 a, length_bytes 4 b)
 
   reserved : length (zeros 4 ++ bytes_be 4 n) ≡ 8
-  reserved = omega (arith, length-append (zeros 4) (bytes_be 4 n), length-bytes 4 n)
+  reserved = omega (arith, length-append (zeros 4) (bytes_be 4 n), length_bytes 4 n)
 
   envelope : length (bytes_be 4 (12 + n) ++ (bytes_be 4 1 ++ (zeros 4 ++ bytes_be 4 n))) ≡ 16
   envelope =
@@ -66,15 +66,15 @@ module _ (p : List ℕ) (k kind : ℕ) (c : Container p k kind) (i n : ℕ) wher
         arith,
         length-append (bytes_be 4 (12 + n)) (bytes_be 4 1 ++ (zeros 4 ++ bytes_be 4 n)),
         length-append (bytes_be 4 1) (zeros 4 ++ bytes_be 4 n),
-        length-bytes 4 (12 + n),
-        length-bytes 4 1,
+        length_bytes 4 (12 + n),
+        length_bytes 4 1,
         reserved,
       )
 
-  pub head-length : length (head_bytes (look p k) i n) ≡ head_size kind
+  pub head_length : length (head_bytes (look p k) i n) ≡ head_size kind
   unfolding head_bytes head_size pick
-  head-length =
-      by_kind p k kind c (λ m v. length (head_bytes v i n) ≡ head_size m) (length-bytes 4 n) envelope reserved reserved (pair i n) (length-bytes 4 n)
+  head_length =
+      by_kind p k kind c (λ m v. length (head_bytes v i n) ≡ head_size m) (length_bytes 4 n) envelope reserved reserved (pair i n) (length_bytes 4 n)
 
 size_between : (kind : ℕ) → (4 ≤ head_size kind) × (head_size kind ≤ 16)
 unfolding head_size pick

@@ -28,7 +28,7 @@ use Rattle.protocol.specs.Nodes.{ref_at}
 use Rattle.protocol.specs.Plans.{look}
 use Rattle.plan_nodes.specs.Readers.{At}
 use Rattle.protocol.specs.Supplies.{Claim, next, next_of}
-use Rattle.protocol.specs.Building.{Made, part_made, buildOf}
+use Rattle.protocol.specs.Building.{Made, part_made, build_of}
 
 -- ---- whether its bytes are permitted
 
@@ -50,38 +50,38 @@ module _ (src p : List ℕ) (k kind : ℕ) (is : Container p k kind) (c : Claim)
       → (out₂ : List ℕ) → out₂ ≡ sets out₁ at (head_of kind c.index c.size)
       → (rest ws : List ℕ) → next_of ws ≡ next c rest
       → stands rest (at + h + (c.start + c.size - c.start)) out₂
-      ≡ put_at (part_made (buildOf src (look p)) (look p k) (ref_at (look p k) c.index) c rest ws) at out
+      ≡ put_at (part_made (build_of src (look p)) (look p k) (ref_at (look p k) c.index) c rest ws) at out
   leaf_put h eh small inside b eb true-b out₁ o₁ out₂ o₂ rest ws e =
       let n : c.start + c.size - c.start ≡ c.size = add-sub_cancel_left c.start c.size in
       let fit : leaf_good (look p r) (take (c.start + c.size - c.start) (drop c.start src)) ≡ true = sym eb ∙ true-b in
       let there : c.size ≡ ABSENT → ⊥ = λ g. omega arith in
       let few : at + h + c.size ≤ 65535 = omega arith in
-      let q : stands rest (at + h + c.size) out₁ ≡ put_at (buildOf src (look p) r c.index ws) (at + h) out =
+      let q : stands rest (at + h + c.size) out₁ ≡ put_at (build_of src (look p) r c.index ws) (at + h) out =
       leaf_done (leaf_good (look p r)) src c rest (at + h) out z inside (take (c.start + c.size - c.start) (drop c.start src)) refl
       (leaf_good (look p r) (take (c.start + c.size - c.start) (drop c.start src))) refl fit few out₁ o₁
       ∙ value_leaf src p r a c rest ws e there (at + h) out en (leaf_only p r (kind_gives p r a) (take (c.start + c.size - c.start) (drop c.start src)) fit) in
       ap (λ (m : ℕ). stands rest (at + h + m) out₂) n
-      ∙ member_go p k kind is (buildOf src (look p)) c rest ws r er at out there h eh rest (at + h + c.size) out₁ q out₂
+      ∙ member_go p k kind is (build_of src (look p)) c rest ws r er at out there h eh rest (at + h + c.size) out₁ q out₂
       (o₂ ∙ ap (λ (m : ℕ). sets out₁ at (head_of kind c.index m)) (sym (add-sub_cancel_left (at + h) c.size)))
 
 -- ---- what is put out, and when
 
 module _ (src p : List ℕ) (k kind : ℕ) (e : Entry) (child : ℕ) (er : ref_at (look p k) e.index ≡ some child) (at : ℕ) (out : List ℕ) where
-  known-to : (r : Emitted) → r ≡ leaf_size src p kind child e at → (child' : ℕ) → ref_at (look p k) e.index ≡ some child' → r ≡ leaf_size src p kind child' e at
-  known-to r q child' er' = let z : some child ≡ some child' = sym er ∙ er' in let y : child ≡ child' = cc in rw y at q
+  known_to : (r : Emitted) → r ≡ leaf_size src p kind child e at → (child' : ℕ) → ref_at (look p k) e.index ≡ some child' → r ≡ leaf_size src p kind child' e at
+  known_to r q child' er' = let z : some child ≡ some child' = sym er ∙ er' in let y : child ≡ child' = cc in rw y at q
 
-  other-put : Other ≡ leaf_size src p kind child e at → LeafPut src p k kind e at out Other out
-  other-put q =
-      record { is = known-to Other q; kept = λ _. refl; put = λ to z. let y : ◌≡◌ {A = ℕ} 0 1 = cc in absurd (omega arith) }
+  other_put : Other ≡ leaf_size src p kind child e at → LeafPut src p k kind e at out Other out
+  other_put q =
+      record { is = known_to Other q; kept = λ _. refl; put = λ to z. let y : ◌≡◌ {A = ℕ} 0 1 = cc in absurd (omega arith) }
 
   pub put_stranger : (e.node ≡ child → ⊥) → LeafPut src p k kind e at out Other out
   unfolding leaf_size pick
-  put_stranger n = other-put (rw (ne_eqb e.node child n))
+  put_stranger n = other_put (rw (ne_eqb e.node child n))
 
   module _ (en : e.node ≡ child) where
     pub put_above : (e.count ≡ 0 → ⊥) → LeafPut src p k kind e at out Other out
     unfolding leaf_size pick
-    put_above n = other-put (rw (eq-eqb e.node child en, ne_eqb e.count 0 n))
+    put_above n = other_put (rw (eq-eqb e.node child en, ne_eqb e.count 0 n))
 
     module _ (ec : e.count ≡ 0) (h : ℕ) (eh : h ≡ head_size kind) where
       abbrev size : ℕ
@@ -92,13 +92,13 @@ module _ (src p : List ℕ) (k kind : ℕ) (e : Entry) (child : ℕ) (er : ref_a
 
       pub put_large : 65535 < at + size → LeafPut src p k kind e at out Other out
       unfolding leaf_size pick
-      put_large l = other-put (rw (eq-eqb e.node child en, eq-eqb e.count 0 ec, lt-ltb 65535 (at + (head_size kind + e.size)) (omega (arith, size_is))))
+      put_large l = other_put (rw (eq-eqb e.node child en, eq-eqb e.count 0 ec, lt-ltb 65535 (at + (head_size kind + e.size)) (omega (arith, size_is))))
 
       module _ (small : at + size ≤ 65535) where
         pub put_outside : length src < e.start + e.size → LeafPut src p k kind e at out Other out
         unfolding leaf_size pick
         put_outside l =
-            other-put (rw (eq-eqb e.node child en, eq-eqb e.count 0 ec, le-ltb 65535 (at + (head_size kind + e.size)) (omega (arith, size_is)), lt-ltb (length src) (e.start + e.size) l))
+            other_put (rw (eq-eqb e.node child en, eq-eqb e.count 0 ec, le-ltb 65535 (at + (head_size kind + e.size)) (omega (arith, size_is)), lt-ltb (length src) (e.start + e.size) l))
 
         module _ (inside : e.start + e.size ≤ length src) (b : Bool) (eb : b ≡ leaf_good (look p child) (take (e.start + e.size - e.start) (drop e.start src))) where
           judged : pick b (Leaf size) Other ≡ leaf_size src p kind child e at
@@ -110,14 +110,14 @@ module _ (src p : List ℕ) (k kind : ℕ) (e : Entry) (child : ℕ) (er : ref_a
 
           pub put_bad : b ≡ false → LeafPut src p k kind e at out Other out
           unfolding pick
-          put_bad f = other-put (rw f at judged)
+          put_bad f = other_put (rw f at judged)
 
           pub put_good : Container p k kind → At p child → b ≡ true → (out₁ : List ℕ) → out₁ ≡ sets out (at + h) (take (e.start + e.size - e.start) (drop e.start src))
               → (out₂ : List ℕ) → out₂ ≡ sets out₁ at (head_of kind e.index e.size) → LeafPut src p k kind e at out (Leaf size) out₂
           unfolding pick
           put_good is a t out₁ o₁ out₂ o₂ =
               record {
-                is = known-to (Leaf size) (rw t at judged);
+                is = known_to (Leaf size) (rw t at judged);
                 kept = λ z. let y : ◌≡◌ {A = ℕ} 0 1 = cc in absurd (omega arith);
                 put = λ n z rest ws q.
                     let y : size ≡ n = cc in

@@ -9,7 +9,7 @@ use lib.Dec.{leb}
 use lib.ListN.{length, drop, length-append}
 use lib.Seq.{sets}
 use borrow.Author.Tests.{le-leb, lt-leb, leb-true, leb-false}
-use Rattle.wire.proofs.Stores.{sets-append}
+use Rattle.wire.proofs.Stores.{sets_append}
 use Rattle.supply_entries.specs.Emitting.{Stand, broken, stands, put_at, stand_of}
 use Rattle.supply_entries.specs.declared.Built.{Built}
 use Rattle.supply_entries.specs.declared.Built.TheVariants.{Failed, Done}
@@ -77,7 +77,7 @@ broken_is P (made b ws) at out e w l = go (leb (at + length b) 65535) refl e
 pub put_before_lem : (b : List ℕ) (m : Made) (at : ℕ) (out : List ℕ) → put_at (made_before b m) at out ≡ put_at m (at + length b) (sets out at b)
 unfolding made_before put_at
 put_before_lem b wrong at out = refl
-put_before_lem b (made c ws) at out = rw (length-append, ← add_assoc, ← sets-append)
+put_before_lem b (made c ws) at out = rw (length-append, ← add_assoc, ← sets_append)
 
 past : (m : Made) (at : ℕ) (out : List ℕ) → 65535 < at → broken ≡ put_at m at out
 unfolding put_at

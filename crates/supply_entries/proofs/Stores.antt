@@ -6,8 +6,8 @@ use native.Mathlib.Omega.{arith}
 use native.Mathlib.Nat.{add-zero}
 use lib.ListN.{length, set, drop, length-append, drop_of_length-le}
 use lib.Seq.{sets, set_comm, sets-eq}
-use Rattle.wire.proofs.Numbers.{length-bytes}
-use Rattle.wire.proofs.Stores.{sets-append}
+use Rattle.wire.proofs.Numbers.{length_bytes}
+use Rattle.wire.proofs.Stores.{sets_append}
 use Rattle.protocol.specs.Numbers.{bytes_be}
 
 -- a store before a run of stores may as well come first
@@ -28,16 +28,16 @@ sets_before l k (h ∷ hs) bs =
 -- one run of stores after the other
 pub put_after : (n : ℕ) (l l' l'' : List ℕ) (at : ℕ) (fs bs : List ℕ) → length fs ≡ n → l' ≡ sets l at fs → l'' ≡ sets l' (at + n) bs → l'' ≡ sets l at (fs ++ bs)
 put_after n l l' l'' at fs bs e f g =
-    g ∙ ap (λ (k : List ℕ). sets k (at + n) bs) f ∙ ap (λ (k : ℕ). sets (sets l at fs) (at + k) bs) (sym e) ∙ sets-append l at fs bs
+    g ∙ ap (λ (k : List ℕ). sets k (at + n) bs) f ∙ ap (λ (k : ℕ). sets (sets l at fs) (at + k) bs) (sym e) ∙ sets_append l at fs bs
 
 -- a number of four bytes, or two, and what comes after
 pub put_four : (l l' l'' : List ℕ) (at a : ℕ) (bs : List ℕ) → l' ≡ sets l at (bytes_be 4 a) → l'' ≡ sets l' (at + 4) bs → l'' ≡ sets l at (bytes_be 4 a ++ bs)
-put_four l l' l'' at a bs = put_after 4 l l' l'' at (bytes_be 4 a) bs (length-bytes 4 a)
+put_four l l' l'' at a bs = put_after 4 l l' l'' at (bytes_be 4 a) bs (length_bytes 4 a)
 
 pub put_eight : (l l' l'' : List ℕ) (at a b : ℕ) (bs : List ℕ) → l' ≡ sets l at (bytes_be 4 a ++ bytes_be 4 b) → l'' ≡ sets l' (at + 8) bs
     → l'' ≡ sets l at (bytes_be 4 a ++ (bytes_be 4 b ++ bs))
 put_eight l l' l'' at a b bs f g =
-    put_after 8 l l' l'' at (bytes_be 4 a ++ bytes_be 4 b) bs (omega (arith, length-append (bytes_be 4 a) (bytes_be 4 b), length-bytes 4 a, length-bytes 4 b)) f g
+    put_after 8 l l' l'' at (bytes_be 4 a ++ bytes_be 4 b) bs (omega (arith, length-append (bytes_be 4 a) (bytes_be 4 b), length_bytes 4 a, length_bytes 4 b)) f g
     ∙ ap (sets l at) (append_assoc (bytes_be 4 a) (bytes_be 4 b) bs)
 
 -- stores that fill a list
@@ -48,4 +48,4 @@ sets_all l vs e =
 
 -- a number of four bytes, put through an array of four
 pub put_through : (v at : ℕ) (l l' bytes : List ℕ) → bytes ≡ sets (0 ∷ 0 ∷ 0 ∷ 0 ∷ []) 0 (bytes_be 4 v) → l' ≡ sets l at bytes → l' ≡ sets l at (bytes_be 4 v)
-put_through v at l l' bytes e f = f ∙ ap (sets l at) (e ∙ sets_all (0 ∷ 0 ∷ 0 ∷ 0 ∷ []) (bytes_be 4 v) (sym (length-bytes 4 v)))
+put_through v at l l' bytes e f = f ∙ ap (sets l at) (e ∙ sets_all (0 ∷ 0 ∷ 0 ∷ 0 ∷ []) (bytes_be 4 v) (sym (length_bytes 4 v)))

@@ -27,7 +27,7 @@ use Rattle.protocol.specs.Values.{no_marks}
 use Rattle.protocol.specs.Plans.{look, refs_at, cards_at}
 use Rattle.plan_nodes.specs.Readers.{At}
 use Rattle.protocol.specs.Supplies.{Claim, short, next, next_of}
-use Rattle.protocol.specs.Building.{wrong, Builder, Front, no_front, front, front_of, count_front, row_order, sparse_order, elementsMade, leaf_made, row_made, sparse_made, nodeMade, entryMade, buildOf}
+use Rattle.protocol.specs.Building.{wrong, Builder, Front, no_front, front, front_of, count_front, row_order, sparse_order, elements_made, leaf_made, row_made, sparse_made, node_made, entry_made, build_of}
 
 -- ---- a container's front and its elements
 
@@ -67,8 +67,8 @@ front_first (object refs cards) src c b first x e = omega (arith, (count_is (len
 front_first (sparse refs cards) src c b first x e = absurd x
 front_first (range r) src c b first x e = range_first src c 0 [] b first e
 
-by_row : (src : List ℕ) (v : Node) (rule : Builder) (c : Claim) (ws : List ℕ) → IsRow v → nodeMade src v rule c ws ≡ row_made rule v (front_of v src c) c ws
-unfolding IsRow nodeMade
+by_row : (src : List ℕ) (v : Node) (rule : Builder) (c : Claim) (ws : List ℕ) → IsRow v → node_made src v rule c ws ≡ row_made rule v (front_of v src c) c ws
+unfolding IsRow node_made
 by_row src (leaf f) rule c ws x = absurd x
 by_row src enum rule c ws x = absurd x
 by_row src (row r) rule c ws x = refl
@@ -94,36 +94,36 @@ sparse_shut rule refs cards x c ws at out e =
 
 -- and one whose head was
 row_begun : (rule : Builder) (v : Node) (x : Front) (c : Claim) (ws : List ℕ) (at : ℕ) (out : List ℕ) (first from : ℕ) (out' : List ℕ) → Began x at out first from out'
-    → put_at (elementsMade row_order rule v c.count first ws) from out' ≡ put_at (row_made rule v x c ws) at out
+    → put_at (elements_made row_order rule v c.count first ws) from out' ≡ put_at (row_made rule v x c ws) at out
 unfolding row_made
 row_begun rule v x c ws at out first from out' g = rw (g.is, g.next, g.output) (sym (put_before_lem g.bytes _ at out))
 
 sparse_begun : (rule : Builder) (refs cards : List ℕ) (x : Front) (c : Claim) (ws : List ℕ) (at : ℕ) (out : List ℕ) (first from : ℕ) (out' : List ℕ) → Began x at out first from out'
-    → put_at (elementsMade (sparse_order cards) rule (sparse refs cards) c.count no_marks ws) from out' ≡ put_at (sparse_made rule refs cards x c ws) at out
+    → put_at (elements_made (sparse_order cards) rule (sparse refs cards) c.count no_marks ws) from out' ≡ put_at (sparse_made rule refs cards x c ws) at out
 unfolding sparse_made
 sparse_begun rule refs cards x c ws at out first from out' g = rw (g.is, g.next, g.output) (sym (put_before_lem g.bytes _ at out))
 
 -- ---- a value's entry
 
 module _ (src p : List ℕ) (k : ℕ) (a : At p k) (i : ℕ) (ws : List ℕ) (at : ℕ) (out : List ℕ) where
-  step_is : buildOf src (look p) k i ws ≡ entryMade src (look p k) (buildOf src (look p)) k i (next_of ws)
+  step_is : build_of src (look p) k i ws ≡ entry_made src (look p k) (build_of src (look p)) k i (next_of ws)
   step_is = build_step src (look p) (At p) (λ j n r. at_ref p j n r) k a a.small i ws
 
-  pub value_short : next_of ws ≡ short → broken ≡ put_at (buildOf src (look p) k i ws) at out
-  unfolding entryMade put_at
+  pub value_short : next_of ws ≡ short → broken ≡ put_at (build_of src (look p) k i ws) at out
+  unfolding entry_made put_at
   value_short e = rw (step_is, e)
 
   module _ (c : Claim) (rest : List ℕ) (e : next_of ws ≡ next c rest) where
-    pub value_index : (c.index ≡ i → ⊥) → broken ≡ put_at (buildOf src (look p) k i ws) at out
-    unfolding entryMade put_at pick
+    pub value_index : (c.index ≡ i → ⊥) → broken ≡ put_at (build_of src (look p) k i ws) at out
+    unfolding entry_made put_at pick
     value_index n = rw (step_is, e, ne_eqb c.index i n) (go (eqb c.node k))
       where
         go : (t : Bool) → broken ≡ put_at (pick t wrong wrong) at out
         go true = refl
         go false = refl
 
-    pub value_absent : c.size ≡ ABSENT → broken ≡ put_at (buildOf src (look p) k i ws) at out
-    unfolding entryMade put_at pick
+    pub value_absent : c.size ≡ ABSENT → broken ≡ put_at (build_of src (look p) k i ws) at out
+    unfolding entry_made put_at pick
     value_absent n = rw (step_is, e, eq-eqb c.size ABSENT n) (go (eqb c.node k) (eqb c.index i))
       where
         go : (t u : Bool) → broken ≡ put_at (pick t (pick u wrong wrong) wrong) at out
@@ -134,21 +134,21 @@ module _ (src p : List ℕ) (k : ℕ) (a : At p k) (i : ℕ) (ws : List ℕ) (at
 -- ---- a value by its node
 
 module _ (src p : List ℕ) (k : ℕ) (a : At p k) (c : Claim) (rest ws : List ℕ) (e : next_of ws ≡ next c rest) (there : c.size ≡ ABSENT → ⊥) (at : ℕ) (out : List ℕ) where
-  value-is : buildOf src (look p) k c.index ws ≡ pick (eqb c.node k) (nodeMade src (look p k) (buildOf src (look p)) c rest) wrong
-  unfolding entryMade pick
-  value-is = step_is src p k a c.index ws at out ∙ rw (e, eq-eqb c.index c.index refl, ne_eqb c.size ABSENT there)
+  value_is : build_of src (look p) k c.index ws ≡ pick (eqb c.node k) (node_made src (look p k) (build_of src (look p)) c rest) wrong
+  unfolding entry_made pick
+  value_is = step_is src p k a c.index ws at out ∙ rw (e, eq-eqb c.index c.index refl, ne_eqb c.size ABSENT there)
 
-  pub value_node : (c.node ≡ k → ⊥) → broken ≡ put_at (buildOf src (look p) k c.index ws) at out
+  pub value_node : (c.node ≡ k → ⊥) → broken ≡ put_at (build_of src (look p) k c.index ws) at out
   unfolding put_at pick
-  value_node n = rw (value-is, ne_eqb c.node k n)
+  value_node n = rw (value_is, ne_eqb c.node k n)
 
   module _ (n : c.node ≡ k) where
-    node_is : buildOf src (look p) k c.index ws ≡ nodeMade src (look p k) (buildOf src (look p)) c rest
+    node_is : build_of src (look p) k c.index ws ≡ node_made src (look p k) (build_of src (look p)) c rest
     unfolding pick
-    node_is = value-is ∙ rw (eq-eqb c.node k n)
+    node_is = value_is ∙ rw (eq-eqb c.node k n)
 
-    pub value_leaf : leaf_kind (get_or p k 0) ≡ true → put_at (leaf_made (leaf_good (look p k)) src c rest) at out ≡ put_at (buildOf src (look p) k c.index ws) at out
-    unfolding nodeMade leaf_made leaf_good
+    pub value_leaf : leaf_kind (get_or p k 0) ≡ true → put_at (leaf_made (leaf_good (look p k)) src c rest) at out ≡ put_at (build_of src (look p) k c.index ws) at out
+    unfolding node_made leaf_made leaf_good
     value_leaf x =
         ⊎_elim
         (λ (f : get_or p k 0 ≡ 8). rw (node_is, look_enum p k f))
@@ -156,21 +156,21 @@ module _ (src p : List ℕ) (k : ℕ) (a : At p k) (c : Claim) (rest ws : List �
         (same_or_not (get_or p k 0) 8)
 
     module _ (kind : ℕ) (is : Container p k kind) where
-      row_is : (kind ≡ 6 → ⊥) → buildOf src (look p) k c.index ws ≡ row_made (buildOf src (look p)) (look p k) (front_of (look p k) src c) c rest
-      row_is y = node_is ∙ by_row src (look p k) (buildOf src (look p)) c rest (is_row p k a kind is (λ f. y (is.is ∙ f)))
+      row_is : (kind ≡ 6 → ⊥) → build_of src (look p) k c.index ws ≡ row_made (build_of src (look p)) (look p k) (front_of (look p k) src c) c rest
+      row_is y = node_is ∙ by_row src (look p k) (build_of src (look p)) c rest (is_row p k a kind is (λ f. y (is.is ∙ f)))
 
-      sparse-is : kind ≡ 6 → buildOf src (look p) k c.index ws ≡ sparse_made (buildOf src (look p)) (refs_at p k) (cards_at p k) (front_of (look p k) src c) c rest
-      unfolding nodeMade
-      sparse-is y = node_is ∙ rw (look_sparse p k (sym is.is ∙ y))
+      sparse_is : kind ≡ 6 → build_of src (look p) k c.index ws ≡ sparse_made (build_of src (look p)) (refs_at p k) (cards_at p k) (front_of (look p k) src c) c rest
+      unfolding node_made
+      sparse_is y = node_is ∙ rw (look_sparse p k (sym is.is ∙ y))
 
       module _ (r : Opened) (out' : List ℕ) (q : beginning_of r out' ≡ begin_at (front_of (look p k) src c) at out) where
-        pub value_shut : r ≡ Shut → broken ≡ put_at (buildOf src (look p) k c.index ws) at out
+        pub value_shut : r ≡ Shut → broken ≡ put_at (build_of src (look p) k c.index ws) at out
         unfolding beginning_of
         value_shut o =
             let s = rw o at q in
             ⊎_elim
-            (λ (y : kind ≡ 6). rw (sparse-is y) (sparse_shut (buildOf src (look p)) (refs_at p k) (cards_at p k) (front_of (look p k) src c) c rest at out s))
-            (λ (y : kind ≡ 6 → ⊥). rw (row_is y) (row_shut (buildOf src (look p)) (look p k) (front_of (look p k) src c) c rest at out s))
+            (λ (y : kind ≡ 6). rw (sparse_is y) (sparse_shut (build_of src (look p)) (refs_at p k) (cards_at p k) (front_of (look p k) src c) c rest at out s))
+            (λ (y : kind ≡ 6 → ⊥). rw (row_is y) (row_shut (build_of src (look p)) (look p k) (front_of (look p k) src c) c rest at out s))
             (same_or_not kind 6)
 
         module _ (first from : ℕ) (o : r ≡ Open first from) where
@@ -182,15 +182,15 @@ module _ (src p : List ℕ) (k : ℕ) (a : At p k) (c : Claim) (rest ws : List �
           opened_small = began.small
 
           pub value_sparse : kind ≡ 6
-              → put_at (elementsMade (sparse_order (cards_at p k)) (buildOf src (look p)) (look p k) c.count no_marks rest) from out'
-              ≡ put_at (buildOf src (look p) k c.index ws) at out
+              → put_at (elements_made (sparse_order (cards_at p k)) (build_of src (look p)) (look p k) c.count no_marks rest) from out'
+              ≡ put_at (build_of src (look p) k c.index ws) at out
           value_sparse y =
-              rw (sparse-is y) (ap (λ (v : Node). put_at (elementsMade (sparse_order (cards_at p k)) (buildOf src (look p)) v c.count no_marks rest) from out') (look_sparse p k (sym is.is ∙ y))
-              ∙ sparse_begun (buildOf src (look p)) (refs_at p k) (cards_at p k) (front_of (look p k) src c) c rest at out first from out' began)
+              rw (sparse_is y) (ap (λ (v : Node). put_at (elements_made (sparse_order (cards_at p k)) (build_of src (look p)) v c.count no_marks rest) from out') (look_sparse p k (sym is.is ∙ y))
+              ∙ sparse_begun (build_of src (look p)) (refs_at p k) (cards_at p k) (front_of (look p k) src c) c rest at out first from out' began)
 
           module _ (y : kind ≡ 6 → ⊥) where
-            pub value_row : put_at (elementsMade row_order (buildOf src (look p)) (look p k) c.count first rest) from out' ≡ put_at (buildOf src (look p) k c.index ws) at out
-            value_row = rw (row_is y) (row_begun (buildOf src (look p)) (look p k) (front_of (look p k) src c) c rest at out first from out' began)
+            pub value_row : put_at (elements_made row_order (build_of src (look p)) (look p k) c.count first rest) from out' ≡ put_at (build_of src (look p) k c.index ws) at out
+            value_row = rw (row_is y) (row_begun (build_of src (look p)) (look p k) (front_of (look p k) src c) c rest at out first from out' began)
 
             pub opened_holds : Holds (look p k) (first + c.count)
             opened_holds = front_holds (look p k) src c began.bytes first (is_row p k a kind is (λ f. y (is.is ∙ f))) began.is

@@ -20,7 +20,7 @@ use Rattle.protocol.specs.Nodes.{Node, row, arrays, tuple, sparse, range, ref_at
 use Rattle.protocol.specs.Values.{no_marks}
 use Rattle.protocol.specs.Plans.{look, cards_at}
 use Rattle.protocol.specs.Supplies.{Claim, Next, short, next, next_of}
-use Rattle.protocol.specs.Building.{head_bytes, no_front, elementsMade, front, part_made, wrong, sparse_order, buildOf, Made, made, Front}
+use Rattle.protocol.specs.Building.{head_bytes, no_front, elements_made, front, part_made, wrong, sparse_order, build_of, Made, made, Front}
 
 -- ---- entries
 
@@ -97,7 +97,7 @@ pub record LeafPut (src p : List ℕ) (k kind : ℕ) (e : Entry) (at : ℕ) (out
   pub is : (child : ℕ) → ref_at (look p k) e.index ≡ some child → r ≡ leaf_size src p kind child e at
   pub kept : r ≡ Other → out' ≡ out
   pub put : (n : ℕ) → r ≡ Leaf n → (rest ws : List ℕ) → next_of ws ≡ next (claim e) rest
-      → stands rest (at + n) out' ≡ put_at (part_made (buildOf src (look p)) (look p k) (ref_at (look p k) e.index) (claim e) rest ws) at out
+      → stands rest (at + n) out' ≡ put_at (part_made (build_of src (look p)) (look p k) (ref_at (look p k) e.index) (claim e) rest ws) at out
 
 -- ---- a stretch of leaves
 
@@ -107,11 +107,11 @@ pub record LeafPut (src p : List ℕ) (k kind : ℕ) (e : Entry) (at : ℕ) (out
 pub record Gathers (src p : List ℕ) (k n : ℕ) (from : List Bool) (ws : List ℕ) (at : ℕ) (out : List ℕ) (marks : List Bool) (count left : ℕ) (us : List ℕ) (at' : ℕ) (out' : List ℕ) : Type 0 where
   pub small : at' ≤ 65535
   pub counted : Counted p k marks count
-  pub leads : put_at (elementsMade (sparse_order (cards_at p k)) (buildOf src (look p)) (look p k) n from ws) at out
-      ≡ put_at (elementsMade (sparse_order (cards_at p k)) (buildOf src (look p)) (look p k) left marks us) at' out'
+  pub leads : put_at (elements_made (sparse_order (cards_at p k)) (build_of src (look p)) (look p k) n from ws) at out
+      ≡ put_at (elements_made (sparse_order (cards_at p k)) (build_of src (look p)) (look p k) left marks us) at' out'
 
 -- The same from the first element on, or an index was given twice: then no value is built.
 pub record GathersNew (src p : List ℕ) (k n : ℕ) (ws : List ℕ) (at : ℕ) (out : List ℕ) (marks : List Bool) (twice : Bool) (count left : ℕ) (us : List ℕ) (at' : ℕ) (out' : List ℕ) : Type 0 where
   pub small : at' ≤ 65535
-  pub barred : twice ≡ true → put_at (elementsMade (sparse_order (cards_at p k)) (buildOf src (look p)) (look p k) n no_marks ws) at out ≡ broken
+  pub barred : twice ≡ true → put_at (elements_made (sparse_order (cards_at p k)) (build_of src (look p)) (look p k) n no_marks ws) at out ≡ broken
   pub new : twice ≡ false → Gathers src p k n no_marks ws at out marks count left us at' out'

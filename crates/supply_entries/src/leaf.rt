@@ -7,7 +7,7 @@ ghost use Rattle.plan_nodes.specs.Readers.{Refers, KindAt, At};
 ghost use Rattle.value_parts.specs.Walk.{leaf_good, Container, Holds};
 ghost use Rattle.supply_entries.specs.Emitting.{head_of, put_at, LeafPut, GathersNew};
 ghost use Rattle.protocol.specs.Plans.{look};
-ghost use Rattle.protocol.specs.Building.{row_order, elementsMade, buildOf};
+ghost use Rattle.protocol.specs.Building.{row_order, elements_made, build_of};
 
 use crate::{Emitted, Entry, Gathered, Place, Read, head, list};
 use value_heads::sparse::Seen;
@@ -97,9 +97,9 @@ pub fn put_leaves(
 ) -> Place
     requires { (At plan.now node) × (KindAt plan.now node kind) × (Holds (look plan.now node) end) × (first ≤ end) × (end < 2 ^ 34) × (at ≤ 65535) }
     ensures { (first ≤ result.index) × (result.index ≤ end) × (result.at ≤ 65535)
-        × (put_at (elementsMade row_order (buildOf src.now (look plan.now)) (look plan.now node) (end - first) first (drop word list.now)) at
+        × (put_at (elements_made row_order (build_of src.now (look plan.now)) (look plan.now node) (end - first) first (drop word list.now)) at
         out.old
-        ≡ put_at (elementsMade row_order (buildOf src.now (look plan.now)) (look plan.now node) (end - result.index) result.index (drop result.word list.now))
+        ≡ put_at (elements_made row_order (build_of src.now (look plan.now)) (look plan.now node) (end - result.index) result.index (drop result.word list.now))
         result.at out.new) }
 {
     let mut index = first;

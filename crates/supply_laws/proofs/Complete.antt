@@ -18,7 +18,7 @@ use Rattle.protocol.specs.Answers.{refused, accepted, Put, refused_put, put_out,
 use Rattle.protocol.specs.Plans.{look, without_type, plan_formed}
 use Rattle.protocol.specs.Running.{nothing_in, value_by, checked, admitted}
 use Rattle.protocol.specs.Supplies.{Agrees, zero_value, zeroed, HasSupply}
-use Rattle.protocol.specs.Building.{buildOf, made_by, supplied_by, write_of}
+use Rattle.protocol.specs.Building.{build_of, made_by, supplied_by, write_of}
 
 -- ---- the call
 
@@ -48,32 +48,32 @@ module _ (p s : List ℕ) where
 
 module _ (p s : List ℕ) (bytes : (i : ℕ) → get_or s i 0 < 256) where
   -- a value that has a type is whole for any source
-  of-value : (src : List ℕ) (f : Forest) → length s ≤ 65535 → value_of (look p) (get_or p 1 0) 0 0 s ≡ accepted f
-      → Whole (look p) s src 0 (buildOf src (look p) (get_or p 1 0) 0) (zero_value (look p) fuel (get_or p 1 0) s) (length s) f
-  unfolding value_of buildOf
-  of-value src f small e =
+  of_value : (src : List ℕ) (f : Forest) → length s ≤ 65535 → value_of (look p) (get_or p 1 0) 0 0 s ≡ accepted f
+      → Whole (look p) s src 0 (build_of src (look p) (get_or p 1 0) 0) (zero_value (look p) fuel (get_or p 1 0) s) (length s) f
+  unfolding value_of build_of
+  of_value src f small e =
       let top = stands_self s in
       rw e at (value_whole (look p) s src fuel (get_or p 1 0) 0 0 s top bytes small)
 
-  accepted-length : (f : Forest) → Accepts p s f → length (zeroed p s) ≡ length s
+  accepted_length : (f : Forest) → Accepts p s f → length (zeroed p s) ≡ length s
   unfolding zeroed pick
-  accepted-length f (nothing_in_lem no_type e g) = rw no_type
-  accepted-length f (value_in typed small e) = rw typed (of-value [] f small e).size
+  accepted_length f (nothing_in_lem no_type e g) = rw no_type
+  accepted_length f (value_in typed small e) = rw typed (of_value [] f small e).size
 
-  accepted-supplied : (ws src : List ℕ) (f : Forest) → Accepts p s f → Agrees (look p) s src f ws [] → supplied_by (made_by p ws src) ≡ put_out (zeroed p s)
+  accepted_supplied : (ws src : List ℕ) (f : Forest) → Accepts p s f → Agrees (look p) s src f ws [] → supplied_by (made_by p ws src) ≡ put_out (zeroed p s)
   unfolding supplied_by made_by zeroed pick Agrees
-  accepted-supplied ws src f (nothing_in_lem no_type e g) a = let over : ws ≡ [] = rw g at a in rw (no_type, over, e)
-  accepted-supplied ws src f (value_in typed small e) a =
-      let w = of-value src f small e in
+  accepted_supplied ws src f (nothing_in_lem no_type e g) a = let over : ws ≡ [] = rw g at a in rw (no_type, over, e)
+  accepted_supplied ws src f (value_in typed small e) a =
+      let w = of_value src f small e in
       rw (typed, (w.makes ws [] a).is, w.size, le-ltb 65535 (length s) small)
 
   -- An accepted value is as long with its containers' reserved fields zero.
   pub zeroed_length : (f : Forest) → checked p s ≡ accepted f → length (zeroed p s) ≡ length s
-  zeroed_length f e = accepted-length f (accepts p s f e).1
+  zeroed_length f e = accepted_length f (accepts p s f e).1
 
   -- what is made of its supply, whatever the room
   pub supplied : (ws src : List ℕ) → HasSupply p s ws src → supplied_by (made_by p ws src) ≡ put_out (zeroed p s)
-  supplied ws src h = accepted-supplied ws src h.forest (accepts p s h.forest h.accepted).1 h.agrees
+  supplied ws src h = accepted_supplied ws src h.forest (accepts p s h.forest h.accepted).1 h.agrees
 
 -- Where an accepted value has the supply, that value is put out with its containers' reserved fields zero, or the room is too small for it.
 pub complete : (p s ws src : List ℕ) (room : ℕ) → ((i : ℕ) → get_or s i 0 < 256) → HasSupply p s ws src → write_of p ws src room ≡ output_roomed room (put_out (zeroed p s))

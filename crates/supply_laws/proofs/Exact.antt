@@ -44,9 +44,9 @@ refused_formed p ws src room e =
     ⊎_elim (λ q. q.0) (λ q. let h = q.1 in let z : ◌≡◌ {A = ℕ} 33 34 = cc in absurd (omega arith)) (pick_split _ _ _ _ e)
 
 module _ (p ws src : List ℕ) (formed : plan_formed p ≡ true) where
-  refused-is : (room : ℕ) → supplied_by (made_by p ws src) ≡ refused_put 34 → write_of p ws src room ≡ refused_put 34
+  refused_is : (room : ℕ) → supplied_by (made_by p ws src) ≡ refused_put 34 → write_of p ws src room ≡ refused_put 34
   unfolding write_of output_roomed pick
-  refused-is room e = rw (formed, e)
+  refused_is room e = rw (formed, e)
 
   written_is : (b : List ℕ) → supplied_by (made_by p ws src) ≡ put_out b → write_of p ws src (length b) ≡ put_out b
   unfolding write_of output_roomed pick
@@ -56,7 +56,7 @@ module _ (p ws src : List ℕ) (formed : plan_formed p ≡ true) where
   pub none_refused : Words ws → Bytes src → NoneHas p ws src → (room : ℕ) → write_of p ws src room ≡ refused_put 34
   none_refused small bytes none room =
       ⊎_elim
-      (λ (e : supplied_by (made_by p ws src) ≡ refused_put 34). refused-is room e)
+      (λ (e : supplied_by (made_by p ws src) ≡ refused_put 34). refused_is room e)
       (λ (e : (b : List ℕ) × (supplied_by (made_by p ws src) ≡ put_out b)).
       let b = e.0 in
       absurd (none b (supplied_is_bytes p ws src bytes b e.1) (sound p ws src (length b) b small (written_is b e.1)).0))
@@ -88,22 +88,22 @@ roomed_short room (put_out b) n o e =
 
 module _ (p ws src : List ℕ) (room : ℕ) where
   -- a refusal by a well-formed plan
-  refused-short : (n : ℕ) → plan_formed p ≡ true → write_of p ws src room ≡ refused_put n
+  refused_short : (n : ℕ) → plan_formed p ≡ true → write_of p ws src room ≡ refused_put n
       → (n ≡ 34) ⊎ ((n ≡ 32) × ((b : List ℕ) × (supplied_by (made_by p ws src) ≡ put_out b) × (room < length b)))
   unfolding write_of
-  refused-short n f e =
+  refused_short n f e =
       roomed_short room (supplied_by (made_by p ws src)) n (either (made_by p ws src)) (sym (pick_yes _ _ _ f) ∙ e)
 
-  unformed-is : plan_formed p ≡ false → write_of p ws src room ≡ refused_put 33
+  unformed_is : plan_formed p ≡ false → write_of p ws src room ≡ refused_put 33
   unfolding write_of
-  unformed-is f = pick_no _ _ _ f
+  unformed_is f = pick_no _ _ _ f
 
   -- 33 is given exactly when the plan is not well formed.
   pub exact_33 : (write_of p ws src room ≡ refused_put 33) ↔ (plan_formed p ≡ false)
-  exact_33 = (λ e. go (plan_formed p) refl e, unformed-is)
+  exact_33 = (λ e. go (plan_formed p) refl e, unformed_is)
     where
       go : (t : Bool) → plan_formed p ≡ t → write_of p ws src room ≡ refused_put 33 → plan_formed p ≡ false
-      go true f e = absurd (⊎_elim (λ a. omega arith) (λ b. omega (arith, b.0)) (refused-short 33 f e))
+      go true f e = absurd (⊎_elim (λ a. omega arith) (λ b. omega (arith, b.0)) (refused_short 33 f e))
       go false f e = f
 
   -- 32 is given exactly when an accepted value has the supply, and is longer than the room.
@@ -126,5 +126,5 @@ module _ (p ws src : List ℕ) (room : ℕ) where
           let b = y.1.0 in
           let m = y.1.1 in
           (b, supplied_is_bytes p ws src bytes b m, (sound p ws src (length b) b small (written_is p ws src f b m)).0, y.1.2))
-          (refused-short 32 f e)
-      go false f e = let h = unformed-is f in let z : ◌≡◌ {A = ℕ} 32 33 = cc in absurd (omega arith)
+          (refused_short 32 f e)
+      go false f e = let h = unformed_is f in let z : ◌≡◌ {A = ℕ} 32 33 = cc in absurd (omega arith)

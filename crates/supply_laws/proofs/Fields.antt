@@ -10,7 +10,7 @@ use lib.Dec.{lit<}
 use lib.ListN.{length, take, drop, get_or, length-append, length-take, length-drop, get_or-append, get_or-eq_default, set as store}
 use lib.Seq.{take-add, drop-drop, take-take, take-nil, length-take-le, take-suc, get_or-take, get_or-drop}
 use borrow.Author.Tests.{eqb-true, eqb-false, ltb-false, lt-ltb, eq-eqb, ne_eqb}
-use Rattle.wire.proofs.Numbers.{bytes_be_lem, length-bytes}
+use Rattle.wire.proofs.Numbers.{bytes_be_lem, length_bytes}
 use Rattle.wire.proofs.Picks.{pick_case}
 use Rattle.forms.specs.declared.Opening.{Opening}
 use Rattle.forms.specs.declared.Opening.TheVariants.{Elements, Wrong}
@@ -54,10 +54,10 @@ module _ (t : List ℕ) (base : ℕ) (s : List ℕ) (st : Stands t base s) where
 -- ---- words
 
 -- what is after n of the first n + m
-drop-take : (n m : ℕ) (l : List ℕ) → drop n (take (n + m) l) ≡ take m (drop n l)
-drop-take zero m l = rw zero-add
-drop-take (suc n) m [] = rw suc-add (sym (take-nil m))
-drop-take (suc n) m (x ∷ l) = rw suc-add (drop-take n m l)
+drop_take : (n m : ℕ) (l : List ℕ) → drop n (take (n + m) l) ≡ take m (drop n l)
+drop_take zero m l = rw zero-add
+drop_take (suc n) m [] = rw suc-add (sym (take-nil m))
+drop_take (suc n) m (x ∷ l) = rw suc-add (drop_take n m l)
 
 between_is : (s : List ℕ) (at n start : ℕ) → start ≡ at + n → between s at start ≡ take n (drop at s)
 unfolding between
@@ -69,8 +69,8 @@ module _ (s : List ℕ) (b : Bytes s) where
   unfolding word
   word_bytes at n h e = ap (bytes_be 4) (sym e) ∙ bytes_be_lem s at 4 b h
 
-  two-words : (at m n : ℕ) → at + 8 ≤ length s → word s at ≡ m → word s (at + 4) ≡ n → bytes_be 4 m ++ bytes_be 4 n ≡ take 8 (drop at s)
-  two-words at m n h d e =
+  two_words : (at m n : ℕ) → at + 8 ≤ length s → word s at ≡ m → word s (at + 4) ≡ n → bytes_be 4 m ++ bytes_be 4 n ≡ take 8 (drop at s)
+  two_words at m n h d e =
       rw (word_bytes at m (omega arith) d, word_bytes (at + 4) n (omega arith) e) (sym (take-add 4 4 (drop at s) ∙ rw drop-drop))
 
 -- ---- the head of an element
@@ -82,28 +82,28 @@ pub record HeadOf (v : Node) (s : List ℕ) (at i start n : ℕ) : Type 0 where
 
 module _ (s : List ℕ) (b : Bytes s) (at n : ℕ) where
   -- a length
-  plain-bytes : at + 4 ≤ length s → word s at ≡ n → bytes_be 4 n ≡ between s at (at + 4)
-  plain-bytes h e = word_bytes s b at n h e ∙ sym (between_is s at 4 (at + 4) refl)
+  plain_bytes : at + 4 ≤ length s → word s at ≡ n → bytes_be 4 n ≡ between s at (at + 4)
+  plain_bytes h e = word_bytes s b at n h e ∙ sym (between_is s at 4 (at + 4) refl)
 
   -- four reserved bytes and a length
   gap_bytes : at + 8 ≤ length s → word s (at + 4) ≡ n → zeros 4 ++ bytes_be 4 n ≡ zeros 4 ++ drop 4 (between s at (at + 8))
   gap_bytes h e =
-      rw (between_is s at 8 (at + 8) refl, drop-take 4 4 (drop at s), drop-drop) (ap (λ (l : List ℕ). zeros 4 ++ l) (word_bytes s b (at + 4) n (omega arith) e))
+      rw (between_is s at 8 (at + 8) refl, drop_take 4 4 (drop at s), drop-drop) (ap (λ (l : List ℕ). zeros 4 ++ l) (word_bytes s b (at + 4) n (omega arith) e))
 
   -- an index and a length
-  index-bytes : (i : ℕ) → at + 8 ≤ length s → word s at ≡ i → word s (at + 4) ≡ n → bytes_be 4 i ++ bytes_be 4 n ≡ between s at (at + 8)
-  index-bytes i h d e = two-words s b at i n h d e ∙ sym (between_is s at 8 (at + 8) refl)
+  index_bytes : (i : ℕ) → at + 8 ≤ length s → word s at ≡ i → word s (at + 4) ≡ n → bytes_be 4 i ++ bytes_be 4 n ≡ between s at (at + 8)
+  index_bytes i h d e = two_words s b at i n h d e ∙ sym (between_is s at 8 (at + 8) refl)
 
   -- an envelope's length, 1, four reserved bytes and a length
-  envelope-bytes : at + 16 ≤ length s → word s at ≡ 12 + n → word s (at + 4) ≡ 1 → word s (at + 12) ≡ n
+  envelope_bytes : at + 16 ≤ length s → word s at ≡ 12 + n → word s (at + 4) ≡ 1 → word s (at + 12) ≡ n
       → bytes_be 4 (12 + n) ++ (bytes_be 4 1 ++ (zeros 4 ++ bytes_be 4 n)) ≡ take 8 (between s at (at + 16)) ++ (zeros 4 ++ drop 12 (between s at (at + 16)))
-  envelope-bytes h d one e =
+  envelope_bytes h d one e =
       rw (
         between_is s at 16 (at + 16) refl,
         take-take 8 16 (drop at s) (omega arith),
-        drop-take 12 4 (drop at s),
+        drop_take 12 4 (drop at s),
         drop-drop,
-        ← (two-words s b at (12 + n) 1 (omega arith) d one),
+        ← (two_words s b at (12 + n) 1 (omega arith) d one),
         ← (word_bytes s b (at + 12) n (omega arith) e),
         append_assoc,
       )
@@ -134,8 +134,8 @@ module _ (s : List ℕ) (b : Bytes s) (i at : ℕ) where
   in_row v start n h = record { admits = eq-eqb i i refl; after = refl; head = h }
 
   -- a length alone, before the element
-  plain-head : (v : Node) → ((n : ℕ) → head_bytes v i n ≡ bytes_be 4 n) → ((h : List ℕ) → zero_head v h ≡ h) → Again (row_form v s) row_order v s i at (plain_head s 0 i at)
-  plain-head v p q =
+  plain_head_lem : (v : Node) → ((n : ℕ) → head_bytes v i n ≡ bytes_be 4 n) → ((h : List ℕ) → zero_head v h ≡ h) → Again (row_form v s) row_order v s i at (plain_head s 0 i at)
+  plain_head_lem v p q =
       plain_cases (Again (row_form v s) row_order v s i at) (λ _ _. tt) s 0 i at
       (λ whole low fit.
       let n = word s (at + 0) in
@@ -143,32 +143,32 @@ module _ (s : List ℕ) (b : Bytes s) (i at : ℕ) where
       let start : at + 0 + 4 ≡ at + 4 = omega arith in (
         omega arith,
         in_row v (at + 0 + 4) n
-            (rw start (record { whole = rw (p n, length-bytes); same = rw (p n, q (between s at (at + 4))) (plain-bytes s b at n (omega arith) e) })),
+            (rw start (record { whole = rw (p n, length_bytes); same = rw (p n, q (between s at (at + 4))) (plain_bytes s b at n (omega arith) e) })),
       ))
 
   -- reserved bytes and a length
-  gap-head : (v : Node) → ((n : ℕ) → head_bytes v i n ≡ zeros 4 ++ bytes_be 4 n) → ((h : List ℕ) → zero_head v h ≡ zeros 4 ++ drop 4 h)
+  gap_head : (v : Node) → ((n : ℕ) → head_bytes v i n ≡ zeros 4 ++ bytes_be 4 n) → ((h : List ℕ) → zero_head v h ≡ zeros 4 ++ drop 4 h)
       → (n : ℕ) → at + 8 ≤ length s → word s (at + 4) ≡ n → Element row_order v s i at (i + 1) i (at + 8) n
-  gap-head v p q n h e =
+  gap_head v p q n h e =
       in_row v (at + 8) n
       (record {
-        whole = rw (p n, length-append, length-bytes);
+        whole = rw (p n, length-append, length_bytes);
         same = rw (p n, q (between s at (at + 8))) (gap_bytes s b at n h e);
       })
 
   -- an envelope
-  envelope-head : (r n : ℕ) → at + 16 ≤ length s → word s at ≡ 12 + n → word s (at + 4) ≡ 1 → word s (at + 12) ≡ n
+  envelope_head_lem : (r n : ℕ) → at + 16 ≤ length s → word s at ≡ 12 + n → word s (at + 4) ≡ 1 → word s (at + 12) ≡ n
       → Element row_order (arrays r) s i at (i + 1) i (at + 16) n
   unfolding head_bytes zero_head
-  envelope-head r n h d one e =
+  envelope_head_lem r n h d one e =
       in_row (arrays r) (at + 16) n
-      (record { whole = simp (length-append, length-bytes); same = envelope-bytes s b at n h d one e })
+      (record { whole = simp (length-append, length_bytes); same = envelope_bytes s b at n h d one e })
 
   pub row_again : (v : Node) → Again (row_form v s) row_order v s i at (row_head v s i at)
   unfolding row_head head_bytes zero_head may_lack object_head envelope_head
   row_again (leaf f) = tt
   row_again enum = tt
-  row_again (row r) = plain-head (row r) (λ _. refl) (λ _. refl)
+  row_again (row r) = plain_head_lem (row r) (λ _. refl) (λ _. refl)
   row_again (arrays r) =
       let P = Again (row_form (arrays r) s) row_order (arrays r) s i at in
       pick_case P _ _ _ (λ _. tt)
@@ -179,25 +179,25 @@ module _ (s : List ℕ) (b : Bytes s) (i at : ℕ) where
       (λ e. sized_cases P (λ _ _. tt) s i (at + 16) (word s (at + 12))
       (λ low fit.
       let h : 16 ≤ length s - at = ltb-false _ _ whole in
-      (omega arith, envelope-head r _ (omega arith) (eqb-true _ _ e) (eqb-true _ _ one) refl)))
+      (omega arith, envelope_head_lem r _ (omega arith) (eqb-true _ _ e) (eqb-true _ _ one) refl)))
       (λ _. tt))))
       (λ _. tt))
   row_again (tuple refs) =
       plain_cases (Again (row_form (tuple refs) s) row_order (tuple refs) s i at) (λ _ _. tt) s 4 i at
       (λ whole low fit.
       let start : at + 4 + 4 ≡ at + 8 = omega arith in
-      (omega arith, rw start (gap-head (tuple refs) (λ _. refl) (λ _. refl) _ (omega arith) refl)))
+      (omega arith, rw start (gap_head (tuple refs) (λ _. refl) (λ _. refl) _ (omega arith) refl)))
   row_again (object refs cards) =
       let P = Again (row_form (object refs cards) s) row_order (object refs cards) s i at in
       pick_case P _ _ _ (λ _. tt)
       (λ whole.
       let h : 8 ≤ length s - at = ltb-false _ _ whole in
-      let element = gap-head (object refs cards) (λ _. refl) (λ _. refl) in
+      let element = gap_head (object refs cards) (λ _. refl) (λ _. refl) in
       optional_all P (λ _ _. tt) s (requires (get_or cards i 0)) i (at + 8) (word s (at + 4))
       (λ r g. (rw r, omega arith, element ABSENT (omega arith) g))
       (λ low fit. (omega arith, element (word s (at + 4)) (omega arith) refl)))
   row_again (sparse refs cards) = tt
-  row_again (range r) = plain-head (range r) (λ _. refl) (λ _. refl)
+  row_again (range r) = plain_head_lem (range r) (λ _. refl) (λ _. refl)
 
 -- any that the shape has, each once
 pub sparse_again : (s : List ℕ) (b : Bytes s) (refs cards : List ℕ) (marks : List Bool) (at : ℕ)
@@ -214,7 +214,7 @@ sparse_again s b refs cards marks at =
     record {
       admits = rw (lt-ltb i (length cards) few, new);
       after = refl;
-      head = record { whole = simp (length-append, length-bytes); same = index-bytes s b at n i (omega arith) refl e };
+      head = record { whole = simp (length-append, length_bytes); same = index_bytes s b at n i (omega arith) refl e };
     }
     in
     optional_all P (λ _ _. tt) s (requires (get_or cards i 0)) i (at + 8) (word s (at + 4))
@@ -246,17 +246,17 @@ bounds_one fl =
 
 module _ (s : List ℕ) (b : Bytes s) where
   -- of no elements, with reserved fields zero
-  none-bytes : 12 ≤ length s → word s 0 ≡ 0 → set_bytes 0 ≡ take 4 (take 12 s) ++ (zeros 8 ++ drop 12 (take 12 s))
+  none_bytes : 12 ≤ length s → word s 0 ≡ 0 → set_bytes 0 ≡ take 4 (take 12 s) ++ (zeros 8 ++ drop 12 (take 12 s))
   unfolding set_bytes bytes_be pick
-  none-bytes h e =
-      rw (take-take 4 12 s (omega arith), drop-take 12 0 s, ← (word_bytes s b 0 0 (omega arith) e))
+  none_bytes h e =
+      rw (take-take 4 12 s (omega arith), drop_take 12 0 s, ← (word_bytes s b 0 0 (omega arith) e))
 
   -- of some
   some_bytes : (n : ℕ) → (n ≡ 0 → ⊥) → 20 ≤ length s → word s 0 ≡ 1 → word s 12 ≡ n → word s 16 ≡ 1
       → set_bytes n ≡ take 4 (take 20 s) ++ (zeros 8 ++ drop 12 (take 20 s))
   unfolding set_bytes pick
   some_bytes n many h one e last =
-      rw (ne_eqb n 0 many, take-take 4 20 s (omega arith), drop-take 12 8 s, ← (word_bytes s b 0 1 (omega arith) one), ← (two-words s b 12 n 1 (omega arith) e last))
+      rw (ne_eqb n 0 many, take-take 4 20 s (omega arith), drop_take 12 8 s, ← (word_bytes s b 0 1 (omega arith) one), ← (two_words s b 12 n 1 (omega arith) e last))
 
   module _ (t src : List ℕ) (base : ℕ) where
     -- a set, an array or a set of arrays
@@ -269,14 +269,14 @@ module _ (s : List ℕ) (b : Bytes s) where
             front = λ d c _. rw (q d, ← c, p (take at s), z);
           }
 
-      set-opens : Opened v t src base s (set_opening s)
+      set_opens : Opened v t src base s (set_opening s)
       unfolding set_opening dimension
-      set-opens =
+      set_opens =
           let P = Opened v t src base s in
           pick_case P _ _ _ (λ _. tt)
           (λ _. pick_case P _ _ _ (λ _. tt)
           (λ few. pick_case P _ _ _ (λ _. tt)
-          (λ h. pick_case P _ _ _ (λ none. let k : 12 ≤ length s = ltb-false _ _ h in set_bytes_lem 0 12 (omega arith) k (none-bytes k (eqb-true _ _ none)))
+          (λ h. pick_case P _ _ _ (λ none. let k : 12 ≤ length s = ltb-false _ _ h in set_bytes_lem 0 12 (omega arith) k (none_bytes k (eqb-true _ _ none)))
           (λ some. pick_case P _ _ _ (λ _. tt)
           (λ _. pick_case P _ _ _ (λ _. tt)
           (λ many. pick_case P _ _ _ (λ _. tt)
@@ -301,19 +301,19 @@ module _ (s : List ℕ) (b : Bytes s) where
           front = λ d c _. rw (q d c, p (take 4 s), word_bytes s b 0 n h e);
         }
 
-    count-opens : (v : Node) → ((h : List ℕ) → zero_opening v h ≡ h) → (n : ℕ) → ((d : Claim) → front_of v src d ≡ count_front n d) → Opened v t src base s (count_opening n s)
+    count_opens : (v : Node) → ((h : List ℕ) → zero_opening v h ≡ h) → (n : ℕ) → ((d : Claim) → front_of v src d ≡ count_front n d) → Opened v t src base s (count_opening n s)
     unfolding count_opening count_front pick
-    count-opens v p n q =
+    count_opens v p n q =
         let P = Opened v t src base s in
         pick_case P _ _ _ (λ _. tt)
         (λ h. pick_case P _ _ _ (λ e. count_bytes v p n (ltb-false _ _ h) (eqb-true _ _ e) (λ d c. rw (q d, ← c, eq-eqb n n refl))) (λ _. tt))
 
     -- the flags of a range
-    range-bytes : (r : ℕ) → 1 ≤ length s → get_or t base 0 ≡ get_or s 0 0 → range_flags (get_or s 0 0) ≡ true
+    range_bytes : (r : ℕ) → 1 ≤ length s → get_or t base 0 ≡ get_or s 0 0 → range_flags (get_or s 0 0) ≡ true
         → (o : Opening) → bounds (get_or s 0 0) ≡ o → Opened (range r) t src base s o
     unfolding zero_opening front_of range_front bounds_front SameBytes SameFlags pick
-    range-bytes r h top good (Wrong m) e = tt
-    range-bytes r h top good (Elements n first at) e =
+    range_bytes r h top good (Wrong m) e = tt
+    range_bytes r h top good (Elements n first at) e =
         let fl = get_or s 0 0 in
         let one : at ≡ 1 = rw e at (bounds_one fl) in
         let own : take 1 s ≡ fl ∷ [] = take-suc s 0 0 h in
@@ -328,10 +328,10 @@ module _ (s : List ℕ) (b : Bytes s) where
     unfolding opening_of zero_opening front_of sparse_opening range_opening
     opened st (leaf f) = tt
     opened st enum = tt
-    opened st (row r) = set-opens (row r) (λ _. refl) (λ _. refl)
-    opened st (arrays r) = set-opens (arrays r) (λ _. refl) (λ _. refl)
-    opened st (tuple refs) = count-opens (tuple refs) (λ _. refl) (length refs) (λ _. refl)
-    opened st (object refs cards) = count-opens (object refs cards) (λ _. refl) (length refs) (λ _. refl)
+    opened st (row r) = set_opens (row r) (λ _. refl) (λ _. refl)
+    opened st (arrays r) = set_opens (arrays r) (λ _. refl) (λ _. refl)
+    opened st (tuple refs) = count_opens (tuple refs) (λ _. refl) (length refs) (λ _. refl)
+    opened st (object refs cards) = count_opens (object refs cards) (λ _. refl) (length refs) (λ _. refl)
     opened st (sparse refs cards) =
         let P = Opened (sparse refs cards) t src base s in
         pick_case P _ _ _ (λ _. tt)
@@ -339,4 +339,4 @@ module _ (s : List ℕ) (b : Bytes s) where
     opened st (range r) =
         let P = Opened (range r) t src base s in
         pick_case P _ _ _ (λ _. tt)
-        (λ h. pick_case P _ _ _ (λ good. let k : 1 ≤ length s = ltb-false _ _ h in range-bytes r k (stands_first t base s st k) good _ refl) (λ _. tt))
+        (λ h. pick_case P _ _ _ (λ good. let k : 1 ≤ length s = ltb-false _ _ h in range_bytes r k (stands_first t base s st k) good _ refl) (λ _. tt))

@@ -22,7 +22,7 @@ use Rattle.protocol.specs.Numbers.{pick}
 use Rattle.protocol.specs.Constants.{ABSENT}
 use Rattle.protocol.specs.Nodes.{Node, leaf, enum, row, arrays, tuple, object, sparse, range, ref_at}
 use Rattle.protocol.specs.Lists.{Entry, Forest, empty, tree, append, width, words, entry_of}
-use Rattle.protocol.specs.Values.{ValueOutcome, then, under, Rule, absent, present, element_outcome, Form, containerEnd, elements, row_form}
+use Rattle.protocol.specs.Values.{ValueOutcome, then, under, Rule, absent, present, element_outcome, Form, container_end, elements, row_form}
 use Rattle.protocol.specs.Values.{sparse_form, no_marks, leaf_rule, row_rule, sparse_rule, by_node, value, value_of, fuel}
 use Rattle.protocol.specs.Answers.{refused, accepted, put_out, output_roomed}
 use Rattle.protocol.specs.Plans.{look}
@@ -33,10 +33,10 @@ use Rattle.protocol.specs.Building.{write_of}
 -- ---- entries that agree with their own words
 
 module _ (look : ℕ → Node) (t : List ℕ) where
-  agrees-join : (f g : Forest) (ws mid rest : List ℕ) → Agrees look t t f ws mid → Agrees look t t g mid rest → Agrees look t t (append f g) ws rest
+  agrees_join : (f g : Forest) (ws mid rest : List ℕ) → Agrees look t t f ws mid → Agrees look t t g mid rest → Agrees look t t (append f g) ws rest
   unfolding Agrees append
-  agrees-join empty g ws mid rest a b = rw a b
-  agrees-join (tree e below sib) g ws mid rest a b = (a.0, (a.1.0, a.1.1, agrees-join sib g a.1.0 mid rest a.1.2 b))
+  agrees_join empty g ws mid rest a b = rw a b
+  agrees_join (tree e below sib) g ws mid rest a b = (a.0, (a.1.0, a.1.1, agrees_join sib g a.1.0 mid rest a.1.2 b))
 
   abbrev Own : Forest → Type 0
   Own g = (rest : List ℕ) → Agrees look t t g (words g ++ rest) rest
@@ -45,30 +45,30 @@ module _ (look : ℕ → Node) (t : List ℕ) where
   OwnOf (refused n p) = Unit {0}
   OwnOf (accepted g) = Own g
 
-  own-then : (a b : ValueOutcome) → OwnOf a → OwnOf b → OwnOf (then a b)
+  own_then : (a b : ValueOutcome) → OwnOf a → OwnOf b → OwnOf (then a b)
   unfolding then
-  own-then (refused n p) b x y = tt
-  own-then (accepted f) (refused n p) x y = tt
-  own-then (accepted f) (accepted g) x y = λ rest. rw (words_append f g, append_assoc) (agrees-join f g _ (words g ++ rest) rest (x (words g ++ rest)) (y rest))
+  own_then (refused n p) b x y = tt
+  own_then (accepted f) (refused n p) x y = tt
+  own_then (accepted f) (accepted g) x y = λ rest. rw (words_append f g, append_assoc) (agrees_join f g _ (words g ++ rest) rest (x (words g ++ rest)) (y rest))
 
-  same-part : (v : Node) (a n : ℕ) (b : Bool) → SameBytes t t v a n a n → SamePart t t v b a n a n
+  same_part : (v : Node) (a n : ℕ) (b : Bool) → SameBytes t t v a n a n → SamePart t t v b a n a n
   unfolding SamePart
-  same-part v a n true h = tt
-  same-part v a n false h = h
+  same_part v a n true h = tt
+  same_part v a n false h = h
 
   -- an entry, and what is below it
-  own-tree : (e : Entry) (below : Forest) → SamePart t t (look e.node) (eqb e.size ABSENT) e.start e.size e.start e.size → Own below → Own (tree e below empty)
+  own_tree : (e : Entry) (below : Forest) → SamePart t t (look e.node) (eqb e.size ABSENT) e.start e.size e.start e.size → Own below → Own (tree e below empty)
   unfolding Agrees AgreeNext next_of words pick
-  own-tree e below same o rest =
+  own_tree e below same o rest =
       let more = (words below ++ []) ++ rest in
       let ws = e.node ∷ e.index ∷ e.start ∷ e.size ∷ width below ∷ more in
       (rw (le-ltb (length ws) 5 (omega arith)) (record { node = refl; index = refl; count = refl; absence = refl; part = same }), (rest, rw (append-nil (words below)) (o rest), refl))
 
   -- an absent element
-  absent-own : (r : Option ℕ) (i start : ℕ) → OwnOf (absent r i start)
+  absent_own : (r : Option ℕ) (i start : ℕ) → OwnOf (absent r i start)
   unfolding absent SamePart Agrees words
-  absent-own none i start = tt
-  absent-own (some k) i start = own-tree (entry_of k i start ABSENT) empty tt (λ rest. refl)
+  absent_own none i start = tt
+  absent_own (some k) i start = own_tree (entry_of k i start ABSENT) empty tt (λ rest. refl)
 
   -- ---- the rules, for parts of t
 
@@ -76,50 +76,50 @@ module _ (look : ℕ → Node) (t : List ℕ) where
   Lists rule = (k i base : ℕ) (s : List ℕ) → base + length s ≤ length t → OwnOf (rule k i base s)
 
   module _ (rule : Rule) (lists : Lists rule) (ref : ℕ → Option ℕ) (base : ℕ) (s : List ℕ) (inside : base + length s ≤ length t) where
-    present-own : (r : Option ℕ) (i start n : ℕ) → start + n ≤ length s → OwnOf (present rule r i (base + start) (take n (drop start s)))
+    present_own : (r : Option ℕ) (i start n : ℕ) → start + n ≤ length s → OwnOf (present rule r i (base + start) (take n (drop start s)))
     unfolding present
-    present-own none i start n h = tt
-    present-own (some k) i start n h =
+    present_own none i start n h = tt
+    present_own (some k) i start n h =
         lists k i (base + start) (take n (drop start s)) (simp (length-take, length-drop) (omega arith))
 
-    member-own : (at : ℕ) (h : Head) → Spaced (length s) at h → OwnOf (element_outcome rule ref base s h)
+    member_own : (at : ℕ) (h : Head) → Spaced (length s) at h → OwnOf (element_outcome rule ref base s h)
     unfolding element_outcome
-    member-own at (Fault n) d = tt
-    member-own at (Absent i start) d = absent-own (ref i) i (base + start)
-    member-own at (Present i start n) d = present-own (ref i) i start n d.1
+    member_own at (Fault n) d = tt
+    member_own at (Absent i start) d = absent_own (ref i) i (base + start)
+    member_own at (Present i start n) d = present_own (ref i) i start n d.1
 
     module _ {S : Type 0} (form : Form S) (spaced : (st : S) (at : ℕ) → Spaced (length s) at (form.head st at)) where
-      elements-own : (n : ℕ) (st : S) (at : ℕ) → OwnOf (elements form rule ref base s n st at)
-      unfolding elements containerEnd Agrees words
-      elements-own zero st at = pick_case OwnOf _ _ _ (λ _. pick_case OwnOf _ _ _ (λ _. tt) (λ _ rest. refl)) (λ _. tt)
-      elements-own (suc n) st at = own-then _ _ (member-own at (form.head st at) (spaced st at)) (elements-own n _ _)
+      elements_own : (n : ℕ) (st : S) (at : ℕ) → OwnOf (elements form rule ref base s n st at)
+      unfolding elements container_end Agrees words
+      elements_own zero st at = pick_case OwnOf _ _ _ (λ _. pick_case OwnOf _ _ _ (λ _. tt) (λ _ rest. refl)) (λ _. tt)
+      elements_own (suc n) st at = own_then _ _ (member_own at (form.head st at) (spaced st at)) (elements_own n _ _)
 
   module _ (k i base : ℕ) (s : List ℕ) (v : Node) (is : look k ≡ v) where
-    entry-own : SameBytes t t v base (length s) base (length s) → (below : Forest) → Own below → Own (tree (entry_of k i base (length s)) below empty)
-    entry-own same below = own-tree (entry_of k i base (length s)) below (rw is (same-part v base (length s) (eqb (length s) ABSENT) same))
+    entry_own : SameBytes t t v base (length s) base (length s) → (below : Forest) → Own below → Own (tree (entry_of k i base (length s)) below empty)
+    entry_own same below = own_tree (entry_of k i base (length s)) below (rw is (same_part v base (length s) (eqb (length s) ABSENT) same))
 
     under_own : SameBytes t t v base (length s) base (length s) → (o : ValueOutcome) → OwnOf o → OwnOf (under (entry_of k i base (length s)) o)
     unfolding under
     under_own same (refused n p) h = tt
-    under_own same (accepted below) h = entry-own same below h
+    under_own same (accepted below) h = entry_own same below h
 
     leaf_own : (good : Bool) → SameBytes t t v base (length s) base (length s) → OwnOf (leaf_rule good k i base s)
     unfolding leaf_rule Agrees words
-    leaf_own good same = pick_case OwnOf good _ _ (λ _. entry-own same empty (λ rest. refl)) (λ _. tt)
+    leaf_own good same = pick_case OwnOf good _ _ (λ _. entry_own same empty (λ rest. refl)) (λ _. tt)
 
   module _ (f : ℕ) (lists : Lists (value look f)) (k i base : ℕ) (s : List ℕ) (inside : base + length s ≤ length t) where
     row_own : (v : Node) → look k ≡ v → (o : Opening) → Opened (length s) o → (1 ≤ length s → SameBytes t t v base (length s) base (length s)) → OwnOf (row_rule v (value look f) o k i base s)
     unfolding row_rule Opened
     row_own v is (Wrong n) h same = tt
     row_own v is (Elements n first at) h same =
-        under_own k i base s v is (same (omega arith)) _ (elements-own (value look f) lists (ref_at v) base s inside (row_form v s) (λ i at. row_spaced s at v i) n first at)
+        under_own k i base s v is (same (omega arith)) _ (elements_own (value look f) lists (ref_at v) base s inside (row_form v s) (λ i at. row_spaced s at v i) n first at)
 
     sparse_own : (refs cards : List ℕ) → look k ≡ sparse refs cards → (o : Opening) → OwnOf (sparse_rule refs cards (value look f) o k i base s)
     unfolding sparse_rule SameBytes
     sparse_own refs cards is (Wrong n) = tt
     sparse_own refs cards is (Elements n first at) =
         under_own k i base s (sparse refs cards) is tt _
-        (elements-own (value look f) lists (ref_at (sparse refs cards)) base s inside (sparse_form cards s) (λ marks at. sparse_spaced s at cards marks) n no_marks at)
+        (elements_own (value look f) lists (ref_at (sparse refs cards)) base s inside (sparse_form cards s) (λ marks at. sparse_spaced s at cards marks) n no_marks at)
 
     node_own : (v : Node) → look k ≡ v → OwnOf (by_node v (value look f) k i base s)
     unfolding by_node SameBytes SameLeaf SameFlags
@@ -140,9 +140,9 @@ module _ (look : ℕ → Node) (t : List ℕ) where
 -- ---- an accepted value
 
 module _ (p s : List ℕ) where
-  checked-own : OwnOf (look p) s (checked p s)
+  checked_own : OwnOf (look p) s (checked p s)
   unfolding checked value_by value_of nothing_in Agrees words admitted
-  checked-own =
+  checked_own =
       let P = OwnOf (look p) s in
       pick_case P _ _ _
       (λ _. pick_case P _ _ _ (λ _. tt)
@@ -153,7 +153,7 @@ module _ (p s : List ℕ) where
 
   -- An accepted value has its own list and bytes for a supply.
   pub own_supply : (f : Forest) → checked p s ≡ accepted f → HasSupply p s (words f) s
-  own_supply f e = record { forest = f; accepted = e; agrees = rw append-nil at ((rw e at checked-own) []) }
+  own_supply f e = record { forest = f; accepted = e; agrees = rw append-nil at ((rw e at checked_own) []) }
 
 -- An accepted value that is written again from its list and its own bytes is the same but for its containers' reserved fields, which are zero.
 pub round_trip : (p s : List ℕ) (room : ℕ) (f : Forest) → ((i : ℕ) → get_or s i 0 < 256) → checked p s ≡ accepted f

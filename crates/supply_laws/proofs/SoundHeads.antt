@@ -12,7 +12,7 @@ use lib.Dec.{ltb, lit<, lit≤}
 use lib.ListN.{length, take, drop, get_or, length-append, length-drop}
 use lib.Seq.{get_or-drop, drop-drop, drop-append-le, take_at, take-append_seam, drop-append_seam}
 use borrow.Author.Tests.{ltb-true, eqb-true, lt-leb, le-ltb, eq-eqb, ne_eqb, not-true}
-use Rattle.wire.proofs.Numbers.{be_bytes, length-bytes}
+use Rattle.wire.proofs.Numbers.{be_bytes, length_bytes}
 use Rattle.wire.proofs.Picks.{clash, pick_yes, pick_no, pick_case, pick_split}
 use Rattle.forms.specs.declared.Opening.{Opening}
 use Rattle.forms.specs.declared.Opening.TheVariants.{Elements, Wrong}
@@ -60,10 +60,10 @@ module _ {s : List ℕ} {at : ℕ} where
   -- a number that was written is read back
   pub word_is : (n : ℕ) (y : List ℕ) → n < 2 ^ 32 → Tail s at (bytes_be 4 n ++ y) → word s at ≡ n
   unfolding word
-  word_is n y small w = rw (w.is, take_at (bytes_be 4 n) y 4 (length-bytes 4 n)) (be_bytes 4 n small)
+  word_is n y small w = rw (w.is, take_at (bytes_be 4 n) y 4 (length_bytes 4 n)) (be_bytes 4 n small)
 
   pub word_next : (n : ℕ) (y : List ℕ) → Tail s at (bytes_be 4 n ++ y) → Tail s (at + 4) y
-  word_next n y w = rw (length-bytes 4 n) at (tail_next (bytes_be 4 n) y w)
+  word_next n y w = rw (length_bytes 4 n) at (tail_next (bytes_be 4 n) y w)
 
 -- bytes of s, which stands in t
 pub tail_within : {t : List ℕ} {base : ℕ} {s : List ℕ} {at : ℕ} (more b y : List ℕ) → Tail t base (s ++ more) → Tail s at (b ++ y)
@@ -78,9 +78,9 @@ tail_within {s = s} {at = at} more b y u w =
 -- ---- the head of an element
 
 module _ (s : List ℕ) (i at n : ℕ) (more : List ℕ) where
-  sized-back : (start : ℕ) → n < 2 ^ 31 → start + n ≤ length s → element_in s i start n ≡ Present i start n
+  sized_back : (start : ℕ) → n < 2 ^ 31 → start + n ≤ length s → element_in s i start n ≡ Present i start n
   unfolding element_in negative
-  sized-back start small fit = pick_no _ _ _ (lt-leb (2 ^ 31) n small) ∙ pick_no _ _ _ (le-ltb (length s - start) n (omega arith))
+  sized_back start small fit = pick_no _ _ _ (lt-leb (2 ^ 31) n small) ∙ pick_no _ _ _ (le-ltb (length s - start) n (omega arith))
 
   plain_back : (gap : ℕ) (z : List ℕ) → length z ≡ gap → n < 2 ^ 31 → n ≤ length more → Tail s at (z ++ (bytes_be 4 n ++ more))
       → plain_head s gap i at ≡ Present i (at + gap + 4) n
@@ -89,20 +89,20 @@ module _ (s : List ℕ) (i at n : ℕ) (more : List ℕ) where
       let w1 : Tail s (at + gap) (bytes_be 4 n ++ more) = rw e at (tail_next z (bytes_be 4 n ++ more) w) in
       let l = tail_length more (word_next n more w1) in
       let q : word s (at + gap) ≡ n = word_is n more (omega arith) w1 in
-      pick_no _ _ _ (le-ltb (length s - at) (gap + 4) (omega arith)) ∙ rw q (sized-back (at + gap + 4) small (omega arith))
+      pick_no _ _ _ (le-ltb (length s - at) (gap + 4) (omega arith)) ∙ rw q (sized_back (at + gap + 4) small (omega arith))
 
-  optional-back : (required : Bool) → n < 2 ^ 31 → n ≤ length more → Tail s (at + 4) (bytes_be 4 n ++ more)
+  optional_back : (required : Bool) → n < 2 ^ 31 → n ≤ length more → Tail s (at + 4) (bytes_be 4 n ++ more)
       → optional s required i (at + 8) (word s (at + 4)) ≡ Present i (at + 8) n
   unfolding optional
-  optional-back required small fit w =
+  optional_back required small fit w =
       let l = tail_length more (word_next n more w) in
       let q : word s (at + 4) ≡ n = word_is n more (omega arith) w in
-      rw q (pick_no _ _ _ (ne_eqb n ABSENT (λ e. omega arith)) ∙ sized-back (at + 8) small (omega arith))
+      rw q (pick_no _ _ _ (ne_eqb n ABSENT (λ e. omega arith)) ∙ sized_back (at + 8) small (omega arith))
 
-  envelope-back : 12 + n < 2 ^ 31 → n ≤ length more → Tail s at (bytes_be 4 (12 + n) ++ (bytes_be 4 1 ++ (zeros 4 ++ (bytes_be 4 n ++ more))))
+  envelope_back : 12 + n < 2 ^ 31 → n ≤ length more → Tail s at (bytes_be 4 (12 + n) ++ (bytes_be 4 1 ++ (zeros 4 ++ (bytes_be 4 n ++ more))))
       → envelope_head s i at ≡ Present i (at + 16) n
   unfolding envelope_head negative
-  envelope-back small fit w =
+  envelope_back small fit w =
       let w1 = word_next (12 + n) _ w in
       let w2 = tail_next (zeros 4) (bytes_be 4 n ++ more) (word_next 1 _ w1) in
       let l = tail_length more (word_next n more w2) in
@@ -116,7 +116,7 @@ module _ (s : List ℕ) (i at n : ℕ) (more : List ℕ) where
       (pick_no _ _ _ (lt-leb (2 ^ 31) n (omega arith))
       ∙ pick_no _ _ _ (lt-leb (2 ^ 31) (12 + n) small)
       ∙ pick_yes _ _ _ (eq-eqb (12 + n) (12 + n) refl)
-      ∙ sized-back (at + 16) (omega arith) (omega arith))
+      ∙ sized_back (at + 16) (omega arith) (omega arith))
 
 -- an element that is not there
 gone_back : (s : List ℕ) (i at : ℕ) (more : List ℕ) (required : Bool) → required ≡ false → Tail s (at + 4) (bytes_be 4 ABSENT ++ more)
@@ -137,7 +137,7 @@ left h i a b e p = cc
 module _ (s : List ℕ) (i at n : ℕ) (more : List ℕ) (small : 12 + n < 2 ^ 31) (fit : n ≤ length more) where
   plain_row : (z : List ℕ) → Tail s at (z ++ (bytes_be 4 n ++ more)) → plain_head s (length z) i at ≡ Present i (at + length (z ++ bytes_be 4 n)) n
   plain_row z w =
-      placed _ i _ _ n (plain_back s i at n more (length z) z refl (omega arith) fit w) (omega (arith, length-append z (bytes_be 4 n), length-bytes 4 n))
+      placed _ i _ _ n (plain_back s i at n more (length z) z refl (omega arith) fit w) (omega (arith, length-append z (bytes_be 4 n), length_bytes 4 n))
 
   pub row_present : (v : Node) → IsRow v → Tail s at (head_bytes v i n ++ more) → row_head v s i at ≡ Present i (at + length (head_bytes v i n)) n
   unfolding IsRow row_head head_bytes object_head
@@ -145,15 +145,15 @@ module _ (s : List ℕ) (i at n : ℕ) (more : List ℕ) (small : 12 + n < 2 ^ 3
   row_present enum x w = absurd x
   row_present (row r) x w = plain_row [] w
   row_present (arrays r) x w =
-      placed _ i _ _ n (envelope-back s i at n more small fit (simp append_assoc at w))
-      (simp (length-append, length-bytes) (omega arith))
+      placed _ i _ _ n (envelope_back s i at n more small fit (simp append_assoc at w))
+      (simp (length-append, length_bytes) (omega arith))
   row_present (tuple refs) x w = plain_row (zeros 4) w
   row_present (object refs cards) x w =
       let w1 : Tail s (at + 4) (bytes_be 4 n ++ more) = tail_next (zeros 4) (bytes_be 4 n ++ more) w in
       let l = tail_length more (word_next n more w1) in
       placed _ i _ _ n
-      (pick_no _ _ _ (le-ltb (length s - at) 8 (omega arith)) ∙ optional-back s i at n more (requires (get_or cards i 0)) (omega arith) fit w1)
-      (omega (arith, length-bytes 4 n))
+      (pick_no _ _ _ (le-ltb (length s - at) 8 (omega arith)) ∙ optional_back s i at n more (requires (get_or cards i 0)) (omega arith) fit w1)
+      (omega (arith, length_bytes 4 n))
   row_present (sparse refs cards) x w = absurd x
   row_present (range r) x w = plain_row [] w
 
@@ -172,35 +172,35 @@ module _ (s : List ℕ) (i at : ℕ) (more : List ℕ) where
       left _ i _ _
       (pick_no _ _ _ (le-ltb (length s - at) 8 (omega arith))
       ∙ gone_back s i at more (requires (get_or cards i 0)) (not-true _ may) w1)
-      (omega (arith, length-bytes 4 ABSENT))
+      (omega (arith, length_bytes 4 ABSENT))
   row_absent (sparse refs cards) x may w = absurd x
   row_absent (range r) x may w = clash may
 
 -- a sparse object's, whose index is known and new
 module _ (s cards : List ℕ) (marks : List Bool) (i at n : ℕ) (more : List ℕ) (small : i < 2 ^ 32) (known : ltb i (length cards) ≡ true)
     (new : get_or marks i false ≡ false) (w : Tail s at ((bytes_be 4 i ++ bytes_be 4 n) ++ more)) where
-  after-index : Tail s (at + 4) (bytes_be 4 n ++ more)
-  after-index = word_next i (bytes_be 4 n ++ more) (rw append_assoc at w)
+  after_index : Tail s (at + 4) (bytes_be 4 n ++ more)
+  after_index = word_next i (bytes_be 4 n ++ more) (rw append_assoc at w)
 
-  sparse-read : sparse_head s cards marks at ≡ optional s (requires (get_or cards i 0)) i (at + 8) (word s (at + 4))
+  sparse_read : sparse_head s cards marks at ≡ optional s (requires (get_or cards i 0)) i (at + 8) (word s (at + 4))
   unfolding sparse_index
-  sparse-read =
-      let l = tail_length more (word_next n more after-index) in
+  sparse_read =
+      let l = tail_length more (word_next n more after_index) in
       let q : word s at ≡ i = word_is i (bytes_be 4 n ++ more) small (rw append_assoc at w) in
       sparse_known s cards marks at i
       (pick_no _ _ _ (le-ltb (length s - at) 8 (omega arith))
       ∙ rw q (pick_no _ _ _ (lt-leb (length cards) i (ltb-true _ _ known)) ∙ pick_no _ _ _ new))
 
-  head-eight : at + 8 ≡ at + length (bytes_be 4 i ++ bytes_be 4 n)
-  head-eight = omega (arith, length-append (bytes_be 4 i) (bytes_be 4 n), length-bytes 4 i, length-bytes 4 n)
+  head_eight : at + 8 ≡ at + length (bytes_be 4 i ++ bytes_be 4 n)
+  head_eight = omega (arith, length-append (bytes_be 4 i) (bytes_be 4 n), length_bytes 4 i, length_bytes 4 n)
 
   pub sparse_present : n < 2 ^ 31 → n ≤ length more → sparse_head s cards marks at ≡ Present i (at + length (bytes_be 4 i ++ bytes_be 4 n)) n
   sparse_present few fit =
-      placed _ i _ _ n (sparse-read ∙ optional-back s i at n more (requires (get_or cards i 0)) few fit after-index) head-eight
+      placed _ i _ _ n (sparse_read ∙ optional_back s i at n more (requires (get_or cards i 0)) few fit after_index) head_eight
 
   pub sparse_absent : n ≡ ABSENT → requires (get_or cards i 0) ≡ false → sparse_head s cards marks at ≡ Absent i (at + length (bytes_be 4 i ++ bytes_be 4 n))
   sparse_absent e free =
-      left _ i _ _ (sparse-read ∙ gone_back s i at more (requires (get_or cards i 0)) free (rw e at after-index)) head-eight
+      left _ i _ _ (sparse_read ∙ gone_back s i at more (requires (get_or cards i 0)) free (rw e at after_index)) head_eight
 
 -- its reserved fields are zero
 pub head_zero : (v : Node) (i n : ℕ) → zero_head v (head_bytes v i n) ≡ head_bytes v i n
@@ -215,16 +215,16 @@ head_zero (sparse refs cards) i n = refl
 head_zero (range r) i n = refl
 
 -- it takes four bytes or more
-pub head-length : (v : Node) (i n r : ℕ) → ref_at v i ≡ some r → 4 ≤ length (head_bytes v i n)
+pub head_length : (v : Node) (i n r : ℕ) → ref_at v i ≡ some r → 4 ≤ length (head_bytes v i n)
 unfolding ref_at head_bytes bytes_be
-head-length (leaf f) i n r e = let z : ◌≡◌ {A = ℕ} 0 1 = cc in absurd (omega arith)
-head-length enum i n r e = let z : ◌≡◌ {A = ℕ} 0 1 = cc in absurd (omega arith)
-head-length (row k) i n r e = lit≤ tt
-head-length (arrays k) i n r e = lit≤ tt
-head-length (tuple refs) i n r e = lit≤ tt
-head-length (object refs cards) i n r e = lit≤ tt
-head-length (sparse refs cards) i n r e = lit≤ tt
-head-length (range k) i n r e = lit≤ tt
+head_length (leaf f) i n r e = let z : ◌≡◌ {A = ℕ} 0 1 = cc in absurd (omega arith)
+head_length enum i n r e = let z : ◌≡◌ {A = ℕ} 0 1 = cc in absurd (omega arith)
+head_length (row k) i n r e = lit≤ tt
+head_length (arrays k) i n r e = lit≤ tt
+head_length (tuple refs) i n r e = lit≤ tt
+head_length (object refs cards) i n r e = lit≤ tt
+head_length (sparse refs cards) i n r e = lit≤ tt
+head_length (range k) i n r e = lit≤ tt
 
 -- ---- the head of a container
 
@@ -232,20 +232,20 @@ module _ (n : ℕ) (more : List ℕ) where
   first_word : n < 2 ^ 32 → word (bytes_be 4 n ++ more) 0 ≡ n
   first_word small = word_is n more small (record { inside = omega arith; is = refl })
 
-  first-four : 4 ≤ length (bytes_be 4 n ++ more)
-  first-four = omega (arith, length-append (bytes_be 4 n) more, length-bytes 4 n)
+  first_four : 4 ≤ length (bytes_be 4 n ++ more)
+  first_four = omega (arith, length-append (bytes_be 4 n) more, length_bytes 4 n)
 
-  count-back : n < 2 ^ 32 → count_opening n (bytes_be 4 n ++ more) ≡ Elements n 0 (length (bytes_be 4 n))
+  count_back : n < 2 ^ 32 → count_opening n (bytes_be 4 n ++ more) ≡ Elements n 0 (length (bytes_be 4 n))
   unfolding count_opening
-  count-back small =
-      rw (length-bytes 4 n)
-      (pick_no _ _ _ (le-ltb (length (bytes_be 4 n ++ more)) 4 first-four) ∙ pick_yes _ _ _ (eq-eqb _ _ (first_word small)))
+  count_back small =
+      rw (length_bytes 4 n)
+      (pick_no _ _ _ (le-ltb (length (bytes_be 4 n ++ more)) 4 first_four) ∙ pick_yes _ _ _ (eq-eqb _ _ (first_word small)))
 
-  sparse-back : n < 2 ^ 31 → sparse_opening (bytes_be 4 n ++ more) ≡ Elements n 0 (length (bytes_be 4 n))
+  sparse_back : n < 2 ^ 31 → sparse_opening (bytes_be 4 n ++ more) ≡ Elements n 0 (length (bytes_be 4 n))
   unfolding sparse_opening negative
-  sparse-back small =
-      rw (length-bytes 4 n)
-      (pick_no _ _ _ (le-ltb (length (bytes_be 4 n ++ more)) 4 first-four)
+  sparse_back small =
+      rw (length_bytes 4 n)
+      (pick_no _ _ _ (le-ltb (length (bytes_be 4 n ++ more)) 4 first_four)
       ∙ rw (first_word (omega arith)) (pick_no _ _ _ (lt-leb (2 ^ 31) n small)))
 
 -- a set's or an array's with elements
@@ -286,7 +286,7 @@ unfolding set_bytes pick
 set_back zero more small = none_back more
 set_back (suc m) more small =
     let n = suc m in
-    let l : length (some_bytes n) ≡ 20 = simp (length-append, length-bytes) in
+    let l : length (some_bytes n) ≡ 20 = simp (length-append, length_bytes) in
     rw (ne_eqb n 0 (λ e. omega arith), l)
     (some_back (some_bytes n ++ more) n more (omega arith) small (record { inside = omega arith; is = simp append_assoc }))
 
@@ -316,27 +316,27 @@ pub record Opens (v : Node) (src : List ℕ) (c : Claim) (o : List ℕ) (first :
   pub same : (t : List ℕ) (base n : ℕ) (d : List ℕ) → Tail t base (o ++ d) → SameBytes t src v base n c.start c.size
 
 module _ (src : List ℕ) (c : Claim) (o : List ℕ) (first : ℕ) where
-  not-faulty : {A : Type 0} → no_front ≡ front o first → A
-  not-faulty e = let z : ◌≡◌ {A = ℕ} 0 1 = cc in absurd (omega arith)
+  not_faulty : {A : Type 0} → no_front ≡ front o first → A
+  not_faulty e = let z : ◌≡◌ {A = ℕ} 0 1 = cc in absurd (omega arith)
 
-  count-front : (n : ℕ) → count_front n c ≡ front o first → (c.count ≡ n) × (bytes_be 4 n ≡ o) × (0 ≡ first)
+  count_front_lem : (n : ℕ) → count_front n c ≡ front o first → (c.count ≡ n) × (bytes_be 4 n ≡ o) × (0 ≡ first)
   unfolding count_front
-  count-front n e =
-      ⊎_elim (λ p. let h = p.1 in (eqb-true _ _ p.0, cc, cc)) (λ p. not-faulty p.1) (pick_split _ _ _ _ e)
+  count_front_lem n e =
+      ⊎_elim (λ p. let h = p.1 in (eqb-true _ _ p.0, cc, cc)) (λ p. not_faulty p.1) (pick_split _ _ _ _ e)
 
-  count-opening : (n : ℕ) → count_front n c ≡ front o first → c.count < 2 ^ 31 → (d : List ℕ) → count_opening n (o ++ d) ≡ Elements c.count first (length o)
-  count-opening n e few d =
-      let p = count-front n e in
-      rw (p.0, ← p.1, ← p.2) (count-back n d (omega (arith, p.0)))
+  count_opening_lem : (n : ℕ) → count_front n c ≡ front o first → c.count < 2 ^ 31 → (d : List ℕ) → count_opening n (o ++ d) ≡ Elements c.count first (length o)
+  count_opening_lem n e few d =
+      let p = count_front_lem n e in
+      rw (p.0, ← p.1, ← p.2) (count_back n d (omega (arith, p.0)))
 
   set_front : front (set_bytes c.count) 0 ≡ front o first → (set_bytes c.count ≡ o) × (0 ≡ first)
   set_front e = (cc, cc)
 
-  set-opening : front (set_bytes c.count) 0 ≡ front o first → c.count < 2 ^ 31 → (d : List ℕ) → set_opening (o ++ d) ≡ Elements c.count first (length o)
-  set-opening e few d = let p = set_front e in rw (← p.0, ← p.1) (set_back c.count d few)
+  set_opening_lem : front (set_bytes c.count) 0 ≡ front o first → c.count < 2 ^ 31 → (d : List ℕ) → set_opening (o ++ d) ≡ Elements c.count first (length o)
+  set_opening_lem e few d = let p = set_front e in rw (← p.0, ← p.1) (set_back c.count d few)
 
-  set-is-zero : front (set_bytes c.count) 0 ≡ front o first → take 4 o ++ (zeros 8 ++ drop 12 o) ≡ o
-  set-is-zero e = rw (← (set_front e).0) (set_zero c.count)
+  set_is_zero : front (set_bytes c.count) 0 ≡ front o first → take 4 o ++ (zeros 8 ++ drop 12 o) ≡ o
+  set_is_zero e = rw (← (set_front e).0) (set_zero c.count)
 
   -- a range's flags, in the source
   record Flags : Type 0 where
@@ -346,19 +346,19 @@ module _ (src : List ℕ) (c : Claim) (o : List ℕ) (first : ℕ) where
     bytes : flag ∷ [] ≡ o
     opening : (d : List ℕ) → range_opening (flag ∷ d) ≡ Elements c.count first 1
 
-  range-flags : range_front src c ≡ front o first → Flags
+  range_flags_lem : range_front src c ≡ front o first → Flags
   unfolding range_front bounds_front
-  range-flags e =
+  range_flags_lem e =
       ⊎_elim
-      (λ p. ⊎_elim (λ q. go (ltb-true _ _ p.0) q.0 (bounds flags) refl q.1) (λ q. not-faulty q.1) (pick_split _ _ _ _ p.1))
-      (λ p. not-faulty p.1)
+      (λ p. ⊎_elim (λ q. go (ltb-true _ _ p.0) q.0 (bounds flags) refl q.1) (λ q. not_faulty q.1) (pick_split _ _ _ _ p.1))
+      (λ p. not_faulty p.1)
       (pick_split _ _ _ _ e)
     where
       flags : ℕ
       flags = get_or src c.start 0
 
       go : c.start < length src → range_flags flags ≡ true → (b : Opening) → bounds flags ≡ b → bounds_front flags c.count b ≡ front o first → Flags
-      go l good (Wrong m) is e = not-faulty e
+      go l good (Wrong m) is e = not_faulty e
       go l good (Elements m f at) is e =
           ⊎_elim
           (λ p.
@@ -367,23 +367,23 @@ module _ (src : List ℕ) (c : Claim) (o : List ℕ) (first : ℕ) where
           let a : f ≡ first = cc in
           let one : at ≡ 1 = bounds_start flags m f at is in
           record { flag = flags; start = l; is = refl; bytes = cc; opening = λ d. range_back flags d good ∙ is ∙ rw (n, a, one) })
-          (λ p. not-faulty p.1)
+          (λ p. not_faulty p.1)
           (pick_split _ _ _ _ e)
 
   pub opens : (v : Node) → front_of v src c ≡ front o first → Opens v src c o first
   unfolding front_of opening_of zero_opening SameBytes SameFlags
-  opens (leaf f) e = not-faulty e
-  opens enum e = not-faulty e
-  opens (row r) e = record { opening = set-opening e; zero_is = set-is-zero e; same = λ _ _ _ _ _. tt }
-  opens (arrays r) e = record { opening = set-opening e; zero_is = set-is-zero e; same = λ _ _ _ _ _. tt }
-  opens (tuple refs) e = record { opening = count-opening (length refs) e; zero_is = refl; same = λ _ _ _ _ _. tt }
-  opens (object refs cards) e = record { opening = count-opening (length refs) e; zero_is = refl; same = λ _ _ _ _ _. tt }
+  opens (leaf f) e = not_faulty e
+  opens enum e = not_faulty e
+  opens (row r) e = record { opening = set_opening_lem e; zero_is = set_is_zero e; same = λ _ _ _ _ _. tt }
+  opens (arrays r) e = record { opening = set_opening_lem e; zero_is = set_is_zero e; same = λ _ _ _ _ _. tt }
+  opens (tuple refs) e = record { opening = count_opening_lem (length refs) e; zero_is = refl; same = λ _ _ _ _ _. tt }
+  opens (object refs cards) e = record { opening = count_opening_lem (length refs) e; zero_is = refl; same = λ _ _ _ _ _. tt }
   opens (sparse refs cards) e =
       let p : bytes_be 4 c.count ≡ o = cc in
       let q : 0 ≡ first = cc in
-      record { opening = λ few d. rw (← p, ← q) (sparse-back c.count d few); zero_is = refl; same = λ _ _ _ _ _. tt }
+      record { opening = λ few d. rw (← p, ← q) (sparse_back c.count d few); zero_is = refl; same = λ _ _ _ _ _. tt }
   opens (range r) e =
-      let f = range-flags e in
+      let f = range_flags_lem e in
       record {
         opening = λ few d. rw (← f.bytes) (f.opening d);
         zero_is = refl;

@@ -14,9 +14,9 @@ use borrow.Author.Tests.{eqb-true, ne_eqb, eq-eqb}
 use Rattle.wire.proofs.Picks.{pick_split}
 use Rattle.forms.specs.declared.Head.{Head}
 use Rattle.forms.specs.declared.Head.TheVariants.{Present, Absent}
-use Rattle.value_laws.proofs.Forests.{width-append}
+use Rattle.value_laws.proofs.Forests.{width_append}
 use Rattle.value_laws.proofs.Loops.{elements_done}
-use Rattle.supply_laws.proofs.SoundHeads.{Tail, tail_length, tail_next, tail_within, tail_take, tail_between, head_zero, head-length}
+use Rattle.supply_laws.proofs.SoundHeads.{Tail, tail_length, tail_next, tail_within, tail_take, tail_between, head_zero, head_length}
 use Rattle.protocol.specs.Numbers.{pick}
 use Rattle.protocol.specs.Constants.{ABSENT}
 use Rattle.protocol.specs.Heads.{end_of, index_of}
@@ -24,8 +24,8 @@ use Rattle.protocol.specs.Nodes.{Node, ref_at}
 use Rattle.protocol.specs.Lists.{Entry, Forest, empty, tree, append, width, entry_of}
 use Rattle.protocol.specs.Values.{ValueOutcome, then, under, Rule, absent, present, element_outcome, Form, elements}
 use Rattle.protocol.specs.Answers.{accepted}
-use Rattle.protocol.specs.Supplies.{Claim, Next, short, next, claim_of, next_of, SameBytes, SamePart, Agree, AgreeNext, Agrees, zero_part, zero_member, zeroElements}
-use Rattle.protocol.specs.Building.{Made, wrong, made, made_before, then_made, Builder, head_bytes, Order, may_lack, absent_made, headed, part_made, memberMade, stateAfter, elementsMade}
+use Rattle.protocol.specs.Supplies.{Claim, Next, short, next, claim_of, next_of, SameBytes, SamePart, Agree, AgreeNext, Agrees, zero_part, zero_member, zero_elements}
+use Rattle.protocol.specs.Building.{Made, wrong, made, made_before, then_made, Builder, head_bytes, Order, may_lack, absent_made, headed, part_made, member_made, state_after, elements_made}
 
 -- ---- what is made, taken apart
 
@@ -55,34 +55,34 @@ before_parts x (made c ws) b rest e =
 record Both (m : Made) (f : List ℕ → Made) (b rest : List ℕ) : Type 0 where
   first : List ℕ
   mid : List ℕ
-  first-is : m ≡ made first mid
+  first_is : m ≡ made first mid
   after : After (f mid) first b rest
 
 then_parts : (m : Made) (f : List ℕ → Made) (b rest : List ℕ) → then_made m f ≡ made b rest → Both m f b rest
 unfolding then_made
 then_parts wrong f b rest e = not_made e
-then_parts (made c ws) f b rest e = record { first = c; mid = ws; first-is = refl; after = before_parts c (f ws) b rest e }
+then_parts (made c ws) f b rest e = record { first = c; mid = ws; first_is = refl; after = before_parts c (f ws) b rest e }
 
 -- an element's head and its data
 record Data (v : Node) (i : ℕ) (m : Made) (b rest : List ℕ) : Type 0 where
-  data-bytes : List ℕ
-  made_is : m ≡ made data-bytes rest
-  bytes : head_bytes v i (length data-bytes) ++ data-bytes ≡ b
+  data_bytes : List ℕ
+  made_is : m ≡ made data_bytes rest
+  bytes : head_bytes v i (length data_bytes) ++ data_bytes ≡ b
 
 headed_parts : (v : Node) (i : ℕ) (m : Made) (b rest : List ℕ) → headed v i m ≡ made b rest → Data v i m b rest
 unfolding headed
 headed_parts v i wrong b rest e = not_made e
 headed_parts v i (made d ws) b rest e =
     let p : ws ≡ rest = cc in
-    record { data-bytes = d; made_is = rw p; bytes = cc }
+    record { data_bytes = d; made_is = rw p; bytes = cc }
 
 -- ---- the next entry
 
 abbrev pub Words : List ℕ → Type 0
 Words ws = (j : ℕ) → get_or ws j 0 < 2 ^ 32
 
-pub words-drop : (n : ℕ) (ws : List ℕ) → Words ws → Words (drop n ws)
-words-drop n ws small j = rw get_or-drop (small (n + j))
+pub words_drop : (n : ℕ) (ws : List ℕ) → Words ws → Words (drop n ws)
+words_drop n ws small j = rw get_or-drop (small (n + j))
 
 pub next_is : (ws : List ℕ) (c : Claim) (rest : List ℕ) → next_of ws ≡ next c rest → (claim_of ws ≡ c) × (drop 5 ws ≡ rest)
 unfolding next_of
@@ -95,10 +95,10 @@ next_is ws c rest e =
 -- ---- what is read back
 
 module _ (look : ℕ → Node) (t src : List ℕ) where
-  agrees-append : (f g : Forest) (ws mid rest : List ℕ) → Agrees look t src f ws mid → Agrees look t src g mid rest → Agrees look t src (append f g) ws rest
+  agrees_append : (f g : Forest) (ws mid rest : List ℕ) → Agrees look t src f ws mid → Agrees look t src g mid rest → Agrees look t src (append f g) ws rest
   unfolding Agrees append
-  agrees-append empty g ws mid rest a b = rw a b
-  agrees-append (tree e below sib) g ws mid rest a b = (a.0, (a.1.0, a.1.1, agrees-append sib g a.1.0 mid rest a.1.2 b))
+  agrees_append empty g ws mid rest a b = rw a b
+  agrees_append (tree e below sib) g ws mid rest a b = (a.0, (a.1.0, a.1.1, agrees_append sib g a.1.0 mid rest a.1.2 b))
 
   -- the outcome o lists n trees whose entries agree with the words ws up to `rest`, and z are the bytes b
   pub record Reads (n : ℕ) (o : ValueOutcome) (z b ws rest : List ℕ) : Type 0 where
@@ -116,8 +116,8 @@ module _ (look : ℕ → Node) (t src : List ℕ) where
       record {
         forest = append x.forest y.forest;
         is = rw (x.is, y.is);
-        wide = omega (arith, width-append x.forest y.forest, x.wide, y.wide);
-        agrees = agrees-append x.forest y.forest ws mid rest x.agrees y.agrees;
+        wide = omega (arith, width_append x.forest y.forest, x.wide, y.wide);
+        agrees = agrees_append x.forest y.forest ws mid rest x.agrees y.agrees;
         zeros_are = rw (x.zeros_are, y.zeros_are);
         small = y.small;
       }
@@ -159,10 +159,10 @@ module _ (look : ℕ → Node) (t src : List ℕ) where
       let f : eqb n ABSENT ≡ false = ne_eqb n ABSENT (λ z. omega arith) in
       record { node = sym e; index = sym d; count = q; absence = f ∙ sym there; part = rw f same }
 
-  agree-absent : (v : Node) (k i base : ℕ) (c : Claim) → c.node ≡ k → c.index ≡ i → 0 ≡ c.count → eqb c.size ABSENT ≡ true
+  agree_absent : (v : Node) (k i base : ℕ) (c : Claim) → c.node ≡ k → c.index ≡ i → 0 ≡ c.count → eqb c.size ABSENT ≡ true
       → Agree v t src (entry_of k i base ABSENT) 0 c
   unfolding SamePart
-  agree-absent v k i base c e d q none-there =
+  agree_absent v k i base c e d q none-there =
       let f : eqb ABSENT ABSENT ≡ true = eq-eqb ABSENT ABSENT refl in
       record { node = sym e; index = sym d; count = q; absence = f ∙ sym none-there; part = tt }
 
@@ -197,33 +197,33 @@ module _ (look : ℕ → Node) (t src : List ℕ) (rule : Builder) (rules : Rule
 
     module _ (st : S) (at : ℕ) (ws : List ℕ) (c : Claim) (rest : List ℕ) (entry : next_of ws ≡ next c rest) (small : Words ws)
         (admitted : order.admits st c.index ≡ true) (r : ℕ) (ref : ref_at v c.index ≡ some r) (y : List ℕ) where
-      index-small : c.index < 2 ^ 32
-      index-small = let e : get_or ws 1 0 ≡ c.index = ap (λ (x : Claim). x.index) (next_is ws c rest entry).0 in rw e at (small 1)
+      index_small : c.index < 2 ^ 32
+      index_small = let e : get_or ws 1 0 ≡ c.index = ap (λ (x : Claim). x.index) (next_is ws c rest entry).0 in rw e at (small 1)
 
-      absent-step : may_lack v c.index ≡ true → c.node ≡ r → c.count ≡ 0 → eqb c.size ABSENT ≡ true → Tail s at (head_bytes v c.index ABSENT ++ y)
+      absent_step : may_lack v c.index ≡ true → c.node ≡ r → c.count ≡ 0 → eqb c.size ABSENT ≡ true → Tail s at (head_bytes v c.index ABSENT ++ y)
           → Step st (order.after st c.index) at ws (head_bytes v c.index ABSENT) rest
       unfolding element_outcome absent zero_member end_of index_of
-      absent-step may node count not-here w =
+      absent_step may node count not-here w =
           let h = head_bytes v c.index ABSENT in
           let start = at + length h in
           record {
             head = Absent c.index start;
-            is = laws.not_there st c.index at y admitted index-small may w;
+            is = laws.not_there st c.index at y admitted index_small may w;
             onward = laws.onward st (Absent c.index start);
             end = refl;
-            long = head-length v c.index ABSENT r ref;
+            long = head_length v c.index ABSENT r ref;
             read =
                 rw ref
                 (reads_alone look t src (entry_of r c.index (base + start) ABSENT) _ h ws c rest entry
-                (agree-absent look t src (look r) r c.index (base + start) c node refl (sym count) not-here)
+                (agree_absent look t src (look r) r c.index (base + start) c node refl (sym count) not-here)
                 (rw (tail_between h y w) (head_zero v c.index ABSENT))
-                (rw (next_is ws c rest entry).1 at (words-drop 5 ws small)));
+                (rw (next_is ws c rest entry).1 at (words_drop 5 ws small)));
           }
 
-      present-step : (d mid : List ℕ) → rule r c.index ws ≡ made d mid → Tail s at (head_bytes v c.index (length d) ++ (d ++ y))
+      present_step : (d mid : List ℕ) → rule r c.index ws ≡ made d mid → Tail s at (head_bytes v c.index (length d) ++ (d ++ y))
           → Step st (order.after st c.index) at ws (head_bytes v c.index (length d) ++ d) mid
       unfolding element_outcome present zero_member zero_part end_of index_of
-      present-step d mid e w =
+      present_step d mid e w =
           let h = head_bytes v c.index (length d) in
           let start = at + length h in
           let w1 : Tail s start (d ++ y) = tail_next h (d ++ y) w in
@@ -231,10 +231,10 @@ module _ (look : ℕ → Node) (t src : List ℕ) (rule : Builder) (rules : Rule
           let x = inner r c.index ws d mid small e (omega (arith, length-append d y)) (base + start) (y ++ more) (tail_within more d y stands w1) in
           record {
             head = Present c.index start (length d);
-            is = laws.there st c.index at (length d) (d ++ y) admitted index-small (omega (arith, length-append d y)) (omega (arith, length-append d y)) w;
+            is = laws.there st c.index at (length d) (d ++ y) admitted index_small (omega (arith, length-append d y)) (omega (arith, length-append d y)) w;
             onward = laws.onward st (Present c.index start (length d));
             end = rw length-append (add_assoc at (length h) (length d));
-            long = omega (arith, length-append h d, head-length v c.index (length d) r ref);
+            long = omega (arith, length-append h d, head_length v c.index (length d) r ref);
             read =
                 rw (ref, tail_take d y w1, tail_between h (d ++ y) w, head_zero v c.index (length d))
                 (record {
@@ -262,31 +262,31 @@ module _ (look : ℕ → Node) (t src : List ℕ) (rule : Builder) (rules : Rule
           let hb : head_bytes v c.index ABSENT ≡ b = cc in
           let hm : rest ≡ mid = cc in
           rw (← hb, ← hm)
-          (absent-step st at ws c rest entry small admitted r ref y may.0 (eqb-true _ _ node.0) (eqb-true _ _ count.0) p.0 (rw (← hb) at w)))
+          (absent_step st at ws c rest entry small admitted r ref y may.0 (eqb-true _ _ node.0) (eqb-true _ _ count.0) p.0 (rw (← hb) at w)))
           (λ (p : (eqb c.size ABSENT ≡ false) × (headed v c.index (rule r c.index ws) ≡ made b mid)).
           let d = headed_parts v c.index (rule r c.index ws) b mid p.1 in
           rw (← d.bytes)
-          (present-step st at ws c rest entry small admitted r ref y d.data-bytes mid d.made_is (rw (← d.bytes, append_assoc) at w)))
+          (present_step st at ws c rest entry small admitted r ref y d.data_bytes mid d.made_is (rw (← d.bytes, append_assoc) at w)))
           (pick_split _ _ _ _ e)
 
-      member-step : (x : Next) → next_of ws ≡ x → memberMade order rule v st ws x ≡ made b mid → Step st (stateAfter order rule v st x) at ws b mid
-      unfolding memberMade stateAfter
-      member-step short entry e = not_made e
-      member-step (next c rest) entry e =
+      member_step : (x : Next) → next_of ws ≡ x → member_made order rule v st ws x ≡ made b mid → Step st (state_after order rule v st x) at ws b mid
+      unfolding member_made state_after
+      member_step short entry e = not_made e
+      member_step (next c rest) entry e =
           let p = passed _ _ b mid e in
           part_step c rest entry p.0 (ref_at v c.index) refl p.1
 
     -- an element and the rest
     step_back : (n : ℕ) (st after : S) (at : ℕ) (ws b₁ mid b₂ rest b : List ℕ) → b ≡ b₁ ++ b₂ → Step st after at ws b₁ mid
-        → Reads look t src n (elements form rules (ref_at v) base s n after (at + length b₁)) (zeroElements form zrule v s n after (at + length b₁)) b₂ mid rest
-        → Reads look t src (suc n) (elements form rules (ref_at v) base s (suc n) st at) (zeroElements form zrule v s (suc n) st at) b ws rest
-    unfolding elements zeroElements
+        → Reads look t src n (elements form rules (ref_at v) base s n after (at + length b₁)) (zero_elements form zrule v s n after (at + length b₁)) b₂ mid rest
+        → Reads look t src (suc n) (elements form rules (ref_at v) base s (suc n) st at) (zero_elements form zrule v s (suc n) st at) b ws rest
+    unfolding elements zero_elements
     step_back n st after at ws b₁ mid b₂ rest b e x y =
         rw (x.is, x.onward, x.end, e) (reads_then look t src n _ _ _ _ b₁ b₂ ws mid rest x.read y)
 
-    pub elements_back : (n : ℕ) (st : S) (ws b rest : List ℕ) (at : ℕ) → Words ws → elementsMade order rule v n st ws ≡ made b rest → Tail s at b
-        → Reads look t src n (elements form rules (ref_at v) base s n st at) (zeroElements form zrule v s n st at) b ws rest × (4 * n ≤ length b)
-    unfolding elementsMade zeroElements elements Agrees width
+    pub elements_back : (n : ℕ) (st : S) (ws b rest : List ℕ) (at : ℕ) → Words ws → elements_made order rule v n st ws ≡ made b rest → Tail s at b
+        → Reads look t src n (elements form rules (ref_at v) base s n st at) (zero_elements form zrule v s n st at) b ws rest × (4 * n ≤ length b)
+    unfolding elements_made zero_elements elements Agrees width
     elements_back zero st ws b rest at small e w =
         let p = spared (order.lacks st) (made [] ws) b rest e in
         let m = p.1 in
@@ -304,12 +304,12 @@ module _ (look : ℕ → Node) (t src : List ℕ) (rule : Builder) (rules : Rule
           omega arith,
         )
     elements_back (suc n) st ws b rest at small e w =
-        let p = then_parts (memberMade order rule v st ws (next_of ws)) (elementsMade order rule v n (stateAfter order rule v st (next_of ws))) b rest e in
+        let p = then_parts (member_made order rule v st ws (next_of ws)) (elements_made order rule v n (state_after order rule v st (next_of ws))) b rest e in
         let a = p.after in
         let w0 : Tail s at (p.first ++ a.last) = rw a.bytes at w in
-        let x = member-step st at ws p.first p.mid a.last small w0 (next_of ws) refl p.first-is in
+        let x = member_step st at ws p.first p.mid a.last small w0 (next_of ws) refl p.first_is in
         let y =
-        elements_back n (stateAfter order rule v st (next_of ws)) p.mid a.last rest (at + length p.first) x.read.small a.made_is
+        elements_back n (state_after order rule v st (next_of ws)) p.mid a.last rest (at + length p.first) x.read.small a.made_is
         (tail_next p.first a.last w0)
         in
         (step_back n st _ at ws p.first p.mid a.last rest b a.bytes x y.0, omega (arith, x.long, y.1, ap length a.bytes, length-append p.first a.last))

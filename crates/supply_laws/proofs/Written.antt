@@ -7,7 +7,7 @@ use mathlib.Core.Option.{Option, none, some}
 use Prim.Native.Nat.{ℕ, zero, suc, ◌+◌, ◌<◌}
 use lib.Dec.{lit<}
 use lib.ListN.{length, get_or}
-use Rattle.wire.proofs.Numbers.{bytes-append, bytes_below}
+use Rattle.wire.proofs.Numbers.{bytes_append, bytes_below}
 use Rattle.wire.proofs.Picks.{pick_case}
 use Rattle.forms.specs.declared.Opening.{Opening}
 use Rattle.forms.specs.declared.Opening.TheVariants.{Elements, Wrong}
@@ -20,8 +20,8 @@ use Rattle.protocol.specs.Values.{no_marks}
 use Rattle.protocol.specs.Supplies.{zeros, Claim, Next, short, next, next_of}
 use Rattle.protocol.specs.Building.{Made, wrong, made, made_before, then_made, Builder, Front, no_front, front, set_bytes, bounds_front}
 use Rattle.protocol.specs.Building.{range_front, count_front, front_of, head_bytes, Order, row_order, sparse_order, absent_made, headed, part_made}
-use Rattle.protocol.specs.Building.{memberMade, stateAfter, elementsMade, leaf_made, row_made, sparse_made, nodeMade, entryMade, build}
-use Rattle.protocol.specs.Building.{buildOf, made_by, supplied_by}
+use Rattle.protocol.specs.Building.{member_made, state_after, elements_made, leaf_made, row_made, sparse_made, node_made, entry_made, build}
+use Rattle.protocol.specs.Building.{build_of, made_by, supplied_by}
 use Rattle.protocol.specs.Answers.{Put, refused_put, put_out}
 
 -- ---- heads
@@ -33,10 +33,10 @@ zeros_bytes (suc n) (suc i) = zeros_bytes n i
 
 -- one number after the other
 two_bytes : (a b : ℕ) → Bytes (bytes_be 4 a ++ bytes_be 4 b)
-two_bytes a b = bytes-append (bytes_be 4 a) (bytes_be 4 b) (bytes_below 4 a) (bytes_below 4 b)
+two_bytes a b = bytes_append (bytes_be 4 a) (bytes_be 4 b) (bytes_below 4 a) (bytes_below 4 b)
 
 gap_bytes : (n : ℕ) (x : List ℕ) → Bytes x → Bytes (zeros n ++ x)
-gap_bytes n x h = bytes-append (zeros n) x (zeros_bytes n) h
+gap_bytes n x h = bytes_append (zeros n) x (zeros_bytes n) h
 
 head_bytes_lem : (v : Node) (i n : ℕ) → Bytes (head_bytes v i n)
 unfolding head_bytes
@@ -44,8 +44,8 @@ head_bytes_lem (leaf f) i n = λ j. lit< tt
 head_bytes_lem enum i n = λ j. lit< tt
 head_bytes_lem (row r) i n = bytes_below 4 n
 head_bytes_lem (arrays r) i n =
-    bytes-append (bytes_be 4 (12 + n)) _ (bytes_below 4 (12 + n))
-    (bytes-append (bytes_be 4 1) _ (bytes_below 4 1) (gap_bytes 4 (bytes_be 4 n) (bytes_below 4 n)))
+    bytes_append (bytes_be 4 (12 + n)) _ (bytes_below 4 (12 + n))
+    (bytes_append (bytes_be 4 1) _ (bytes_below 4 1) (gap_bytes 4 (bytes_be 4 n) (bytes_below 4 n)))
 head_bytes_lem (tuple refs) i n = gap_bytes 4 (bytes_be 4 n) (bytes_below 4 n)
 head_bytes_lem (object refs cards) i n = gap_bytes 4 (bytes_be 4 n) (bytes_below 4 n)
 head_bytes_lem (sparse refs cards) i n = two_bytes i n
@@ -59,21 +59,21 @@ set_bytes_lem : (n : ℕ) → Bytes (set_bytes n)
 unfolding set_bytes
 set_bytes_lem n =
     pick_case Bytes _ _ _ (λ _. zeros_bytes 12)
-    (λ _. bytes-append (bytes_be 4 1) _ (bytes_below 4 1) (gap_bytes 8 (bytes_be 4 n ++ bytes_be 4 1) (two_bytes n 1)))
+    (λ _. bytes_append (bytes_be 4 1) _ (bytes_below 4 1) (gap_bytes 8 (bytes_be 4 n ++ bytes_be 4 1) (two_bytes n 1)))
 
 count_bytes : (n : ℕ) (c : Claim) → FrontBytes (count_front n c)
 unfolding count_front
 count_bytes n c = pick_case FrontBytes _ _ _ (λ _. bytes_below 4 n) (λ _. tt)
 
 module _ (flags n : ℕ) (small : flags < 256) where
-  flag-bytes : Bytes (flags ∷ [])
-  flag-bytes zero = small
-  flag-bytes (suc i) = lit< tt
+  flag_bytes : Bytes (flags ∷ [])
+  flag_bytes zero = small
+  flag_bytes (suc i) = lit< tt
 
-  bounds-bytes : (o : Opening) → FrontBytes (bounds_front flags n o)
+  bounds_bytes : (o : Opening) → FrontBytes (bounds_front flags n o)
   unfolding bounds_front
-  bounds-bytes (Wrong m) = tt
-  bounds-bytes (Elements m first at) = pick_case FrontBytes _ _ _ (λ _. flag-bytes) (λ _. tt)
+  bounds_bytes (Wrong m) = tt
+  bounds_bytes (Elements m first at) = pick_case FrontBytes _ _ _ (λ _. flag_bytes) (λ _. tt)
 
 -- ---- values
 
@@ -84,7 +84,7 @@ MadeBytes (made b ws) = Bytes b
 before_bytes : (b : List ℕ) (m : Made) → Bytes b → MadeBytes m → MadeBytes (made_before b m)
 unfolding made_before
 before_bytes b wrong h g = tt
-before_bytes b (made c ws) h g = bytes-append b c h g
+before_bytes b (made c ws) h g = bytes_append b c h g
 
 then_bytes : (m : Made) (f : List ℕ → Made) → MadeBytes m → ((ws : List ℕ) → MadeBytes (f ws)) → MadeBytes (then_made m f)
 unfolding then_made
@@ -94,7 +94,7 @@ then_bytes (made b ws) f h g = before_bytes b (f ws) h (g ws)
 headed_bytes : (v : Node) (i : ℕ) (m : Made) → MadeBytes m → MadeBytes (headed v i m)
 unfolding headed
 headed_bytes v i wrong h = tt
-headed_bytes v i (made b ws) h = bytes-append (head_bytes v i (length b)) b (head_bytes_lem v i (length b)) h
+headed_bytes v i (made b ws) h = bytes_append (head_bytes v i (length b)) b (head_bytes_lem v i (length b)) h
 
 absent_bytes : (v : Node) (r : ℕ) (c : Claim) (ws : List ℕ) → MadeBytes (absent_made v r c ws)
 unfolding absent_made
@@ -111,15 +111,15 @@ module _ (rule : Builder) (inner : (k i : ℕ) (ws : List ℕ) → MadeBytes (ru
       pick_case MadeBytes _ _ _ (λ _. absent_bytes v r c rest) (λ _. headed_bytes v c.index _ (inner r c.index ws))
 
   module _ {S : Type 0} (order : Order S) where
-    member-bytes : (st : S) (ws : List ℕ) (x : Next) → MadeBytes (memberMade order rule v st ws x)
-    unfolding memberMade
-    member-bytes st ws short = tt
-    member-bytes st ws (next c rest) = pick_case MadeBytes _ _ _ (λ _. part_bytes (ref_at v c.index) c rest ws) (λ _. tt)
+    member_bytes : (st : S) (ws : List ℕ) (x : Next) → MadeBytes (member_made order rule v st ws x)
+    unfolding member_made
+    member_bytes st ws short = tt
+    member_bytes st ws (next c rest) = pick_case MadeBytes _ _ _ (λ _. part_bytes (ref_at v c.index) c rest ws) (λ _. tt)
 
-    elements-bytes : (n : ℕ) (st : S) (ws : List ℕ) → MadeBytes (elementsMade order rule v n st ws)
-    unfolding elementsMade
-    elements-bytes zero st ws = pick_case MadeBytes _ _ _ (λ _. tt) (λ _ i. lit< tt)
-    elements-bytes (suc n) st ws = then_bytes _ _ (member-bytes st ws (next_of ws)) (elements-bytes n (stateAfter order rule v st (next_of ws)))
+    elements_bytes : (n : ℕ) (st : S) (ws : List ℕ) → MadeBytes (elements_made order rule v n st ws)
+    unfolding elements_made
+    elements_bytes zero st ws = pick_case MadeBytes _ _ _ (λ _. tt) (λ _ i. lit< tt)
+    elements_bytes (suc n) st ws = then_bytes _ _ (member_bytes st ws (next_of ws)) (elements_bytes n (state_after order rule v st (next_of ws)))
 
 module _ (src : List ℕ) (bytes : Bytes src) where
   front_bytes : (v : Node) (c : Claim) → FrontBytes (front_of v src c)
@@ -134,12 +134,12 @@ module _ (src : List ℕ) (bytes : Bytes src) where
   front_bytes (range r) c =
       let flags = get_or src c.start 0 in
       pick_case FrontBytes _ _ _
-      (λ _. pick_case FrontBytes _ _ _ (λ _. bounds-bytes flags c.count (bytes c.start) (bounds flags)) (λ _. tt))
+      (λ _. pick_case FrontBytes _ _ _ (λ _. bounds_bytes flags c.count (bytes c.start) (bounds flags)) (λ _. tt))
       (λ _. tt)
 
-  leaf-bytes : (good : List ℕ → Bool) (c : Claim) (ws : List ℕ) → MadeBytes (leaf_made good src c ws)
+  leaf_bytes : (good : List ℕ → Bool) (c : Claim) (ws : List ℕ) → MadeBytes (leaf_made good src c ws)
   unfolding leaf_made
-  leaf-bytes good c ws =
+  leaf_bytes good c ws =
       pick_case MadeBytes _ _ _
       (λ _. pick_case MadeBytes _ _ _
       (λ _. pick_case MadeBytes _ _ _ (λ _. bytes_part src bytes c.start c.size) (λ _. tt))
@@ -147,40 +147,40 @@ module _ (src : List ℕ) (bytes : Bytes src) where
       (λ _. tt)
 
   module _ (rule : Builder) (inner : (k i : ℕ) (ws : List ℕ) → MadeBytes (rule k i ws)) where
-    row-bytes : (v : Node) (h : Front) → FrontBytes h → (c : Claim) (ws : List ℕ) → MadeBytes (row_made rule v h c ws)
+    row_bytes : (v : Node) (h : Front) → FrontBytes h → (c : Claim) (ws : List ℕ) → MadeBytes (row_made rule v h c ws)
     unfolding row_made
-    row-bytes v no_front h c ws = tt
-    row-bytes v (front b first) h c ws = before_bytes b _ h (elements-bytes rule inner v row_order c.count first ws)
+    row_bytes v no_front h c ws = tt
+    row_bytes v (front b first) h c ws = before_bytes b _ h (elements_bytes rule inner v row_order c.count first ws)
 
-    sparse-bytes : (refs cards : List ℕ) (h : Front) → FrontBytes h → (c : Claim) (ws : List ℕ) → MadeBytes (sparse_made rule refs cards h c ws)
+    sparse_bytes : (refs cards : List ℕ) (h : Front) → FrontBytes h → (c : Claim) (ws : List ℕ) → MadeBytes (sparse_made rule refs cards h c ws)
     unfolding sparse_made
-    sparse-bytes refs cards no_front h c ws = tt
-    sparse-bytes refs cards (front b first) h c ws =
-        before_bytes b _ h (elements-bytes rule inner (sparse refs cards) (sparse_order cards) c.count no_marks ws)
+    sparse_bytes refs cards no_front h c ws = tt
+    sparse_bytes refs cards (front b first) h c ws =
+        before_bytes b _ h (elements_bytes rule inner (sparse refs cards) (sparse_order cards) c.count no_marks ws)
 
-    node-bytes : (v : Node) (c : Claim) (ws : List ℕ) → MadeBytes (nodeMade src v rule c ws)
-    unfolding nodeMade
-    node-bytes (leaf f) c ws = leaf-bytes _ c ws
-    node-bytes enum c ws = leaf-bytes _ c ws
-    node-bytes (row r) c ws = row-bytes (row r) _ (front_bytes (row r) c) c ws
-    node-bytes (arrays r) c ws = row-bytes (arrays r) _ (front_bytes (arrays r) c) c ws
-    node-bytes (tuple refs) c ws = row-bytes (tuple refs) _ (front_bytes (tuple refs) c) c ws
-    node-bytes (object refs cards) c ws = row-bytes (object refs cards) _ (front_bytes (object refs cards) c) c ws
-    node-bytes (sparse refs cards) c ws = sparse-bytes refs cards _ (front_bytes (sparse refs cards) c) c ws
-    node-bytes (range r) c ws = row-bytes (range r) _ (front_bytes (range r) c) c ws
+    node_bytes : (v : Node) (c : Claim) (ws : List ℕ) → MadeBytes (node_made src v rule c ws)
+    unfolding node_made
+    node_bytes (leaf f) c ws = leaf_bytes _ c ws
+    node_bytes enum c ws = leaf_bytes _ c ws
+    node_bytes (row r) c ws = row_bytes (row r) _ (front_bytes (row r) c) c ws
+    node_bytes (arrays r) c ws = row_bytes (arrays r) _ (front_bytes (arrays r) c) c ws
+    node_bytes (tuple refs) c ws = row_bytes (tuple refs) _ (front_bytes (tuple refs) c) c ws
+    node_bytes (object refs cards) c ws = row_bytes (object refs cards) _ (front_bytes (object refs cards) c) c ws
+    node_bytes (sparse refs cards) c ws = sparse_bytes refs cards _ (front_bytes (sparse refs cards) c) c ws
+    node_bytes (range r) c ws = row_bytes (range r) _ (front_bytes (range r) c) c ws
 
-    entry-bytes : (v : Node) (k i : ℕ) (x : Next) → MadeBytes (entryMade src v rule k i x)
-    unfolding entryMade
-    entry-bytes v k i short = tt
-    entry-bytes v k i (next c ws) =
+    entry_bytes : (v : Node) (k i : ℕ) (x : Next) → MadeBytes (entry_made src v rule k i x)
+    unfolding entry_made
+    entry_bytes v k i short = tt
+    entry_bytes v k i (next c ws) =
         pick_case MadeBytes _ _ _
-        (λ _. pick_case MadeBytes _ _ _ (λ _. pick_case MadeBytes _ _ _ (λ _. tt) (λ _. node-bytes v c ws)) (λ _. tt))
+        (λ _. pick_case MadeBytes _ _ _ (λ _. pick_case MadeBytes _ _ _ (λ _. tt) (λ _. node_bytes v c ws)) (λ _. tt))
         (λ _. tt)
 
-  build-bytes : (look : ℕ → Node) (f k i : ℕ) (ws : List ℕ) → MadeBytes (build src look f k i ws)
+  build_bytes : (look : ℕ → Node) (f k i : ℕ) (ws : List ℕ) → MadeBytes (build src look f k i ws)
   unfolding build
-  build-bytes look zero k i ws = tt
-  build-bytes look (suc f) k i ws = entry-bytes (build src look f) (build-bytes look f) (look k) k i (next_of ws)
+  build_bytes look zero k i ws = tt
+  build_bytes look (suc f) k i ws = entry_bytes (build src look f) (build_bytes look f) (look k) k i (next_of ws)
 
 -- ---- what is put out
 
@@ -196,8 +196,8 @@ supplied_bytes (made b []) h = pick_case PutBytes _ _ _ (λ _. tt) (λ _. h)
 
 module _ (p ws src : List ℕ) (bytes : Bytes src) where
   made_bytes : MadeBytes (made_by p ws src)
-  unfolding made_by buildOf
-  made_bytes = pick_case MadeBytes _ _ _ (λ _ i. lit< tt) (λ _. build-bytes src bytes _ _ (get_or p 1 0) 0 ws)
+  unfolding made_by build_of
+  made_bytes = pick_case MadeBytes _ _ _ (λ _ i. lit< tt) (λ _. build_bytes src bytes _ _ (get_or p 1 0) 0 ws)
 
   -- Where the source is bytes, so is what is supplied, whatever the plan and the list.
   pub supplied_is_bytes : (b : List ℕ) → supplied_by (made_by p ws src) ≡ put_out b → Bytes b

@@ -19,7 +19,7 @@ use Rattle.supply_entries.proofs.Stands.{put_small, Stood, stood, broken_is}
 use Rattle.protocol.specs.Numbers.{pick}
 use Rattle.protocol.specs.Plans.{look, without_type, plan_formed}
 use Rattle.plan_nodes.specs.Readers.{At}
-use Rattle.protocol.specs.Building.{made, buildOf, made_by, supplied_by, write_of}
+use Rattle.protocol.specs.Building.{made, build_of, made_by, supplied_by, write_of}
 use Rattle.protocol.specs.Answers.{refused_put, put_out, output_roomed, output_after}
 
 -- ---- the plan's root
@@ -37,7 +37,7 @@ module _ (src p ws : List ℕ) (f : plan_formed p ≡ true) (out : List ℕ) (r 
     pub whole_root : ((j : ℕ) → get_or p j 0 < 2 ^ 32) → At p r
     whole_root w = rw er (at_root p f some_type w)
 
-    pub whole_some : put_at (buildOf src (look p) r 0 ws) 0 out ≡ put_at (made_by p ws src) 0 out
+    pub whole_some : put_at (build_of src (look p) r 0 ws) 0 out ≡ put_at (made_by p ws src) 0 out
     unfolding made_by pick
     whole_some = rw (some_type, er)
 
@@ -67,22 +67,22 @@ output_is (Done word at) list b ws out n out' e = cc
 
 module _ (p ws src out : List ℕ) where
   -- a refusal of a number
-  refused-with : (n : ℕ) → write_of p ws src (length out) ≡ refused_put n → Puts (write_of p ws src (length out)) (Refused n) out out
+  refused_with : (n : ℕ) → write_of p ws src (length out) ≡ refused_put n → Puts (write_of p ws src (length out)) (Refused n) out out
   unfolding answer_of output_after
-  refused-with n e = rw e (record { answer = refl; output = refl })
+  refused_with n e = rw e (record { answer = refl; output = refl })
 
   pub puts_unformed : plan_formed p ≡ false → Puts (write_of p ws src (length out)) (Refused 33) out out
   unfolding write_of pick
-  puts_unformed e = refused-with 33 (rw e)
+  puts_unformed e = refused_with 33 (rw e)
 
   module _ (f : plan_formed p ≡ true) where
-    formed-is : write_of p ws src (length out) ≡ output_roomed (length out) (supplied_by (made_by p ws src))
+    formed_is : write_of p ws src (length out) ≡ output_roomed (length out) (supplied_by (made_by p ws src))
     unfolding write_of pick
-    formed-is = rw f
+    formed_is = rw f
 
     unsupplied : supplied_by (made_by p ws src) ≡ refused_put 34 → Puts (write_of p ws src (length out)) (Refused 34) out out
     unfolding output_roomed
-    unsupplied e = refused-with 34 (formed-is ∙ rw e)
+    unsupplied e = refused_with 34 (formed_is ∙ rw e)
 
     pub puts_broken : (none : List ℕ) → broken ≡ put_at (made_by p ws src) 0 none → Puts (write_of p ws src (length out)) (Refused 34) out out
     unfolding supplied_by
@@ -103,21 +103,21 @@ module _ (p ws src out : List ℕ) where
         size : length s.body ≡ at
         size = omega (arith, s.next)
 
-        supplied-is : supplied_by (made_by p ws src) ≡ put_out s.body
-        supplied-is = ap supplied_by s.is ∙ fits s.body us z (omega (arith, s.next, s.small))
+        supplied_is : supplied_by (made_by p ws src) ≡ put_out s.body
+        supplied_is = ap supplied_by s.is ∙ fits s.body us z (omega (arith, s.next, s.small))
 
         pub puts_full : length out < at → Puts (write_of p ws src (length out)) (Refused 32) out out
         unfolding output_roomed pick
         puts_full h =
             let l : length out < length s.body = omega (arith, size) in
-            refused-with 32 (formed-is ∙ rw (supplied-is, lt-ltb (length out) (length s.body) l))
+            refused_with 32 (formed_is ∙ rw (supplied_is, lt-ltb (length out) (length s.body) l))
 
         module _ (h : at ≤ length out) (out' : List ℕ) where
-          puts-sets : out' ≡ sets out 0 s.body → Puts (write_of p ws src (length out)) (Written at) out out'
+          puts_sets : out' ≡ sets out 0 s.body → Puts (write_of p ws src (length out)) (Written at) out out'
           unfolding output_roomed pick answer_of output_after
-          puts-sets o =
+          puts_sets o =
               let l : length s.body ≤ length out = omega (arith, size) in
-              rw (formed-is, supplied-is, le-ltb (length out) (length s.body) l)
+              rw (formed_is, supplied_is, le-ltb (length out) (length s.body) l)
               (record {
                 answer = ap Written (sym size);
                 output = o ∙ sets-eq s.body out 0 (omega arith) ∙ ap (λ (n : ℕ). s.body ++ drop n out) (zero-add (length s.body));
@@ -126,7 +126,7 @@ module _ (p ws src out : List ℕ) where
           -- put out by a second pass
           pub puts_whole : (r : Built) → stand_of r ws out' ≡ put_at (made_by p ws src) 0 out → Puts (write_of p ws src (length out)) (Written at) out out'
           puts_whole r e =
-              puts-sets (output_is r ws s.body us out (0 + length s.body) out' (e ∙ rw s.is (put_small s.body us 0 out (omega (arith, size, s.small)))))
+              puts_sets (output_is r ws s.body us out (0 + length s.body) out' (e ∙ rw s.is (put_small s.body us 0 out (omega (arith, size, s.small)))))
 
           -- copied from where the first pass put it
           copied : at ≤ length none' → take at none' ≡ s.body
@@ -135,4 +135,4 @@ module _ (p ws src out : List ℕ) where
               ap (take at) (s.output ∙ sets-eq s.body none 0 (omega arith)) ∙ take_at s.body (drop (0 + length s.body) none) at size
 
           pub puts_copied : at ≤ length none' → out' ≡ sets out 0 (take at none') → Puts (write_of p ws src (length out)) (Written at) out out'
-          puts_copied l o = puts-sets (o ∙ ap (sets out 0) (copied l))
+          puts_copied l o = puts_sets (o ∙ ap (sets out 0) (copied l))

@@ -8,7 +8,7 @@ ghost use Rattle.supply_entries.specs.Emitting.{put_at, stand_of};
 ghost use Rattle.supply_write.specs.Answers.{Puts};
 ghost use Rattle.protocol.specs.Plans.{look, plan_formed};
 ghost use Rattle.plan_nodes.specs.Readers.{At};
-ghost use Rattle.protocol.specs.Building.{buildOf, made_by, write_of};
+ghost use Rattle.protocol.specs.Building.{build_of, made_by, write_of};
 
 use supply_entries::{Built, Read, list};
 
@@ -33,7 +33,7 @@ fn build_top(
     out: &mut [u8],
 ) -> Built
     requires { (At plan.now node) × (Memo plan.now needs.now) }
-    ensures { stand_of result list.now out.new ≡ put_at (buildOf src.now (look plan.now) node 0 list.now) 0 out.old }
+    ensures { stand_of result list.now out.new ≡ put_at (build_of src.now (look plan.now) node 0 list.now) 0 out.old }
 {
     let Read::Whole(entry) = list::next_entry(list, 0) else {
         return Built::Failed;

@@ -22,7 +22,7 @@ use Rattle.find_path.proofs.Calls.{passed}
 use Rattle.protocol.specs.Numbers.{pick, be}
 use Rattle.protocol.specs.Answers.{Outcome, refused, accepted}
 use Rattle.protocol.specs.Messages.{read, fields_read, message_call}
-use Rattle.protocol.specs.Descriptors.{Block, bare_form, allBlocks, DescribedType, no_type, block_type, root_in, rooted_at, rooted_blocks, describe}
+use Rattle.protocol.specs.Descriptors.{Block, bare_form, all_blocks, DescribedType, no_type, block_type, root_in, rooted_at, rooted_blocks, describe}
 use Rattle.protocol.specs.Lists.{Forest, words}
 use Rattle.protocol.specs.Values.{ValueOutcome}
 use Rattle.protocol.specs.Plans.{plan_formed}
@@ -49,8 +49,8 @@ module _ (side : ℕ) (s : List ℕ) (room u : ℕ) (ws : List ℕ) where
         (bounded side s room u ws e).listed,
       )
 
-  whole-read : WholeMessage side s u ws × (length ws ≤ room) → message_call side s room ≡ read u ws
-  whole-read x =
+  whole_read : WholeMessage side s u ws × (length ws ≤ room) → message_call side s room ≡ read u ws
+  whole_read x =
       let w = x.0 in
       let n = be (take 4 (drop 1 s)) in
       let k : n + 1 ≤ length s = rw (← w.used) w.inside in
@@ -68,7 +68,7 @@ module _ (side : ℕ) (s : List ℕ) (room u : ℕ) (ws : List ℕ) where
       }) room x.1
 
   pub message_exact : (message_call side s room ≡ read u ws) ↔ (WholeMessage side s u ws × (length ws ≤ room))
-  message_exact = (read_whole, whole-read)
+  message_exact = (read_whole, whole_read)
 
 -- ---- descriptors
 
@@ -91,7 +91,7 @@ no_bytes (x ∷ d) e = absurd (omega arith)
 -- what is accepted passed the first two tests, and is "no type" or has a root
 data Opened (d root : List ℕ) (t : DescribedType) : Type 0 where
   none_in : d ≡ [] → length root ≡ 16 → be root ≡ 0 → no_type ≡ t → Opened d root t
-  some_in : length d ≤ 65535 → length root ≡ 16 → (be root ≡ 0 → ⊥) → rooted_blocks (length d) (be root) (allBlocks bare_form d) ≡ accepted t
+  some_in : length d ≤ 65535 → length root ≡ 16 → (be root ≡ 0 → ⊥) → rooted_blocks (length d) (be root) (all_blocks bare_form d) ≡ accepted t
       → Opened d root t
 
 -- a root is one of the blocks that were read
@@ -100,7 +100,7 @@ record Rooted (i : ℕ) (o : Outcome (List Block)) (t : DescribedType) : Type 0 
   index : ℕ
   blocks_are : o ≡ accepted blocks
   root_is : root_in i blocks ≡ some index
-  type-is : block_type blocks index ≡ t
+  type_is : block_type blocks index ≡ t
 
 rooted : (size i : ℕ) (o : Outcome (List Block)) (t : DescribedType) → rooted_blocks size i o ≡ accepted t → Rooted i o t
 unfolding rooted_blocks rooted_at
@@ -109,7 +109,7 @@ rooted size i (accepted bs) t e = go (root_in i bs) refl e
   where
     go : (k : Option ℕ) → root_in i bs ≡ k → rooted_at size bs k ≡ accepted t → Rooted i (accepted bs) t
     go none w e = unrefused 18 size t e
-    go (some k) w e = record { blocks = bs; index = k; blocks_are = refl; root_is = w; type-is = cc }
+    go (some k) w e = record { blocks = bs; index = k; blocks_are = refl; root_is = w; type_is = cc }
 
 module _ (d root : List ℕ) where
   opened : (t : DescribedType) → describe bare_form d root ≡ accepted t → Opened d root t
@@ -138,8 +138,8 @@ module _ (d root : List ℕ) where
       go : Opened d root no_type → (d ≡ []) × (length root ≡ 16) × (be root ≡ 0)
       go (none_in a b c f) = (a, b, c)
       go (some_in a b c f) =
-          let r = rooted (length d) (be root) (allBlocks bare_form d) no_type f in
-          let h = r.type-is in
+          let r = rooted (length d) (be root) (all_blocks bare_form d) no_type f in
+          let h = r.type_is in
           let z : ◌≡◌ {A = ℕ} 0 1 = cc in
           absurd (omega arith)
 
@@ -157,18 +157,18 @@ module _ (d root : List ℕ) where
         go : Opened d root (block_type bs i) → TypedDescriptor d root bs i
         go (none_in a b c f) = let z : ◌≡◌ {A = ℕ} 0 1 = cc in absurd (omega arith)
         go (some_in a b c f) =
-            let r = rooted (length d) (be root) (allBlocks bare_form d) (block_type bs i) f in
-            let h = r.type-is in
+            let r = rooted (length d) (be root) (all_blocks bare_form d) (block_type bs i) f in
+            let h = r.type_is in
             let x : r.blocks ≡ bs = cc in
             let k : r.index ≡ i = cc in
             record { size = a; id_size = b; id_some = c; blocks_are = rw x at r.blocks_are; root_is = rw (x, k) at r.root_is }
 
-    is-typed : TypedDescriptor d root bs i → describe bare_form d root ≡ accepted (block_type bs i)
+    is_typed : TypedDescriptor d root bs i → describe bare_form d root ≡ accepted (block_type bs i)
     unfolding describe rooted_blocks rooted_at pick
-    is-typed x = rw (le-ltb _ _ x.size, eq-eqb _ _ x.id_size, ne_eqb _ _ x.id_some, x.blocks_are, x.root_is)
+    is_typed x = rw (le-ltb _ _ x.size, eq-eqb _ _ x.id_size, ne_eqb _ _ x.id_some, x.blocks_are, x.root_is)
 
     pub descriptor_exact : (describe bare_form d root ≡ accepted (block_type bs i)) ↔ TypedDescriptor d root bs i
-    descriptor_exact = (typed, is-typed)
+    descriptor_exact = (typed, is_typed)
 
   -- the code's own definition has these numbers, and so has this one
   pub descriptor_number : (n p : ℕ) → describe bare_form d root ≡ refused n p → (10 ≤ n) × (n ≤ 18) × (p ≤ length d)

@@ -9,7 +9,7 @@ use native.Mathlib.Omega.{arith}
 use lib.ListN.{length, take, drop, length-append}
 use lib.Seq.{drop_at}
 use borrow.Author.Tests.{ltb-false}
-use Rattle.wire.proofs.Numbers.{length-bytes}
+use Rattle.wire.proofs.Numbers.{length_bytes}
 use Rattle.wire.proofs.Picks.{pick_split, pick_case}
 use Rattle.message_laws.proofs.Words.{bounded}
 use Rattle.descriptor_compile.proofs.Compiles.{planned_room}
@@ -89,7 +89,7 @@ whole_fits t room unwritten = tt
 whole_fits t room (wrote b (w ∷ ws)) = tt
 whole_fits t room (wrote b []) =
     pick_case (FitsOut room) _ _ _ (λ _. tt)
-    (λ _. pick_case (FitsOut room) _ _ _ (λ _. tt) (λ e. simp (length-append, length-bytes) (omega (arith, ltb-false room (length b + 5) e))))
+    (λ _. pick_case (FitsOut room) _ _ _ (λ _. tt) (λ e. simp (length-append, length_bytes) (omega (arith, ltb-false room (length b + 5) e))))
 
 body_fits : (k : (Option Layout)) (t : ℕ) (ws src : List ℕ) (room : ℕ) → FitsOut room (body_written k t ws src room)
 unfolding body_written
@@ -139,9 +139,9 @@ value_keeps p list src r l l' c = rw (c.answer, c.output) (put_keeps (write_from
 
 module _ (d root : List ℕ) (r : Answer) (p p' : List ℕ) (c : CompilesPlan d root r p p') (z : r.number ≡ 0) where
   -- a compiling call that succeeded wrote a plan
-  wrote-plan : (ws : List ℕ) × (compile_by bare_form d root (word_room (length p)) ≡ accepted ws) × (r.first ≡ length ws)
+  wrote_plan : (ws : List ℕ) × (compile_by bare_form d root (word_room (length p)) ≡ accepted ws) × (r.first ≡ length ws)
   unfolding compile_answer
-  wrote-plan = go (compile_by bare_form d root (word_room (length p))) refl c.answer
+  wrote_plan = go (compile_by bare_form d root (word_room (length p))) refl c.answer
     where
       go : (o : Outcome (List ℕ)) → compile_by bare_form d root (word_room (length p)) ≡ o → r ≡ compile_answer o
           → (ws : List ℕ) × (compile_by bare_form d root (word_room (length p)) ≡ accepted ws) × (r.first ≡ length ws)
@@ -152,19 +152,19 @@ module _ (d root : List ℕ) (r : Answer) (p p' : List ℕ) (c : CompilesPlan d 
       go (accepted ws) e a = (ws, e, ap (λ (x : Answer). x.first) a)
 
   pub runs_rules : (s : List ℕ) (room : ℕ) → run_from (take (4 * r.first) p') s room ≡ rules_by bare_form d root s room
-  runs_rules s room = let w = wrote-plan in rw w.2 (demand_three_bytes d root p p' r c w.0 w.1 s room)
+  runs_rules s room = let w = wrote_plan in rw w.2 (demand_three_bytes d root p p' r c w.0 w.1 s room)
 
-  not-33 : (s : List ℕ) (room : ℕ) (o : ValueOutcome) → rules_by bare_form d root s room ≡ o → (run_answer o).number ≡ 33 → ⊥
+  not_33 : (s : List ℕ) (room : ℕ) (o : ValueOutcome) → rules_by bare_form d root s room ≡ o → (run_answer o).number ≡ 33 → ⊥
   unfolding run_answer
-  not-33 s room (refused n q) e h = never_33 d root s room n q e h
-  not-33 s room (accepted f) e h = omega arith
+  not_33 s room (refused n q) e h = never_33 d root s room n q e h
+  not_33 s room (accepted f) e h = omega arith
 
   pub call_runs_rules : (s : List ℕ) (q : Answer) (l l' : List ℕ) → RunsValue (take (4 * r.first) p') s q l l'
       → SettlesRun (rules_by bare_form d root s (word_room (length l))) q l l' × (q.number ≡ 33 → ⊥)
   call_runs_rules s q l l' x =
       let room = word_room (length l) in
       let y : SettlesRun (rules_by bare_form d root s room) q l l' = rw (runs_rules s room) at x in
-      (y, λ h. not-33 s room (rules_by bare_form d root s room) refl (ap (λ (a : Answer). a.number) (sym y.answer) ∙ h))
+      (y, λ h. not_33 s room (rules_by bare_form d root s room) refl (ap (λ (a : Answer). a.number) (sym y.answer) ∙ h))
 
 -- ---- what is written is bytes
 

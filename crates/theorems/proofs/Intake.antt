@@ -16,7 +16,7 @@ use Rattle.theorems.specs.Terms.{KeepsBehind, WholeMessage, IntakeNumber, Lacks,
 use Rattle.forms.specs.declared.Intake.{Intake}
 use Rattle.forms.specs.declared.Delivery.{Delivery}
 use Rattle.protocol.specs.Answers.{over}
-use Rattle.protocol.specs.Intake.{streamOf, intake_start, Taken, refused_delivery, taken_delivery, take_of, SettlesTaken, TakesDelivery, hand_all, conversation}
+use Rattle.protocol.specs.Intake.{stream_of, intake_start, Taken, refused_delivery, taken_delivery, take_of, SettlesTaken, TakesDelivery, hand_all, conversation}
 use Rattle.protocol.specs.Intake.{all_bytes, Reached}
 
 -- two cuts come to one reading
@@ -25,7 +25,7 @@ pub two_cuts : (side : ℕ) (l l' : List ℕ) (ds ds' : List (List ℕ)) → len
 two_cuts side l l' ds ds' e f =
     let x = cuts side l ds in
     let y = cuts side l' ds' in
-    let s : streamOf side (length l) (all_bytes ds) ≡ streamOf side (length l') (all_bytes ds') = rw (e, f) in
+    let s : stream_of side (length l) (all_bytes ds) ≡ stream_of side (length l') (all_bytes ds') = rw (e, f) in
     record {
       messages_same = x.messages_are ∙ rw s (sym y.messages_are);
       state_same = x.state_is ∙ rw (s, e) (sym y.state_is);

@@ -10,7 +10,7 @@ use lib.ListN.{length, get_or, take, drop, length-take, length-drop}
 use borrow.Author.Tests.{eqb-false, le-leb, lt-leb}
 use Rattle.wire.proofs.Picks.{pick_split}
 use Rattle.value_scalars.proofs.Times.{time_number, time_length}
-use Rattle.value_laws.proofs.Forests.{words-length}
+use Rattle.value_laws.proofs.Forests.{words_length}
 use Rattle.plan_nodes.proofs.Nodes.{at_root}
 use Rattle.run_plan.proofs.Numbers.{run_expected}
 use Rattle.find_path.proofs.Paths.{follow_nowhere, Within, Accepts}
@@ -62,7 +62,7 @@ never_33 d root s room n q e h =
 
 -- as many as the words of a list say
 listed_entries : (n : ℕ) (f : Forest) → 4 * entry_count f ≤ n + 4 → Entries n (length (words f))
-listed_entries n f h = record { entries = entry_count f; words = words-length f; most = omega arith }
+listed_entries n f h = record { entries = entry_count f; words = words_length f; most = omega arith }
 
 pub run_entries : (p s : List ℕ) (room : ℕ) (f : Forest) → run_of p s room ≡ accepted f → Entries (length s) (length (words f))
 run_entries p s room f e = listed_entries (length s) f (rw e at (run_fits p s room))

@@ -18,7 +18,7 @@ use Rattle.protocol.specs.Constants.{MOST_LENGTH, MESSAGE_HEAD, MOST_DESCRIPTOR,
 use Rattle.protocol.specs.Numbers.{be}
 use Rattle.protocol.specs.Answers.{accepted}
 use Rattle.protocol.specs.Messages.{Layout, layout_of, read, fields_read}
-use Rattle.protocol.specs.Descriptors.{Block, bare_form, allBlocks, root_in}
+use Rattle.protocol.specs.Descriptors.{Block, bare_form, all_blocks, root_in}
 use Rattle.protocol.specs.Lists.{Forest, empty, tree}
 use Rattle.protocol.specs.Finding.{nowhere, sibling, lines_in, lead}
 use Rattle.protocol.specs.Supplies.{HasSupply}
@@ -59,7 +59,7 @@ pub record TypedDescriptor (d root : List ℕ) (bs : List Block) (i : ℕ) : Typ
   pub size : length d ≤ MOST_DESCRIPTOR
   pub id_size : length root ≡ 16
   pub id_some : be root ≡ 0 → ⊥
-  pub blocks_are : allBlocks bare_form d ≡ accepted bs
+  pub blocks_are : all_blocks bare_form d ≡ accepted bs
   pub root_is : root_in (be root) bs ≡ some i
 
 -- number and place of a run over L bytes by a well-formed plan: 28 or 31 at 0, or a fault of the value at a place in it (R1.3, R1.9, R1.12)

@@ -38,7 +38,7 @@ use Rattle.protocol.specs.Supplies.{HasSupply, zeroed}
 use Rattle.protocol.specs.Building.{write_of}
 use Rattle.protocol.specs.Crossing.{words_in, crosses, word_room, refusal, success, ReadsMessage, WritesMessage, CompilesPlan}
 use Rattle.protocol.specs.Crossing.{run_from, SettlesRun, RunsValue, find_from, find_answer, number_from, number_answer, write_from, WritesValue}
-use Rattle.protocol.specs.Intake.{streamOf, intake_start, intake_reset, refused_delivery, taken_delivery, TakesDelivery, hand_all, conversation, all_bytes}
+use Rattle.protocol.specs.Intake.{stream_of, intake_start, intake_reset, refused_delivery, taken_delivery, TakesDelivery, hand_all, conversation, all_bytes}
 use Rattle.protocol.specs.Intake.{ComesTo, Reached}
 use Rattle.theorems.specs.Terms.{Bytes, Words, Keeps, WholeMessage, TypedDescriptor, RunNumber, PathEntry, IndexesApart, NoneHas}
 use Rattle.theorems.specs.Terms.{KeepsBehind, IntakeNumber, Lacks, SameEnd, Does}
@@ -283,7 +283,7 @@ CompileAndRun =
 -- bytes held are those of reading all bytes message after message; so two cuts of the same bytes end alike, whatever the rooms held (R10.8).
 abbrev pub CutsAgree : Type 0
 CutsAgree =
-    ((side : ℕ) (l : List ℕ) (ds : List (List ℕ)) → ComesTo side (length l) (hand_all (conversation side l) ds) (streamOf side (length l) (all_bytes ds)))
+    ((side : ℕ) (l : List ℕ) (ds : List (List ℕ)) → ComesTo side (length l) (hand_all (conversation side l) ds) (stream_of side (length l) (all_bytes ds)))
     × ((side : ℕ) (l l' : List ℕ) (ds ds' : List (List ℕ)) → length l ≡ length l' → all_bytes ds ≡ all_bytes ds'
     → SameEnd (hand_all (conversation side l) ds) (hand_all (conversation side l') ds'))
 

@@ -70,8 +70,8 @@ module _ (cards : List ℕ) where
       fewer (lacking cards marks n) (requires (get_or cards n 0)) (get_or marks n false) _ _ (given_most marks n) (lacking_fewer marks n)
 
   -- before any was given
-  no-mark : (k i : ℕ) → get_or (replicate k false) i false ≡ false
-  no-mark k i =
+  no_mark : (k i : ℕ) → get_or (replicate k false) i false ≡ false
+  no_mark k i =
       elim (dec_lt i k) [
         | yes l ↦ get_or-replicate k i false false l
         | no l ↦ get_or-eq_default (replicate k false) false (rw (length-replicate k false) (omega arith))
@@ -80,7 +80,7 @@ module _ (cards : List ℕ) where
   pub given_none : (k n : ℕ) → given cards (replicate k false) n ≡ 0
   unfolding given pick
   given_none k zero = refl
-  given_none k (suc n) = rw (given_none k n, no-mark k n) (pick_case (λ m. 0 + m ≡ 0) (requires (get_or cards n 0)) 0 0 (λ _. refl) (λ _. refl))
+  given_none k (suc n) = rw (given_none k n, no_mark k n) (pick_case (λ m. 0 + m ≡ 0) (requires (get_or cards n 0)) 0 0 (λ _. refl) (λ _. refl))
 
   -- an element is given that was not given before
   module _ (marks : List Bool) (i : ℕ) where

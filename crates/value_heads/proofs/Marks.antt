@@ -99,9 +99,9 @@ module _ (s : List ℕ) where
 
   -- the next element, by its index
   module _ (n at : ℕ) (z : 0 < n) (x : Index) (ex : x ≡ sparse_index s 512 [] at) where
-    in-next : indexes_in s n at ≡ from_index (indexes_in s (n - 1)) s at x
+    in_next : indexes_in s n at ≡ from_index (indexes_in s (n - 1)) s at x
     unfolding indexes_in
-    in-next = go n z
+    in_next = go n z
       where
         go : (m : ℕ) → 0 < m → indexes_in s m at ≡ from_index (indexes_in s (m - 1)) s at x
         go zero h = absurd (omega arith)
@@ -109,11 +109,11 @@ module _ (s : List ℕ) where
 
     pub in_bad : (m : ℕ) → x ≡ Bad m → indexes_in s n at ≡ []
     unfolding from_index
-    in_bad m e = in-next ∙ rw e
+    in_bad m e = in_next ∙ rw e
 
     pub in_known : (i : ℕ) → x ≡ Known i → (h : Head) → h ≡ optional s false i (at + 8) (word s (at + 4)) → indexes_in s n at ≡ i ∷ after_head (indexes_in s (n - 1)) h
     unfolding from_index
-    in_known i e h eh = in-next ∙ rw (e, eh)
+    in_known i e h eh = in_next ∙ rw (e, eh)
 
     -- its index has a mark, and its head is whole
     pub in_whole : (i : ℕ) → x ≡ Known i → at ≤ length s → (i < 512) × (at + 8 ≤ length s)

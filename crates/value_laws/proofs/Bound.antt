@@ -18,7 +18,7 @@ use Rattle.protocol.specs.Heads.{end_of}
 use Rattle.protocol.specs.Nodes.{Node, leaf, enum, row, arrays, tuple, object, sparse, range, ref_at}
 use Rattle.protocol.specs.Lists.{Entry, Forest, entry_of}
 use Rattle.value_laws.specs.Counts.{entry_count}
-use Rattle.protocol.specs.Values.{ValueOutcome, then, under, Rule, absent, present, element_outcome, Form, containerEnd, elements, row_form}
+use Rattle.protocol.specs.Values.{ValueOutcome, then, under, Rule, absent, present, element_outcome, Form, container_end, elements, row_form}
 use Rattle.protocol.specs.Values.{sparse_form, no_marks, leaf_rule, row_rule, sparse_rule, by_node, value}
 use Rattle.protocol.specs.Answers.{refused, accepted}
 
@@ -41,10 +41,10 @@ unfolding leaf_rule entry_count
 leaf_fits good k i base s = pick_case (Fits (length s + 4)) good _ _ (λ _. omega arith) (λ _. zero-le)
 
 module _ (rule : Rule) (small : (k i base : ℕ) (s : List ℕ) → Fits (length s + 4) (rule k i base s)) where
-  present-fits : (o : Option ℕ) (i start : ℕ) (s : List ℕ) → Fits (length s + 4) (present rule o i start s)
+  present_fits : (o : Option ℕ) (i start : ℕ) (s : List ℕ) → Fits (length s + 4) (present rule o i start s)
   unfolding present
-  present-fits none i start s = zero-le
-  present-fits (some k) i start s = small k i start s
+  present_fits none i start s = zero-le
+  present_fits (some k) i start s = small k i start s
 
   module _ (ref : ℕ → Option ℕ) (base : ℕ) (s : List ℕ) where
     -- an element and the rest, from `at` on
@@ -57,46 +57,46 @@ module _ (rule : Rule) (small : (k i base : ℕ) (s : List ℕ) → Fits (length
     step_fits at (Present i start size) le d rest e =
         let part : List ℕ = take size (drop start s) in
         let len : length part ≤ size = simp (length-take, length-drop) (omega arith) in
-        omega (arith, entries_then_le (present rule (ref i) i (base + start) part) rest, present-fits (ref i) i (base + start) part, e d.1)
+        omega (arith, entries_then_le (present rule (ref i) i (base + start) part) rest, present_fits (ref i) i (base + start) part, e d.1)
 
     module _ {S : Type 0} (form : Form S) (spaced : (st : S) (at : ℕ) → Spaced (length s) at (form.head st at)) where
       pub elements_fit : (n : ℕ) (st : S) (at : ℕ) → at ≤ length s → 4 * entries_of (elements form rule ref base s n st at) + at ≤ length s
-      unfolding elements containerEnd entry_count
+      unfolding elements container_end entry_count
       elements_fit zero st at le =
           let P : ValueOutcome → Type 0 = λ o. 4 * entries_of o + at ≤ length s in
           pick_case P _ _ _ (λ _. pick_case P _ _ _ (λ _. omega arith) (λ _. omega arith)) (λ _. omega arith)
       elements_fit (suc n) st at le = step_fits at (form.head st at) le (spaced st at) _ (elements_fit n _ _)
 
-      below-fits : (k i n : ℕ) (st : S) (at : ℕ) → at ≤ length s → Fits (length s + 4) (under (entry_of k i base (length s)) (elements form rule ref base s n st at))
-      below-fits k i n st at le = under_fits (entry_of k i base (length s)) (length s) (elements form rule ref base s n st at) (omega (arith, elements_fit n st at le))
+      below_fits : (k i n : ℕ) (st : S) (at : ℕ) → at ≤ length s → Fits (length s + 4) (under (entry_of k i base (length s)) (elements form rule ref base s n st at))
+      below_fits k i n st at le = under_fits (entry_of k i base (length s)) (length s) (elements form rule ref base s n st at) (omega (arith, elements_fit n st at le))
 
   module _ (k i base : ℕ) (s : List ℕ) where
     row_fits : (v : Node) (o : Opening) → Opened (length s) o → Fits (length s + 4) (row_rule v rule o k i base s)
     unfolding row_rule Opened
     row_fits v (Wrong n) h = zero-le
-    row_fits v (Elements n first at) h = below-fits (ref_at v) base s (row_form v s) (λ i at. row_spaced s at v i) k i n first at h.1
+    row_fits v (Elements n first at) h = below_fits (ref_at v) base s (row_form v s) (λ i at. row_spaced s at v i) k i n first at h.1
 
     sparse_fits : (refs cards : List ℕ) (o : Opening) → Opened (length s) o → Fits (length s + 4) (sparse_rule refs cards rule o k i base s)
     unfolding sparse_rule Opened
     sparse_fits refs cards (Wrong n) h = zero-le
     sparse_fits refs cards (Elements n first at) h =
-        below-fits (ref_at (sparse refs cards)) base s (sparse_form cards s) (λ marks at. sparse_spaced s at cards marks) k i n no_marks at h.1
+        below_fits (ref_at (sparse refs cards)) base s (sparse_form cards s) (λ marks at. sparse_spaced s at cards marks) k i n no_marks at h.1
 
-    byNode-fits : (v : Node) → Fits (length s + 4) (by_node v rule k i base s)
+    by_node_fits : (v : Node) → Fits (length s + 4) (by_node v rule k i base s)
     unfolding by_node
-    byNode-fits (leaf f) = leaf_fits _ k i base s
-    byNode-fits enum = leaf_fits _ k i base s
-    byNode-fits (row r) = row_fits (row r) _ (node_opened (row r) s)
-    byNode-fits (arrays r) = row_fits (arrays r) _ (node_opened (arrays r) s)
-    byNode-fits (tuple refs) = row_fits (tuple refs) _ (node_opened (tuple refs) s)
-    byNode-fits (object refs cards) = row_fits (object refs cards) _ (node_opened (object refs cards) s)
-    byNode-fits (sparse refs cards) = sparse_fits refs cards _ (node_opened (sparse refs cards) s)
-    byNode-fits (range r) = row_fits (range r) _ (node_opened (range r) s)
+    by_node_fits (leaf f) = leaf_fits _ k i base s
+    by_node_fits enum = leaf_fits _ k i base s
+    by_node_fits (row r) = row_fits (row r) _ (node_opened (row r) s)
+    by_node_fits (arrays r) = row_fits (arrays r) _ (node_opened (arrays r) s)
+    by_node_fits (tuple refs) = row_fits (tuple refs) _ (node_opened (tuple refs) s)
+    by_node_fits (object refs cards) = row_fits (object refs cards) _ (node_opened (object refs cards) s)
+    by_node_fits (sparse refs cards) = sparse_fits refs cards _ (node_opened (sparse refs cards) s)
+    by_node_fits (range r) = row_fits (range r) _ (node_opened (range r) s)
 
 pub value_fits : (look : ℕ → Node) (f k i base : ℕ) (s : List ℕ) → Fits (length s + 4) (value look f k i base s)
 unfolding value
 value_fits look zero k i base s = zero-le
-value_fits look (suc f) k i base s = byNode-fits (value look f) (value_fits look f) k i base s (look k)
+value_fits look (suc f) k i base s = by_node_fits (value look f) (value_fits look f) k i base s (look k)
 
 pub entries_bound : (look : ℕ → Node) (f k i base : ℕ) (s : List ℕ) (g : Forest) → value look f k i base s ≡ accepted g → 4 * entry_count g ≤ length s + 4
 entries_bound look f k i base s g e = rw e at (value_fits look f k i base s)

@@ -20,7 +20,7 @@ use Rattle.protocol.specs.Heads.{word, bounds, set_opening, count_opening, spars
 use Rattle.protocol.specs.Heads.{object_head, envelope_head, sparse_index, requires, sparse_rest, sparse_head, dimension}
 use Rattle.protocol.specs.Nodes.{Node, leaf, enum, row, arrays, tuple, object, sparse, range, ref_at}
 use Rattle.protocol.specs.Lists.{Entry}
-use Rattle.protocol.specs.Values.{ValueOutcome, then, under, Rule, absent, present, element_outcome, Form, containerEnd, elements, row_head}
+use Rattle.protocol.specs.Values.{ValueOutcome, then, under, Rule, absent, present, element_outcome, Form, container_end, elements, row_head}
 use Rattle.protocol.specs.Values.{row_form, sparse_form, no_marks, opening_of, leaf_rule, row_rule, sparse_rule, by_node, value}
 use Rattle.protocol.specs.Answers.{refused, accepted}
 
@@ -50,42 +50,42 @@ module _ (P : ℕ → Type 0) (s : List ℕ) where
   abbrev H : Head → Type 0
   H = Numbered P
 
-  sized-numbered : (i start size : ℕ) → P i → H (element_in s i start size)
+  sized_numbered : (i start size : ℕ) → P i → H (element_in s i start size)
   unfolding element_in
-  sized-numbered i start size x =
+  sized_numbered i start size x =
       pick_case H _ _ _ (λ _. (lit≤ tt, lit≤ tt)) (λ _. pick_case H _ _ _ (λ _. (lit≤ tt, lit≤ tt)) (λ _. x))
 
-  optional-numbered : (required : Bool) (i start size : ℕ) → P i → H (optional s required i start size)
+  optional_numbered : (required : Bool) (i start size : ℕ) → P i → H (optional s required i start size)
   unfolding optional
-  optional-numbered required i start size x =
-      pick_case H _ _ _ (λ _. pick_case H _ _ _ (λ _. (lit≤ tt, lit≤ tt)) (λ _. x)) (λ _. sized-numbered i start size x)
+  optional_numbered required i start size x =
+      pick_case H _ _ _ (λ _. pick_case H _ _ _ (λ _. (lit≤ tt, lit≤ tt)) (λ _. x)) (λ _. sized_numbered i start size x)
 
-  plain-numbered : (gap i at : ℕ) → P i → H (plain_head s gap i at)
+  plain_numbered : (gap i at : ℕ) → P i → H (plain_head s gap i at)
   unfolding plain_head
-  plain-numbered gap i at x = pick_case H _ _ _ (λ _. (lit≤ tt, lit≤ tt)) (λ _. sized-numbered i _ _ x)
+  plain_numbered gap i at x = pick_case H _ _ _ (λ _. (lit≤ tt, lit≤ tt)) (λ _. sized_numbered i _ _ x)
 
-  object-numbered : (required : Bool) (i at : ℕ) → P i → H (object_head s required i at)
+  object_numbered : (required : Bool) (i at : ℕ) → P i → H (object_head s required i at)
   unfolding object_head
-  object-numbered required i at x = pick_case H _ _ _ (λ _. (lit≤ tt, lit≤ tt)) (λ _. optional-numbered required i _ _ x)
+  object_numbered required i at x = pick_case H _ _ _ (λ _. (lit≤ tt, lit≤ tt)) (λ _. optional_numbered required i _ _ x)
 
-  envelope-numbered : (i at : ℕ) → P i → H (envelope_head s i at)
+  envelope_numbered : (i at : ℕ) → P i → H (envelope_head s i at)
   unfolding envelope_head
-  envelope-numbered i at x =
+  envelope_numbered i at x =
       pick_case H _ _ _ (λ _. (lit≤ tt, lit≤ tt))
       (λ _. pick_case H _ _ _
       (λ _. pick_case H _ _ _ (λ _. (lit≤ tt, lit≤ tt))
       (λ _. pick_case H _ _ _ (λ _. (lit≤ tt, lit≤ tt))
-      (λ _. pick_case H _ _ _ (λ _. sized-numbered i _ _ x) (λ _. (lit≤ tt, lit≤ tt)))))
+      (λ _. pick_case H _ _ _ (λ _. sized_numbered i _ _ x) (λ _. (lit≤ tt, lit≤ tt)))))
       (λ _. (lit≤ tt, lit≤ tt)))
 
-  sparse-numbered : (cards : List ℕ) (marks : List Bool) (at : ℕ) → ((i : ℕ) → i < length cards → P i) → H (sparse_head s cards marks at)
+  sparse_numbered : (cards : List ℕ) (marks : List Bool) (at : ℕ) → ((i : ℕ) → i < length cards → P i) → H (sparse_head s cards marks at)
   unfolding sparse_head sparse_rest sparse_index
-  sparse-numbered cards marks at x =
+  sparse_numbered cards marks at x =
       let Q : Index → Type 0 = λ j. H (sparse_rest s cards at j) in
       pick_case Q _ _ _ (λ _. (lit≤ tt, lit≤ tt))
       (λ _. pick_case Q _ _ _ (λ _. (lit≤ tt, lit≤ tt))
       (λ few. pick_case Q _ _ _ (λ _. (lit≤ tt, lit≤ tt))
-      (λ _. optional-numbered (requires (get_or cards (word s at) 0)) (word s at) _ _ (x (word s at) (leb-false _ _ few)))))
+      (λ _. optional_numbered (requires (get_or cards (word s at) 0)) (word s at) _ _ (x (word s at) (leb-false _ _ few)))))
 
 -- a fault, or elements whose number and first index have P
 abbrev Opens : (P : ℕ → ℕ → Type 0) → Opening → Type 0
@@ -96,9 +96,9 @@ module _ (P : ℕ → ℕ → Type 0) (s : List ℕ) where
   abbrev O : Opening → Type 0
   O = Opens P
 
-  set-opens : ((n first : ℕ) → P n first) → O (set_opening s)
+  set_opens : ((n first : ℕ) → P n first) → O (set_opening s)
   unfolding set_opening dimension
-  set-opens x =
+  set_opens x =
       pick_case O _ _ _ (λ _. (lit≤ tt, lit≤ tt))
       (λ _. pick_case O _ _ _ (λ _. (lit≤ tt, lit≤ tt))
       (λ _. pick_case O _ _ _ (λ _. (lit≤ tt, lit≤ tt))
@@ -109,17 +109,17 @@ module _ (P : ℕ → ℕ → Type 0) (s : List ℕ) where
       (λ _. pick_case O _ _ _ (λ _. (lit≤ tt, lit≤ tt))
       (λ _. pick_case O _ _ _ (λ _. x _ _) (λ _. (lit≤ tt, lit≤ tt))))))))))
 
-  count-opens : (n : ℕ) → P n 0 → O (count_opening n s)
+  count_opens : (n : ℕ) → P n 0 → O (count_opening n s)
   unfolding count_opening
-  count-opens n x = pick_case O _ _ _ (λ _. (lit≤ tt, lit≤ tt)) (λ _. pick_case O _ _ _ (λ _. x) (λ _. (lit≤ tt, lit≤ tt)))
+  count_opens n x = pick_case O _ _ _ (λ _. (lit≤ tt, lit≤ tt)) (λ _. pick_case O _ _ _ (λ _. x) (λ _. (lit≤ tt, lit≤ tt)))
 
-  sparse-opens : ((n first : ℕ) → P n first) → O (sparse_opening s)
+  sparse_opens : ((n first : ℕ) → P n first) → O (sparse_opening s)
   unfolding sparse_opening
-  sparse-opens x = pick_case O _ _ _ (λ _. (lit≤ tt, lit≤ tt)) (λ _. pick_case O _ _ _ (λ _. (lit≤ tt, lit≤ tt)) (λ _. x _ _))
+  sparse_opens x = pick_case O _ _ _ (λ _. (lit≤ tt, lit≤ tt)) (λ _. pick_case O _ _ _ (λ _. (lit≤ tt, lit≤ tt)) (λ _. x _ _))
 
-  range-opens : ((n first : ℕ) → P n first) → O (range_opening s)
+  range_opens : ((n first : ℕ) → P n first) → O (range_opening s)
   unfolding range_opening bounds
-  range-opens x =
+  range_opens x =
       pick_case O _ _ _ (λ _. (lit≤ tt, lit≤ tt))
       (λ _. pick_case O _ _ _
       (λ _. pick_case O _ _ _ (λ _. x _ _)
@@ -132,57 +132,57 @@ module _ (all : ℕ) where
   abbrev J : ValueOutcome → Type 0
   J = Judged all
 
-  then-judged : (a b : ValueOutcome) → J a → J b → J (then a b)
+  then_judged : (a b : ValueOutcome) → J a → J b → J (then a b)
   unfolding then
-  then-judged (refused n p) b x y = x
-  then-judged (accepted f) (refused n p) x y = y
-  then-judged (accepted f) (accepted g) x y = tt
+  then_judged (refused n p) b x y = x
+  then_judged (accepted f) (refused n p) x y = y
+  then_judged (accepted f) (accepted g) x y = tt
 
-  under-judged : (e : Entry) (o : ValueOutcome) → J o → J (under e o)
+  under_judged : (e : Entry) (o : ValueOutcome) → J o → J (under e o)
   unfolding under
-  under-judged e (refused n p) x = x
-  under-judged e (accepted f) x = tt
+  under_judged e (refused n p) x = x
+  under_judged e (accepted f) x = tt
 
-  absent-judged : (o : Option ℕ) (i start : ℕ) → Has o → J (absent o i start)
+  absent_judged : (o : Option ℕ) (i start : ℕ) → Has o → J (absent o i start)
   unfolding absent
-  absent-judged none i start x = absurd x
-  absent-judged (some k) i start x = tt
+  absent_judged none i start x = absurd x
+  absent_judged (some k) i start x = tt
 
-  leaf-judged : (good : Bool) (k i base : ℕ) (s : List ℕ) → base + length s ≤ all → J (leaf_rule good k i base s)
+  leaf_judged : (good : Bool) (k i base : ℕ) (s : List ℕ) → base + length s ≤ all → J (leaf_rule good k i base s)
   unfolding leaf_rule
-  leaf-judged good k i base s fit = pick_case J _ _ _ (λ _. tt) (λ _. ((lit≤ tt, lit≤ tt), omega arith))
+  leaf_judged good k i base s fit = pick_case J _ _ _ (λ _. tt) (λ _. ((lit≤ tt, lit≤ tt), omega arith))
 
   -- the values of a key
   abbrev JudgedBy : Rule → ℕ → Type 0
   JudgedBy rule k = (i base : ℕ) (s : List ℕ) → base + length s ≤ all → J (rule k i base s)
 
   module _ (rule : Rule) where
-    present-judged : (o : Option ℕ) → ((r : ℕ) → o ≡ some r → JudgedBy rule r) → (i start : ℕ) (s : List ℕ) → start + length s ≤ all → Has o
+    present_judged : (o : Option ℕ) → ((r : ℕ) → o ≡ some r → JudgedBy rule r) → (i start : ℕ) (s : List ℕ) → start + length s ≤ all → Has o
         → J (present rule o i start s)
     unfolding present
-    present-judged none inner i start s fit x = absurd x
-    present-judged (some k) inner i start s fit x = inner k refl i start s fit
+    present_judged none inner i start s fit x = absurd x
+    present_judged (some k) inner i start s fit x = inner k refl i start s fit
 
     module _ (ref : ℕ → Option ℕ) (inner : (i r : ℕ) → ref i ≡ some r → JudgedBy rule r) (base : ℕ) (s : List ℕ) (fit : base + length s ≤ all) where
-      member-judged : (at : ℕ) (h : Head) → Spaced (length s) at h → Numbered (λ i. Has (ref i)) h → J (element_outcome rule ref base s h)
+      member_judged : (at : ℕ) (h : Head) → Spaced (length s) at h → Numbered (λ i. Has (ref i)) h → J (element_outcome rule ref base s h)
       unfolding element_outcome
-      member-judged at (Fault n) d x = (x, omega arith)
-      member-judged at (Absent i start) d x = absent-judged (ref i) i (base + start) x
-      member-judged at (Present i start size) d x =
-          present-judged (ref i) (inner i) i (base + start) (take size (drop start s)) (simp (length-take, length-drop) (omega arith)) x
+      member_judged at (Fault n) d x = (x, omega arith)
+      member_judged at (Absent i start) d x = absent_judged (ref i) i (base + start) x
+      member_judged at (Present i start size) d x =
+          present_judged (ref i) (inner i) i (base + start) (take size (drop start s)) (simp (length-take, length-drop) (omega arith)) x
 
       -- where n elements are left, the next has a node, and so have those after it
       module _ {S : Type 0} (form : Form S) (spaced : (st : S) (at : ℕ) → Spaced (length s) at (form.head st at)) (Left : ℕ → S → Type 0)
           (step : (n : ℕ) (st : S) (at : ℕ) → Left (suc n) st → Numbered (λ i. Has (ref i)) (form.head st at) × Left n (form.next st (form.head st at))) where
-        elements-judged : (n : ℕ) (st : S) (at : ℕ) → Left n st → J (elements form rule ref base s n st at)
-        unfolding elements containerEnd
-        elements-judged zero st at x =
+        elements_judged : (n : ℕ) (st : S) (at : ℕ) → Left n st → J (elements form rule ref base s n st at)
+        unfolding elements container_end
+        elements_judged zero st at x =
             pick_case J _ _ _
             (λ _. pick_case J _ _ _ (λ _. ((lit≤ tt, lit≤ tt), omega arith)) (λ _. tt))
             (λ _. ((lit≤ tt, lit≤ tt), omega arith))
-        elements-judged (suc n) st at x =
+        elements_judged (suc n) st at x =
             let y = step n st at x in
-            then-judged _ _ (member-judged at (form.head st at) (spaced st at) y.0) (elements-judged n _ _ y.1)
+            then_judged _ _ (member_judged at (form.head st at) (spaced st at) y.0) (elements_judged n _ _ y.1)
 
 -- ---- a value
 
@@ -207,38 +207,38 @@ Covered (sparse refs cards) = length cards ≤ length refs
 Covered (range r) = Unit {0}
 
 module _ (all : ℕ) (rule : Rule) (k i base : ℕ) (s : List ℕ) (fit : base + length s ≤ all) where
-  row-judged : (v : Node) → ((j r : ℕ) → ref_at v j ≡ some r → JudgedBy all rule r)
+  row_judged : (v : Node) → ((j r : ℕ) → ref_at v j ≡ some r → JudgedBy all rule r)
       → ((j at : ℕ) → Has (ref_at v j) → Numbered (λ i. Has (ref_at v i)) (row_head v s j at)) → (o : Opening) → Opens (Led v) o
       → Judged all (row_rule v rule o k i base s)
   unfolding row_rule
-  row-judged v inner heads (Wrong n) x = (x, omega arith)
-  row-judged v inner heads (Elements n first at) x =
-      under-judged all _ _
-      (elements-judged all rule (ref_at v) inner base s fit (row_form v s) (λ j at. row_spaced s at v j) (Led v)
+  row_judged v inner heads (Wrong n) x = (x, omega arith)
+  row_judged v inner heads (Elements n first at) x =
+      under_judged all _ _
+      (elements_judged all rule (ref_at v) inner base s fit (row_form v s) (λ j at. row_spaced s at v j) (Led v)
       (λ n j at y. (heads j at (y j (omega arith) (omega arith)), λ m a b. y m (omega arith) (omega arith))) n first at x)
 
-  sparse-judged : (refs cards : List ℕ) → ((j r : ℕ) → ref_at (sparse refs cards) j ≡ some r → JudgedBy all rule r) → length cards ≤ length refs
+  sparse_judged : (refs cards : List ℕ) → ((j r : ℕ) → ref_at (sparse refs cards) j ≡ some r → JudgedBy all rule r) → length cards ≤ length refs
       → (o : Opening) → Opens (λ n first. Unit {0}) o → Judged all (sparse_rule refs cards rule o k i base s)
   unfolding sparse_rule ref_at
-  sparse-judged refs cards inner each (Wrong n) x = (x, omega arith)
-  sparse-judged refs cards inner each (Elements n first at) x =
-      under-judged all _ _
-      (elements-judged all rule (ref_at (sparse refs cards)) inner base s fit (sparse_form cards s) (λ marks at. sparse_spaced s at cards marks)
-      (λ n marks. Unit {0}) (λ n marks at y. (sparse-numbered _ s cards marks at (λ j lt. elem_has refs j (omega arith)), tt)) n no_marks at tt)
+  sparse_judged refs cards inner each (Wrong n) x = (x, omega arith)
+  sparse_judged refs cards inner each (Elements n first at) x =
+      under_judged all _ _
+      (elements_judged all rule (ref_at (sparse refs cards)) inner base s fit (sparse_form cards s) (λ marks at. sparse_spaced s at cards marks)
+      (λ n marks. Unit {0}) (λ n marks at y. (sparse_numbered _ s cards marks at (λ j lt. elem_has refs j (omega arith)), tt)) n no_marks at tt)
 
-  byNode-judged : (v : Node) → Covered v → ((j r : ℕ) → ref_at v j ≡ some r → JudgedBy all rule r) → Judged all (by_node v rule k i base s)
+  by_node_judged : (v : Node) → Covered v → ((j r : ℕ) → ref_at v j ≡ some r → JudgedBy all rule r) → Judged all (by_node v rule k i base s)
   unfolding by_node opening_of row_head ref_at
-  byNode-judged (leaf f) c inner = leaf-judged all _ k i base s fit
-  byNode-judged enum c inner = leaf-judged all _ k i base s fit
-  byNode-judged (row r) c inner = row-judged (row r) inner (plain-numbered _ s 0) _ (set-opens _ s (λ _ _ _ _ _. tt))
-  byNode-judged (arrays r) c inner = row-judged (arrays r) inner (envelope-numbered _ s) _ (set-opens _ s (λ _ _ _ _ _. tt))
-  byNode-judged (tuple refs) c inner =
-      row-judged (tuple refs) inner (plain-numbered _ s 4) _ (count-opens _ s (length refs) (λ j _ lt. elem_has refs j (omega arith)))
-  byNode-judged (object refs cards) c inner =
-      row-judged (object refs cards) inner (λ j. object-numbered _ s (requires (get_or cards j 0)) j) _
-      (count-opens _ s (length refs) (λ j _ lt. elem_has refs j (omega arith)))
-  byNode-judged (sparse refs cards) c inner = sparse-judged refs cards inner c _ (sparse-opens _ s (λ _ _. tt))
-  byNode-judged (range r) c inner = row-judged (range r) inner (plain-numbered _ s 0) _ (range-opens _ s (λ _ _ _ _ _. tt))
+  by_node_judged (leaf f) c inner = leaf_judged all _ k i base s fit
+  by_node_judged enum c inner = leaf_judged all _ k i base s fit
+  by_node_judged (row r) c inner = row_judged (row r) inner (plain_numbered _ s 0) _ (set_opens _ s (λ _ _ _ _ _. tt))
+  by_node_judged (arrays r) c inner = row_judged (arrays r) inner (envelope_numbered _ s) _ (set_opens _ s (λ _ _ _ _ _. tt))
+  by_node_judged (tuple refs) c inner =
+      row_judged (tuple refs) inner (plain_numbered _ s 4) _ (count_opens _ s (length refs) (λ j _ lt. elem_has refs j (omega arith)))
+  by_node_judged (object refs cards) c inner =
+      row_judged (object refs cards) inner (λ j. object_numbered _ s (requires (get_or cards j 0)) j) _
+      (count_opens _ s (length refs) (λ j _ lt. elem_has refs j (omega arith)))
+  by_node_judged (sparse refs cards) c inner = sparse_judged refs cards inner c _ (sparse_opens _ s (λ _ _. tt))
+  by_node_judged (range r) c inner = row_judged (range r) inner (plain_numbered _ s 0) _ (range_opens _ s (λ _ _ _ _ _. tt))
 
 -- Each node of Good refers to smaller keys of Good, and is covered: then its values are judged, with any fuel that is enough.
 module _ (look : ℕ → Node) (Good : ℕ → Type 0) (closed : (k i r : ℕ) → Good k → ref_at (look k) i ≡ some r → (Good r) × (r < k))
@@ -247,5 +247,5 @@ module _ (look : ℕ → Node) (Good : ℕ → Type 0) (closed : (k i r : ℕ) �
   unfolding value
   value_judged zero k good enough i base s fit = absurd (omega arith)
   value_judged (suc f) k good enough i base s fit =
-      byNode-judged all (value look f) k i base s fit (look k) (covered k good)
+      by_node_judged all (value look f) k i base s fit (look k) (covered k good)
       (λ j r e. let c = closed k j r good e in value_judged f r c.0 (omega arith))

@@ -12,26 +12,26 @@ unfolding words append
 words_append empty g = refl
 words_append (tree e below next) g = rw (words_append next g) (simp list-assoc)
 
-pub width-append : (f g : Forest) → width (append f g) ≡ width f + width g
+pub width_append : (f g : Forest) → width (append f g) ≡ width f + width g
 unfolding width append
-width-append empty g = omega arith
-width-append (tree e below next) g = omega (arith, width-append next g)
+width_append empty g = omega arith
+width_append (tree e below next) g = omega (arith, width_append next g)
 
-pub count-append : (f g : Forest) → entry_count (append f g) ≡ entry_count f + entry_count g
+pub count_append : (f g : Forest) → entry_count (append f g) ≡ entry_count f + entry_count g
 unfolding entry_count append
-count-append empty g = omega arith
-count-append (tree e below next) g = omega (arith, count-append next g)
+count_append empty g = omega arith
+count_append (tree e below next) g = omega (arith, count_append next g)
 
 -- five words an entry
-pub words-length : (f : Forest) → length (words f) ≡ 5 * entry_count f
+pub words_length : (f : Forest) → length (words f) ≡ 5 * entry_count f
 unfolding words entry_count
-words-length empty = refl
-words-length (tree e below next) = simp length-append (omega (arith, words-length below, words-length next))
+words_length empty = refl
+words_length (tree e below next) = simp length-append (omega (arith, words_length below, words_length next))
 
-pub append-empty : (f : Forest) → append f empty ≡ f
+pub append_empty : (f : Forest) → append f empty ≡ f
 unfolding append
-append-empty empty = refl
-append-empty (tree e below next) = rw (append-empty next)
+append_empty empty = refl
+append_empty (tree e below next) = rw (append_empty next)
 
 pub append_assoc : (f g h : Forest) → append f (append g h) ≡ append (append f g) h
 unfolding append

@@ -24,8 +24,8 @@ module _ (s : List ℕ) (at : ℕ) where
   abbrev P : Head → Type 0
   P = Spaced (length s) at
 
-  plain-spaced : (gap i : ℕ) → P (plain_head s gap i at)
-  plain-spaced gap i = plain_cases P (λ _ _. tt) s gap i at (λ whole _ fit. (omega arith, omega arith))
+  plain_spaced : (gap i : ℕ) → P (plain_head s gap i at)
+  plain_spaced gap i = plain_cases P (λ _ _. tt) s gap i at (λ whole _ fit. (omega arith, omega arith))
 
   pub sparse_spaced : (cards : List ℕ) (marks : List Bool) → P (sparse_head s cards marks at)
   sparse_spaced cards marks =
@@ -35,13 +35,13 @@ module _ (s : List ℕ) (at : ℕ) where
   unfolding row_head
   row_spaced (leaf f) i = tt
   row_spaced enum i = tt
-  row_spaced (row r) i = plain-spaced 0 i
+  row_spaced (row r) i = plain_spaced 0 i
   row_spaced (arrays r) i = envelope_cases P (λ _ _. tt) s i at (λ whole _ fit. (omega arith, omega arith))
-  row_spaced (tuple refs) i = plain-spaced 4 i
+  row_spaced (tuple refs) i = plain_spaced 4 i
   row_spaced (object refs cards) i =
       object_cases P (λ _ _. tt) s (requires (get_or cards i 0)) i at (λ whole _. (omega arith, omega arith)) (λ whole _ fit. (omega arith, omega arith))
   row_spaced (sparse refs cards) i = tt
-  row_spaced (range r) i = plain-spaced 0 i
+  row_spaced (range r) i = plain_spaced 0 i
 
 pub node_opened : (v : Node) (s : List ℕ) → Opened (length s) (opening_of v s)
 unfolding opening_of Opened

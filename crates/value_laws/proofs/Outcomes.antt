@@ -3,7 +3,7 @@ use mathlib.Core.Path.{◌≡◌, refl, ap}
 use mathlib.Core.List.{List, [], ◌++◌, append-nil}
 use Prim.Native.Nat.{ℕ, ◌+◌, ◌≤◌, zero-le}
 use native.Mathlib.Omega.{arith}
-use Rattle.value_laws.proofs.Forests.{words_append, width-append, count-append, append-empty, append_assoc}
+use Rattle.value_laws.proofs.Forests.{words_append, width_append, count_append, append_empty, append_assoc}
 use Rattle.protocol.specs.Lists.{Entry, Forest, empty, append, width, words, entry_words}
 use Rattle.value_laws.specs.Counts.{entry_count}
 use Rattle.protocol.specs.Values.{ValueOutcome, then, under}
@@ -24,7 +24,7 @@ then_empty (accepted f) = refl
 pub empty_then : (o : ValueOutcome) → then o (accepted empty) ≡ o
 unfolding then
 empty_then (refused n p) = refl
-empty_then (accepted f) = ap accepted (append-empty f)
+empty_then (accepted f) = ap accepted (append_empty f)
 
 -- ---- what is listed, and nothing of a refusal
 
@@ -66,20 +66,20 @@ pub entries_then : (a b : ValueOutcome) → Accepted (then a b) → entries_of (
 unfolding then
 entries_then (refused n p) b h = absurd h
 entries_then (accepted f) (refused n p) h = absurd h
-entries_then (accepted f) (accepted g) h = count-append f g
+entries_then (accepted f) (accepted g) h = count_append f g
 
 -- of a refusal too
 pub entries_then_le : (a b : ValueOutcome) → entries_of (then a b) ≤ entries_of a + entries_of b
 unfolding then
 entries_then_le (refused n p) b = zero-le
 entries_then_le (accepted f) (refused n p) = zero-le
-entries_then_le (accepted f) (accepted g) = omega (arith, count-append f g)
+entries_then_le (accepted f) (accepted g) = omega (arith, count_append f g)
 
 pub width_then : (a b : ValueOutcome) → Accepted (then a b) → width_of (then a b) ≡ width_of a + width_of b
 unfolding then
 width_then (refused n p) b h = absurd h
 width_then (accepted f) (refused n p) h = absurd h
-width_then (accepted f) (accepted g) h = width-append f g
+width_then (accepted f) (accepted g) h = width_append f g
 
 module _ (e : Entry) where
   pub accepted_under : (o : ValueOutcome) → Accepted (under e o) → Accepted o

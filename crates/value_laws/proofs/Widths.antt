@@ -11,11 +11,11 @@ use Rattle.forms.specs.declared.Opening.{Opening}
 use Rattle.forms.specs.declared.Opening.TheVariants.{Elements, Wrong}
 use Rattle.forms.specs.declared.Head.{Head}
 use Rattle.forms.specs.declared.Head.TheVariants.{Present, Absent, Fault}
-use Rattle.value_laws.proofs.Forests.{width-append}
+use Rattle.value_laws.proofs.Forests.{width_append}
 use Rattle.value_laws.proofs.Outcomes.{Accepted, width_of}
 use Rattle.protocol.specs.Nodes.{Node, leaf, enum, row, arrays, tuple, object, sparse, range}
 use Rattle.protocol.specs.Lists.{Entry, width}
-use Rattle.protocol.specs.Values.{ValueOutcome, then, under, Rule, absent, present, element_outcome, Form, containerEnd, elements, leaf_rule, row_rule, sparse_rule, by_node, value}
+use Rattle.protocol.specs.Values.{ValueOutcome, then, under, Rule, absent, present, element_outcome, Form, container_end, elements, leaf_rule, row_rule, sparse_rule, by_node, value}
 use Rattle.protocol.specs.Answers.{refused, accepted}
 
 -- if it is accepted, n trees side by side
@@ -27,7 +27,7 @@ then_wide : (n : ℕ) (a b : ValueOutcome) → Wide 1 a → Wide n b → Wide (s
 unfolding then
 then_wide n (refused m p) b h k = tt
 then_wide n (accepted f) (refused m p) h k = tt
-then_wide n (accepted f) (accepted g) h k = omega (arith, width-append f g)
+then_wide n (accepted f) (accepted g) h k = omega (arith, width_append f g)
 
 wide_width : (n : ℕ) (o : ValueOutcome) → Accepted o → Wide n o → width_of o ≡ n
 wide_width n (refused m p) ok h = absurd ok
@@ -41,36 +41,36 @@ under_wide e (refused m p) = tt
 under_wide e (accepted f) = refl
 
 module _ (k i base : ℕ) (s : List ℕ) where
-  leaf-wide : (good : Bool) → Wide 1 (leaf_rule good k i base s)
+  leaf_wide : (good : Bool) → Wide 1 (leaf_rule good k i base s)
   unfolding leaf_rule width
-  leaf-wide good = pick_case (Wide 1) good _ _ (λ _. refl) (λ _. tt)
+  leaf_wide good = pick_case (Wide 1) good _ _ (λ _. refl) (λ _. tt)
 
   module _ (rule : Rule) where
-    row-wide : (v : Node) (o : Opening) → Wide 1 (row_rule v rule o k i base s)
+    row_wide : (v : Node) (o : Opening) → Wide 1 (row_rule v rule o k i base s)
     unfolding row_rule
-    row-wide v (Wrong n) = tt
-    row-wide v (Elements n first at) = under_wide _ _
+    row_wide v (Wrong n) = tt
+    row_wide v (Elements n first at) = under_wide _ _
 
-    sparse-wide : (refs cards : List ℕ) (o : Opening) → Wide 1 (sparse_rule refs cards rule o k i base s)
+    sparse_wide : (refs cards : List ℕ) (o : Opening) → Wide 1 (sparse_rule refs cards rule o k i base s)
     unfolding sparse_rule
-    sparse-wide refs cards (Wrong n) = tt
-    sparse-wide refs cards (Elements n first at) = under_wide _ _
+    sparse_wide refs cards (Wrong n) = tt
+    sparse_wide refs cards (Elements n first at) = under_wide _ _
 
-    byNode-wide : (v : Node) → Wide 1 (by_node v rule k i base s)
+    by_node_wide : (v : Node) → Wide 1 (by_node v rule k i base s)
     unfolding by_node
-    byNode-wide (leaf f) = leaf-wide _
-    byNode-wide enum = leaf-wide _
-    byNode-wide (row r) = row-wide (row r) _
-    byNode-wide (arrays r) = row-wide (arrays r) _
-    byNode-wide (tuple refs) = row-wide (tuple refs) _
-    byNode-wide (object refs cards) = row-wide (object refs cards) _
-    byNode-wide (sparse refs cards) = sparse-wide refs cards _
-    byNode-wide (range r) = row-wide (range r) _
+    by_node_wide (leaf f) = leaf_wide _
+    by_node_wide enum = leaf_wide _
+    by_node_wide (row r) = row_wide (row r) _
+    by_node_wide (arrays r) = row_wide (arrays r) _
+    by_node_wide (tuple refs) = row_wide (tuple refs) _
+    by_node_wide (object refs cards) = row_wide (object refs cards) _
+    by_node_wide (sparse refs cards) = sparse_wide refs cards _
+    by_node_wide (range r) = row_wide (range r) _
 
-  value-wide : (look : ℕ → Node) (f : ℕ) → Wide 1 (value look f k i base s)
+  value_wide : (look : ℕ → Node) (f : ℕ) → Wide 1 (value look f k i base s)
   unfolding value
-  value-wide look zero = tt
-  value-wide look (suc f) = byNode-wide (value look f) (look k)
+  value_wide look zero = tt
+  value_wide look (suc f) = by_node_wide (value look f) (look k)
 
 -- ---- the elements of a container
 
@@ -80,24 +80,24 @@ absent_wide none i start = tt
 absent_wide (some k) i start = refl
 
 module _ (look : ℕ → Node) (f : ℕ) where
-  present-wide : (o : Option ℕ) (i start : ℕ) (s : List ℕ) → Wide 1 (present (value look f) o i start s)
+  present_wide : (o : Option ℕ) (i start : ℕ) (s : List ℕ) → Wide 1 (present (value look f) o i start s)
   unfolding present
-  present-wide none i start s = tt
-  present-wide (some k) i start s = value-wide k i start s look f
+  present_wide none i start s = tt
+  present_wide (some k) i start s = value_wide k i start s look f
 
   module _ (ref : ℕ → Option ℕ) (base : ℕ) (s : List ℕ) where
-    member-wide : (h : Head) → Wide 1 (element_outcome (value look f) ref base s h)
+    member_wide : (h : Head) → Wide 1 (element_outcome (value look f) ref base s h)
     unfolding element_outcome
-    member-wide (Fault n) = tt
-    member-wide (Absent i at) = absent_wide (ref i) i (base + at)
-    member-wide (Present i at size) = present-wide (ref i) i (base + at) (take size (drop at s))
+    member_wide (Fault n) = tt
+    member_wide (Absent i at) = absent_wide (ref i) i (base + at)
+    member_wide (Present i at size) = present_wide (ref i) i (base + at) (take size (drop at s))
 
     module _ {S : Type 0} (form : Form S) where
-      elements-wide : (n : ℕ) (st : S) (at : ℕ) → Wide n (elements form (value look f) ref base s n st at)
-      unfolding elements containerEnd width
-      elements-wide zero st at = pick_case (Wide 0) _ _ _ (λ _. pick_case (Wide 0) _ _ _ (λ _. tt) (λ _. refl)) (λ _. tt)
-      elements-wide (suc n) st at = then_wide n _ _ (member-wide (form.head st at)) (elements-wide n _ _)
+      elements_wide : (n : ℕ) (st : S) (at : ℕ) → Wide n (elements form (value look f) ref base s n st at)
+      unfolding elements container_end width
+      elements_wide zero st at = pick_case (Wide 0) _ _ _ (λ _. pick_case (Wide 0) _ _ _ (λ _. tt) (λ _. refl)) (λ _. tt)
+      elements_wide (suc n) st at = then_wide n _ _ (member_wide (form.head st at)) (elements_wide n _ _)
 
       pub elements_width : (n : ℕ) (st : S) (at : ℕ) → Accepted (elements form (value look f) ref base s n st at)
           → width_of (elements form (value look f) ref base s n st at) ≡ n
-      elements_width n st at ok = wide_width n (elements form (value look f) ref base s n st at) ok (elements-wide n st at)
+      elements_width n st at ok = wide_width n (elements form (value look f) ref base s n st at) ok (elements_wide n st at)

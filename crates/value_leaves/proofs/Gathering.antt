@@ -59,28 +59,28 @@ module _ (p : List ℕ) (k base : ℕ) (s : List ℕ) (n from at : ℕ) (l : Lis
         ≡ pick q (stopped 26 base) (led (elements form (value_of (look p)) (ref_at (look p k)) base s left marks pos) to l')
     before q et = g.leads ∙ ap (λ (r : Bool). pick r (stopped 26 base) (led (elements form (value_of (look p)) (ref_at (look p k)) base s left marks pos) to l')) et
 
-    leads-by : (q m : Bool) → twice ≡ q → get_or marks i false ≡ m
+    leads_by : (q m : Bool) → twice ≡ q → get_or marks i false ≡ m
         → led (elements form (value_of (look p)) (ref_at (look p k)) base s n no_marks from) at l
         ≡ pick (pick q true m) (stopped 26 base) (led (elements form (value_of (look p)) (ref_at (look p k)) base s (left - 1) (store marks i true) (start + size)) (to + 5) l'')
     unfolding end_of head_fault walk_of pick
-    leads-by true m et em = before true et
-    leads-by false true et em =
+    leads_by true m et em = before true et
+    leads_by false true et em =
         before false et
         ∙ sym (turn_fault (value_of (look p)) (single (look p)) (ref_at (look p k)) base s form marks pos to l' left z 26
         (sparse_twice p k a e s pos (get_or p (k + 1) 0) i refl (Known i) (sym known) refl marks em) (Refused 26 base) refl)
-    leads-by false false et em =
+    leads_by false false et em =
         let u = sparse_turn p k a e s pos (get_or p (k + 1) 0) i refl (Known i) (sym known) refl marks em (Present i start size) (sym eh) b in
         before false et
         ∙ turn_go (value_of (look p)) (single (look p)) (ref_at (look p k)) base s form marks pos to left l' z (Present i start size) u.is
         (Reached (to + 5)) l'' (leaf_led p k base s i start size child fits r (at_ref p k i child a r).0 x good to l' l'' el)
         (to + 5) refl (store marks i true) (u.next refl) (start + size) refl
 
-    counted-by : (q m : Bool) → twice ≡ q → get_or marks i false ≡ m → i < get_or p (k + 1) 0 → i < 512 → (count' : ℕ) → count' ≡ count + pick (requires (get_or (cards_at p k) i 0)) 1 0
+    counted_by : (q m : Bool) → twice ≡ q → get_or marks i false ≡ m → i < get_or p (k + 1) 0 → i < 512 → (count' : ℕ) → count' ≡ count + pick (requires (get_or (cards_at p k) i 0)) 1 0
         → pick q true m ≡ false → Counted p k (store marks i true) count'
     unfolding pick
-    counted-by true m et em below few count' ec f = clash (sym f)
-    counted-by false true et em below few count' ec f = clash (sym f)
-    counted-by false false et em below few count' ec f = counted_next p k marks count (g.counted et) i below few em (store marks i true) refl count' ec
+    counted_by true m et em below few count' ec f = clash (sym f)
+    counted_by false true et em below few count' ec f = clash (sym f)
+    counted_by false false et em below few count' ec f = counted_next p k marks count (g.counted et) i below few em (store marks i true) refl count' ec
 
   pub gathers_next : At p k → get_or p k 0 ≡ 6 → (pos : ℕ) → pos ≤ length s → (x : Given) (i child start size : ℕ) → x ≡ given_at p k s pos → x ≡ Whole i child start size
       → (marks : List Bool) (twice : Bool) (count left to : ℕ) (l' : List ℕ) → Gathers p k base s n from at l marks twice count left pos to l' → 0 < left
@@ -94,9 +94,9 @@ module _ (p : List ℕ) (k base : ℕ) (s : List ℕ) (n from at : ℕ) (l : Lis
       record {
         inside = h.2;
         few = omega (arith, g.few, h.1);
-        counted = counted-by a e pos b i child start size t.0 t.1 t.2 h.2 t.3 t.4 marks twice count left to l' g z l'' el
+        counted = counted_by a e pos b i child start size t.0 t.1 t.2 h.2 t.3 t.4 marks twice count left to l' g z l'' el
             twice (get_or marks i false) refl refl w.0 w.1 count' ec;
-        leads = leads-by a e pos b i child start size t.0 t.1 t.2 h.2 t.3 t.4 marks twice count left to l' g z l'' el twice (get_or marks i false) refl refl;
+        leads = leads_by a e pos b i child start size t.0 t.1 t.2 h.2 t.3 t.4 marks twice count left to l' g z l'' el twice (get_or marks i false) refl refl;
       }
 
 -- what the set says: an index was given twice, or none was

@@ -237,21 +237,21 @@ leaf_present v s (Present i at n) start size e = go (leaf_good v (take n (drop a
 
 module _ (v : Node) (s : List ℕ) where
   -- nor is an element that is not there a leaf
-  leaf-lost : (h : Head) → OneOf (1 ∷ 2 ∷ []) (tag_of the_type h) → Other ≡ leaf_in v s h
+  leaf_lost : (h : Head) → OneOf (1 ∷ 2 ∷ []) (tag_of the_type h) → Other ≡ leaf_in v s h
   unfolding leaf_in
-  leaf-lost = not_present (λ h. Other ≡ leaf_in v s h) (λ i start. refl) (λ n. refl)
+  leaf_lost = not_present (λ h. Other ≡ leaf_in v s h) (λ i start. refl) (λ n. refl)
 
   -- a node that is no leaf has none
-  leaf-none : ((t : List ℕ) → false ≡ leaf_good v t) → (h : Head) → Other ≡ leaf_in v s h
+  leaf_none : ((t : List ℕ) → false ≡ leaf_good v t) → (h : Head) → Other ≡ leaf_in v s h
   unfolding leaf_in pick
-  leaf-none n (Present i start size) = rw (sym (n (take size (drop start s))))
-  leaf-none n (Absent i start) = refl
-  leaf-none n (Fault m) = refl
+  leaf_none n (Present i start size) = rw (sym (n (take size (drop start s))))
+  leaf_none n (Absent i start) = refl
+  leaf_none n (Fault m) = refl
 
   module _ (gap at : ℕ) where
     pub leaf_none_at : ((t : List ℕ) → false ≡ leaf_good v t) → Other ≡ leaf_at v s gap at
     unfolding leaf_at
-    leaf_none_at n = leaf-none n (plain_head s gap 0 at)
+    leaf_none_at n = leaf_none n (plain_head s gap 0 at)
 
     pub leaf_short : length s - at < gap + 4 → Other ≡ leaf_at v s gap at
     unfolding leaf_at leaf_in plain_head pick
@@ -362,24 +362,24 @@ module _ (p : List ℕ) (k : ℕ) (s : List ℕ) (at : ℕ) where
 
   -- its index is known
   module _ (x : Index) (ex : x ≡ sparse_index s (get_or p (k + 1) 0) [] at) (i : ℕ) (e : x ≡ Known i) (child : ℕ) (r : pair_ref p k i ≡ child) where
-    given-known : given_at p k s at ≡ whole_of i child (leaf_in (look p child) s (head_of i))
+    given_known : given_at p k s at ≡ whole_of i child (leaf_in (look p child) s (head_of i))
     unfolding given_at given_by
-    given-known = rw (sym ex ∙ e, r)
+    given_known = rw (sym ex ∙ e, r)
 
     pub given_none : ((t : List ℕ) → false ≡ leaf_good (look p child) t) → Unknown ≡ given_at p k s at
     unfolding whole_of
-    given_none n = sym (given-known ∙ ap (whole_of i child) (sym (leaf-none (look p child) s n (head_of i))))
+    given_none n = sym (given_known ∙ ap (whole_of i child) (sym (leaf_none (look p child) s n (head_of i))))
 
     -- it is not there
     pub given_absent : (h : Head) → h ≡ head_of i → OneOf (1 ∷ 2 ∷ []) (tag_of the_type h) → Unknown ≡ given_at p k s at
     unfolding whole_of
-    given_absent h eh o = sym (given-known ∙ rw (sym eh) (ap (whole_of i child) (sym (leaf-lost (look p child) s h o))))
+    given_absent h eh o = sym (given_known ∙ rw (sym eh) (ap (whole_of i child) (sym (leaf_lost (look p child) s h o))))
 
     -- it is there, and its bytes are permitted or not
     pub given_there : at + 8 ≤ length s → (h : Head) → h ≡ head_of i → (j start size : ℕ) → h ≡ Present j start size
         → (b : Bool) → b ≡ leaf_good (look p child) (take size (drop start s)) → whole_of i child (pick b (Good start size) Other) ≡ given_at p k s at
     unfolding leaf_in
-    given_there whole h eh j start size eq b eb = sym (given-known ∙ rw ((head_there i whole h eh j start size eq).0, eb))
+    given_there whole h eh j start size eq b eb = sym (given_known ∙ rw ((head_there i whole h eh j start size eq).0, eb))
 
   whole_in : (x : Index) (i child start size : ℕ) → given_by p k s at x ≡ Whole i child start size
       → (x ≡ Known i) × (pair_ref p k i ≡ child) × (leaf_in (look p child) s (head_of i) ≡ Good start size)

@@ -36,9 +36,9 @@ use Rattle.protocol.specs.Plans.{look, cards_at}
 
 -- the head of an element that is there, in a container that is no set of arrays
 module _ (s : List ℕ) (i at : ℕ) (p : List ℕ) (k : ℕ) (o : Ordered p k) (n : get_or p k 0 ≡ 3 → ⊥) where
-  field-head : (gap start size : ℕ) → gap ≡ gap_of (get_or p k 0) → plain_head s gap i at ≡ Present i start size → row_head (look p k) s i at ≡ Present i start size
+  field_head : (gap start size : ℕ) → gap ≡ gap_of (get_or p k 0) → plain_head s gap i at ≡ Present i start size → row_head (look p k) s i at ≡ Present i start size
   unfolding gap_of pick
-  field-head gap start size eg e =
+  field_head gap start size eg e =
       ⊎_elim
       (λ (x : get_or p k 0 ≡ 4).
       let g : gap ≡ 4 = eg ∙ rw x in
@@ -61,9 +61,9 @@ module _ (p : List ℕ) (k : ℕ) (e : get_or p k 0 ≡ 2) where
   unfolding ref_at
   row_refers i = record { to = get_or p (k + 1) 0; is = rw (look_row p k e) }
 
-  same-ref : (i j child : ℕ) → ref_at (look p k) i ≡ some child → ref_at (look p k) j ≡ some child
+  same_ref : (i j child : ℕ) → ref_at (look p k) i ≡ some child → ref_at (look p k) j ≡ some child
   unfolding ref_at
-  same-ref i j child r = rw (look_row p k e) (rw (look_row p k e) at r)
+  same_ref i j child r = rw (look_row p k e) (rw (look_row p k e) at r)
 
   same_head : (s : List ℕ) (i at size : ℕ) → size ≤ 16 → Standing s at size → row_head (look p k) s i at ≡ Present i (at + 4) size
   unfolding row_head
@@ -131,7 +131,7 @@ module _ (p : List ℕ) (k base : ℕ) (s : List ℕ) (n first from at : ℕ) (l
         let b = x.0.fits in
         let fits : pos + 4 + size ≤ length s = omega arith in
         let after : pos + 4 ≤ pos + 4 = omega arith in
-        rw (x.2, x.3) (going_next z (pos + 4) size child (same_head p k e s i pos size f.small x.0) after fits (same-ref p k e j i child r) (at_ref p k j child a r).0
+        rw (x.2, x.3) (going_next z (pos + 4) size child (same_head p k e s i pos size f.small x.0) after fits (same_ref p k e j i child r) (at_ref p k j child a r).0
         (f.kind x.0.some) (f.rule x.0.some (take size (drop (pos + 4) s)) ∙ x.1) l'' (rw (x.2, x.3) at es) same)
 
     -- the next element of any container but a set of arrays
@@ -141,7 +141,7 @@ module _ (p : List ℕ) (k base : ℕ) (s : List ℕ) (n first from at : ℕ) (l
         → Going p k base s n first from at l (left - 1) (i + 1) (start + size) (to + 5) l''
     going_other z o u gap eg child r leaf start size x e l'' el same =
         let t = leaf_in_lem p child (at_ref p k i child o.node r).0 s gap i pos leaf start size g.2 x e in
-        going_next z start size child (field-head s i pos p k o u gap start size eg t.0) t.1 t.2 r (at_ref p k i child o.node r).0 t.3 t.4 l'' el same
+        going_next z start size child (field_head s i pos p k o u gap start size eg t.0) t.1 t.2 r (at_ref p k i child o.node r).0 t.3 t.4 l'' el same
 
 pub gap_few : (kind : ℕ) → gap_of kind ≤ 16
 unfolding gap_of

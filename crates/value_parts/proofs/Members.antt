@@ -192,20 +192,20 @@ module _ (p : List ℕ) (k : ℕ) (a : At p k) (kind : ℕ) (c : Container p k k
         refl
 
   module _ (i base : ℕ) (s : List ℕ) (at : ℕ) (l : List ℕ) (x : Opening) (ex : x ≡ opening_of (look p k) s) where
-    value-sparse-is : get_or p k 0 ≡ 6 → value_of (look p) k i base s ≡ sparse_rule (refs_at p k) (cards_at p k) (value_of (look p)) x k i base s
+    value_sparse_is : get_or p k 0 ≡ 6 → value_of (look p) k i base s ≡ sparse_rule (refs_at p k) (cards_at p k) (value_of (look p)) x k i base s
     unfolding by_node
-    value-sparse-is e = step_is p k a i base s ∙ rw (ex, look_sparse p k e)
+    value_sparse_is e = step_is p k a i base s ∙ rw (ex, look_sparse p k e)
 
-    value-row-is : (get_or p k 0 ≡ 6 → ⊥) → value_of (look p) k i base s ≡ row_rule (look p k) (value_of (look p)) x k i base s
-    value-row-is e = step_is p k a i base s ∙ by_row (look p k) (value_of (look p)) k i base s (is_row e) ∙ rw ex
+    value_row_is : (get_or p k 0 ≡ 6 → ⊥) → value_of (look p) k i base s ≡ row_rule (look p k) (value_of (look p)) x k i base s
+    value_row_is e = step_is p k a i base s ∙ by_row (look p k) (value_of (look p)) k i base s (is_row e) ∙ rw ex
 
     -- a head that is refused
     pub value_wrong : (n : ℕ) → x ≡ Wrong n → stopped (opening_fault x) base ≡ led (value_of (look p) k i base s) at l
     unfolding opening_fault led row_rule sparse_rule
     value_wrong n e =
         ⊎_elim
-        (λ (f : get_or p k 0 ≡ 6). rw (value-sparse-is f, e))
-        (λ (f : get_or p k 0 ≡ 6 → ⊥). rw (value-row-is f, e))
+        (λ (f : get_or p k 0 ≡ 6). rw (value_sparse_is f, e))
+        (λ (f : get_or p k 0 ≡ 6 → ⊥). rw (value_row_is f, e))
         (same_or_not (get_or p k 0) 6)
 
     -- the elements of a container, once its own entry is put
@@ -214,14 +214,14 @@ module _ (p : List ℕ) (k : ℕ) (a : At p k) (kind : ℕ) (c : Container p k k
           → led (elements (sparse_form (cards_at p k) s) (value_of (look p)) (ref_at (look p k)) base s n no_marks from) (at + 5) l₁ ≡ led (value_of (look p) k i base s) at l
       unfolding sparse_rule
       value_sparse f =
-          rw (value-sparse-is f, e, look_sparse p k f)
+          rw (value_sparse_is f, e, look_sparse p k f)
           (sym (under_go (entry_of k i base (length s)) n _ at l l₁ (elements_width (value_of (look p)) (single (look p)) _ base s (sparse_form (cards_at p k) s) n no_marks from) el))
 
       pub value_row : (get_or p k 0 ≡ 6 → ⊥)
           → led (elements (row_form (look p k) s) (value_of (look p)) (ref_at (look p k)) base s n first from) (at + 5) l₁ ≡ led (value_of (look p) k i base s) at l
       unfolding row_rule
       value_row f =
-          rw (value-row-is f, e)
+          rw (value_row_is f, e)
           (sym (under_go (entry_of k i base (length s)) n _ at l l₁ (elements_width (value_of (look p)) (single (look p)) _ base s (row_form (look p k) s) n first from) el))
 
 -- ---- a leaf's content
@@ -351,8 +351,8 @@ module _ (p : List ℕ) (k : ℕ) (a : At p k) (e : get_or p k 0 ≡ 6) (s : Lis
     sparse_twice g = head_twice s (cards_at p k) marks at n (en ∙ sym (cards_length p k)) i (sym f ∙ ex) g
 
     module _ (g : get_or marks i false ≡ false) (h : Head) (eh : h ≡ optional s (requires (get_or (cards_at p k) i 0)) i (at + 8) (word s (at + 4))) where
-      sparse-new : h ≡ sparse_head s (cards_at p k) marks at
-      sparse-new = eh ∙ sym (head_new s (cards_at p k) marks at n (en ∙ sym (cards_length p k)) i (sym f ∙ ex) g)
+      sparse_new : h ≡ sparse_head s (cards_at p k) marks at
+      sparse_new = eh ∙ sym (head_new s (cards_at p k) marks at n (en ∙ sym (cards_length p k)) i (sym f ∙ ex) g)
 
       marked : (q : Head) → Indexed i q → Refuses q → head_fault q ≡ 0 → store marks i true ≡ store marks (index_of q) true
       unfolding Indexed Refuses head_fault index_of
@@ -363,9 +363,9 @@ module _ (p : List ℕ) (k : ℕ) (a : At p k) (e : get_or p k 0 ≡ 6) (s : Lis
       pub sparse_turn : at ≤ length s → NewHead p k s marks at i h
       sparse_turn b =
           record {
-            is = sparse-new;
-            inside = rw sparse-new (sparse_headed p k a e s marks at b);
-            next = marked h (rw eh (optional_index s _ i (at + 8) _)) (rw sparse-new (sparse_refuses s (cards_at p k) marks at));
+            is = sparse_new;
+            inside = rw sparse_new (sparse_headed p k a e s marks at b);
+            next = marked h (rw eh (optional_index s _ i (at + 8) _)) (rw sparse_new (sparse_refuses s (cards_at p k) marks at));
           }
 
 pub part_size : (s : List ℕ) (start size : ℕ) → start + size ≤ length s → length (take (start + size - start) (drop start s)) ≡ size

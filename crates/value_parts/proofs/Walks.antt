@@ -10,7 +10,7 @@ use native.Mathlib.Numerals.{sub-one}
 use lib.Dec.{eqb}
 use lib.ListN.{length, take, drop, length-append}
 use lib.Seq.{sets}
-use Rattle.wire.proofs.Stores.{sets-append}
+use Rattle.wire.proofs.Stores.{sets_append}
 use Rattle.forms.specs.declared.Head.{Head}
 use Rattle.forms.specs.declared.Head.TheVariants.{Present, Absent, Fault}
 use Rattle.forms.specs.declared.Opening.{Opening}
@@ -23,7 +23,7 @@ use Rattle.protocol.specs.Constants.{ABSENT}
 use Rattle.protocol.specs.Heads.{end_of}
 use Rattle.protocol.specs.Nodes.{Node, leaf, enum, row, arrays, tuple, object, sparse, range}
 use Rattle.protocol.specs.Lists.{Entry, Forest, empty, tree, append, width, words, entry_words, entry_of}
-use Rattle.protocol.specs.Values.{ValueOutcome, then, under, Rule, absent, present, element_outcome, Form, containerEnd, elements, leaf_rule, row_rule, sparse_rule, by_node, value, value_of}
+use Rattle.protocol.specs.Values.{ValueOutcome, then, under, Rule, absent, present, element_outcome, Form, container_end, elements, leaf_rule, row_rule, sparse_rule, by_node, value, value_of}
 use Rattle.protocol.specs.Answers.{refused, accepted}
 
 words_append : (f g : Forest) → words (append f g) ≡ words f ++ words g
@@ -31,10 +31,10 @@ unfolding words append
 words_append empty g = refl
 words_append (tree e below next) g = rw (words_append next g) (simp append_assoc)
 
-width-append : (f g : Forest) → width (append f g) ≡ width f + width g
+width_append : (f g : Forest) → width (append f g) ≡ width f + width g
 unfolding width append
-width-append empty g = omega arith
-width-append (tree e below next) g = rw (width-append next g) (omega arith)
+width_append empty g = omega arith
+width_append (tree e below next) g = rw (width_append next g) (omega arith)
 
 -- ---- one part of a value after the other
 
@@ -50,7 +50,7 @@ then_go k' l' (accepted f) (refused m q) k l e = refl
 then_go k' l' (accepted f) (accepted g) k l e =
     let ek : k + length (words f) ≡ k' = cc in
     let el : sets l k (words f) ≡ l' = cc in
-    rw (words_append f g, length-append, ← add_assoc, ← sets-append, ek, el)
+    rw (words_append f g, length-append, ← add_assoc, ← sets_append, ek, el)
 
 module _ (s : Step) (l' : List ℕ) (o : ValueOutcome) (k : ℕ) (l : List ℕ) (q : walk_of s l' ≡ led o k l) (b : ValueOutcome) where
   pub stop : (n p : ℕ) → s ≡ Refused n p → walk_of s l' ≡ led (then o b) k l
@@ -69,7 +69,7 @@ unfolding led under words
 under_go e n (refused m q) k l l' w g = refl
 under_go e n (accepted f) k l l' w g =
     let h : width f ≡ n = w f refl in
-    let a : sets (sets l k (entry_words e n)) (k + 5) (words f) ≡ sets l k (entry_words e n ++ words f) = sets-append l k (entry_words e n) (words f) in
+    let a : sets (sets l k (entry_words e n)) (k + 5) (words f) ≡ sets l k (entry_words e n ++ words f) = sets_append l k (entry_words e n) (words f) in
     let c : k + length (entry_words e n ++ (words f ++ [])) ≡ k + 5 + length (words f) =
     omega (arith, length-append (entry_words e n) (words f ++ []), length-append (words f) []) in
     rw (h, c, g, append-nil) (ap (reached (k + 5 + length (words f))) (sym a))
@@ -134,43 +134,43 @@ ended true false base k l = rw add-zero
 ended false b base k l = refl
 
 module _ (rule : Rule) (one : Single rule) (ref : ℕ → Option ℕ) (base : ℕ) (s : List ℕ) where
-  absent-one : (r : Option ℕ) (i start : ℕ) (f : Forest) → absent r i start ≡ accepted f → width f ≡ 1
+  absent_one : (r : Option ℕ) (i start : ℕ) (f : Forest) → absent r i start ≡ accepted f → width f ≡ 1
   unfolding absent width
-  absent-one none i start f h = let z : ◌≡◌ {A = ℕ} 0 1 = cc in absurd (omega arith)
-  absent-one (some k) i start f h = let w : f ≡ tree (entry_of k i start ABSENT) empty empty = cc in rw w
+  absent_one none i start f h = let z : ◌≡◌ {A = ℕ} 0 1 = cc in absurd (omega arith)
+  absent_one (some k) i start f h = let w : f ≡ tree (entry_of k i start ABSENT) empty empty = cc in rw w
 
-  present-one : (r : Option ℕ) (i start : ℕ) (t : List ℕ) (f : Forest) → present rule r i start t ≡ accepted f → width f ≡ 1
+  present_one : (r : Option ℕ) (i start : ℕ) (t : List ℕ) (f : Forest) → present rule r i start t ≡ accepted f → width f ≡ 1
   unfolding present
-  present-one none i start t f h = let z : ◌≡◌ {A = ℕ} 0 1 = cc in absurd (omega arith)
-  present-one (some k) i start t f h = one k i start t f h
+  present_one none i start t f h = let z : ◌≡◌ {A = ℕ} 0 1 = cc in absurd (omega arith)
+  present_one (some k) i start t f h = one k i start t f h
 
-  member-one : (h : Head) (f : Forest) → element_outcome rule ref base s h ≡ accepted f → width f ≡ 1
+  member_one : (h : Head) (f : Forest) → element_outcome rule ref base s h ≡ accepted f → width f ≡ 1
   unfolding element_outcome
-  member-one (Fault n) f e = let z : ◌≡◌ {A = ℕ} 0 1 = cc in absurd (omega arith)
-  member-one (Absent i at) f e = absent-one (ref i) i (base + at) f e
-  member-one (Present i at size) f e = present-one (ref i) i (base + at) (take size (drop at s)) f e
+  member_one (Fault n) f e = let z : ◌≡◌ {A = ℕ} 0 1 = cc in absurd (omega arith)
+  member_one (Absent i at) f e = absent_one (ref i) i (base + at) f e
+  member_one (Present i at size) f e = present_one (ref i) i (base + at) (take size (drop at s)) f e
 
   -- two outcomes that were listed one after the other
-  then-width : (a b : ValueOutcome) (n : ℕ) (f : Forest) → ((g : Forest) → a ≡ accepted g → width g ≡ 1) → ((g : Forest) → b ≡ accepted g → width g ≡ n) → then a b ≡ accepted f → width f ≡ n + 1
+  then_width : (a b : ValueOutcome) (n : ℕ) (f : Forest) → ((g : Forest) → a ≡ accepted g → width g ≡ 1) → ((g : Forest) → b ≡ accepted g → width g ≡ n) → then a b ≡ accepted f → width f ≡ n + 1
   unfolding then
-  then-width (refused m p) b n f x y h = let z : ◌≡◌ {A = ℕ} 0 1 = cc in absurd (omega arith)
-  then-width (accepted g) (refused m p) n f x y h = let z : ◌≡◌ {A = ℕ} 0 1 = cc in absurd (omega arith)
-  then-width (accepted g) (accepted g') n f x y h =
+  then_width (refused m p) b n f x y h = let z : ◌≡◌ {A = ℕ} 0 1 = cc in absurd (omega arith)
+  then_width (accepted g) (refused m p) n f x y h = let z : ◌≡◌ {A = ℕ} 0 1 = cc in absurd (omega arith)
+  then_width (accepted g) (accepted g') n f x y h =
       let w : f ≡ append g g' = cc in
-      rw w (omega (arith, width-append g g', x g refl, y g' refl))
+      rw w (omega (arith, width_append g g', x g refl, y g' refl))
 
   module _ {S : Type 0} (form : Form S) where
-    ending-width : (a b : Bool) (f : Forest) → pick a (pick b (refused 27 base) (accepted empty)) (refused 21 base) ≡ accepted f → width f ≡ 0
+    ending_width : (a b : Bool) (f : Forest) → pick a (pick b (refused 27 base) (accepted empty)) (refused 21 base) ≡ accepted f → width f ≡ 0
     unfolding pick width
-    ending-width false b f h = let z : ◌≡◌ {A = ℕ} 0 1 = cc in absurd (omega arith)
-    ending-width true true f h = let z : ◌≡◌ {A = ℕ} 0 1 = cc in absurd (omega arith)
-    ending-width true false f h = let w : f ≡ empty = cc in rw w
+    ending_width false b f h = let z : ◌≡◌ {A = ℕ} 0 1 = cc in absurd (omega arith)
+    ending_width true true f h = let z : ◌≡◌ {A = ℕ} 0 1 = cc in absurd (omega arith)
+    ending_width true false f h = let w : f ≡ empty = cc in rw w
 
     pub elements_width : (n : ℕ) (st : S) (at : ℕ) (f : Forest) → elements form rule ref base s n st at ≡ accepted f → width f ≡ n
-    unfolding elements containerEnd
-    elements_width zero st at f h = ending-width (eqb at (length s)) (form.lacks st) f h
+    unfolding elements container_end
+    elements_width zero st at f h = ending_width (eqb at (length s)) (form.lacks st) f h
     elements_width (suc n) st at f h =
-        then-width _ _ n f (member-one (form.head st at)) (elements_width n (form.next st (form.head st at)) (end_of (form.head st at))) h
+        then_width _ _ n f (member_one (form.head st at)) (elements_width n (form.next st (form.head st at)) (end_of (form.head st at))) h
         ∙ omega arith
 
     -- a loop's turn, and its end
@@ -184,7 +184,7 @@ module _ (rule : Rule) (one : Single rule) (ref : ℕ → Option ℕ) (base : �
 
       module _ (n : ℕ) (z : n ≤ 0) where
         none_is : elements form rule ref base s n st at ≡ pick (eqb at (length s)) (pick (form.lacks st) (refused 27 base) (accepted empty)) (refused 21 base)
-        unfolding elements containerEnd
+        unfolding elements container_end
         none_is = let e : n ≡ 0 = omega arith in rw e
 
         pub done : (w b : Bool) → w ≡ eqb at (length s) → b ≡ form.lacks st → (x : Step) → x ≡ end_step w b base k → walk_of x l ≡ led (elements form rule ref base s n st at) k l

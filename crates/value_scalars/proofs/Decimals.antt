@@ -18,9 +18,9 @@ use Rattle.protocol.specs.Scalars.{half, sign, digits, decimal, no_fraction, big
 
 module _ (s : List ℕ) (i : ℕ) where
   -- one digit more: the law of the loop
-  digits-at : i + 1 < length s → digits (drop i s) ≡ pick (leb (be (take 2 (drop i s))) 9999) (digits (drop (i + 2) s)) false
+  digits_at : i + 1 < length s → digits (drop i s) ≡ pick (leb (be (take 2 (drop i s))) 9999) (digits (drop (i + 2) s)) false
   unfolding digits
-  digits-at h =
+  digits_at h =
       let two : i + 2 ≡ suc (suc i) = omega arith in
       let l : i < length s = omega arith in
       let m : suc i < length s = omega arith in
@@ -29,11 +29,11 @@ module _ (s : List ℕ) (i : ℕ) where
   module _ (n : ℕ) (e : n ≡ be (take 2 (drop i s))) (h : i + 1 < length s) where
     pub digit_large : 9999 < n → digits (drop i s) ≡ false
     unfolding pick
-    digit_large l = digits-at h ∙ rw (← e, lt-leb n 9999 l)
+    digit_large l = digits_at h ∙ rw (← e, lt-leb n 9999 l)
 
     pub digit_next : n ≤ 9999 → digits (drop i s) ≡ digits (drop (i + 2) s)
     unfolding pick
-    digit_next l = digits-at h ∙ rw (← e, le-leb n 9999 l)
+    digit_next l = digits_at h ∙ rw (← e, le-leb n 9999 l)
 
   -- fewer than two bytes are left: none, or half a digit
   pub digits_end : i ≤ length s → length s ≤ i + 1 → digits (drop i s) ≡ eqb i (length s)
@@ -68,17 +68,17 @@ module _ (v : List ℕ) where
     decimal_length d = rw (le-leb 8 (length v) h, ← e, ne_eqb (length v) (8 + 2 * n) d)
 
     module _ (l : length v ≡ 8 + 2 * n) (s : Bool) (t : s ≡ sign (half v 4)) where
-      decimal-is : decimal v ≡ pick s (digits (drop 8 v)) false
+      decimal_is : decimal v ≡ pick s (digits (drop 8 v)) false
       unfolding decimal pick
-      decimal-is = rw (le-leb 8 (length v) h, ← e, eq-eqb (length v) (8 + 2 * n) l, ← t)
+      decimal_is = rw (le-leb 8 (length v) h, ← e, eq-eqb (length v) (8 + 2 * n) l, ← t)
 
       pub decimal_sign : s ≡ false → false ≡ decimal v
       unfolding pick
-      decimal_sign g = sym (decimal-is ∙ rw g)
+      decimal_sign g = sym (decimal_is ∙ rw g)
 
       pub decimal_digits : s ≡ true → digits (take (length v - 8) (drop 8 v)) ≡ decimal v
       unfolding pick
-      decimal_digits g = rw (to_end 8 v) (sym (decimal-is ∙ rw g))
+      decimal_digits g = rw (to_end 8 v) (sym (decimal_is ∙ rw g))
 
   -- what is accepted has its four fields
   pub decimal_long : decimal v ≡ true → 8 ≤ length v

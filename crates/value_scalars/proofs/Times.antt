@@ -9,7 +9,7 @@ use lib.Dec.{leb}
 use lib.ListN.{length, take, drop, get_or, length-take, length-drop}
 use lib.Seq.{take_all}
 use borrow.Author.Tests.{le-leb, lt-leb, ne_eqb}
-use Rattle.wire.proofs.Numbers.{be_more, be_four, be_bytes, length-bytes}
+use Rattle.wire.proofs.Numbers.{be_more, be_four, be_bytes, length_bytes}
 use Rattle.protocol.specs.Constants.{MOST_LOCAL_TIME}
 use Rattle.protocol.specs.Numbers.{pick, be, bytes_be}
 use Rattle.protocol.specs.Scalars.{of_size, local_time}
@@ -49,7 +49,7 @@ module _ (s : List ℕ) (at : ℕ) (h : at + 8 ≤ length s) where
 
 pub time_number : (n : ℕ) → n < 256 ^ 8 → local_time (bytes_be 8 n) ≡ leb n MOST_LOCAL_TIME
 unfolding local_time of_size pick
-time_number n h = rw (length-bytes 8 n, be_bytes 8 n h)
+time_number n h = rw (length_bytes 8 n, be_bytes 8 n h)
 
 pub time_length : (v : List ℕ) → (length v ≡ 8 → ⊥) → local_time v ≡ false
 unfolding local_time of_size pick

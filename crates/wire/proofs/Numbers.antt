@@ -71,10 +71,10 @@ be_bytes (suc n) v h =
     let l : v / 256 < 256 ^ n = omega arith in
     be_snoc (bytes_be n (v / 256)) (v % 256) ∙ rw (be_bytes n (v / 256) l) (omega arith)
 
-pub length-bytes : (n v : ℕ) → length (bytes_be n v) ≡ n
+pub length_bytes : (n v : ℕ) → length (bytes_be n v) ≡ n
 unfolding bytes_be
-length-bytes zero v = refl
-length-bytes (suc n) v = rw (length-append, length-bytes n (v / 256)) (add-one n)
+length_bytes zero v = refl
+length_bytes (suc n) v = rw (length-append, length_bytes n (v / 256)) (add-one n)
 
 -- bytes stand for a number of their width
 pub be_below : (s : List ℕ) (at n : ℕ) → ((i : ℕ) → get_or s i 0 < 256) → at + n ≤ length s → be (take n (drop at s)) < 256 ^ n
@@ -85,15 +85,15 @@ be_below s at (suc n) b h =
     omega (arith, be_more s at n (omega arith), b (at + n))
 
 -- bytes after bytes are bytes, and so are a number's
-pub bytes-append : (xs ys : List ℕ) → ((i : ℕ) → get_or xs i 0 < 256) → ((i : ℕ) → get_or ys i 0 < 256) → (i : ℕ) → get_or (xs ++ ys) i 0 < 256
-bytes-append [] ys f g i = g i
-bytes-append (x ∷ xs) ys f g zero = f 0
-bytes-append (x ∷ xs) ys f g (suc i) = bytes-append xs ys (λ j. f (suc j)) g i
+pub bytes_append : (xs ys : List ℕ) → ((i : ℕ) → get_or xs i 0 < 256) → ((i : ℕ) → get_or ys i 0 < 256) → (i : ℕ) → get_or (xs ++ ys) i 0 < 256
+bytes_append [] ys f g i = g i
+bytes_append (x ∷ xs) ys f g zero = f 0
+bytes_append (x ∷ xs) ys f g (suc i) = bytes_append xs ys (λ j. f (suc j)) g i
 
 pub bytes_below : (n v i : ℕ) → get_or (bytes_be n v) i 0 < 256
 unfolding bytes_be
 bytes_below zero v i = lit< tt
-bytes_below (suc n) v i = bytes-append (bytes_be n (v / 256)) (v % 256 ∷ []) (bytes_below n (v / 256)) last i
+bytes_below (suc n) v i = bytes_append (bytes_be n (v / 256)) (v % 256 ∷ []) (bytes_below n (v / 256)) last i
   where
     last : (j : ℕ) → get_or (v % 256 ∷ []) j 0 < 256
     last zero = omega arith

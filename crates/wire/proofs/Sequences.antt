@@ -56,15 +56,15 @@ unfolding followers ahead
 ahead_followers zero = refl
 ahead_followers (suc n) = refl
 
-length-followers : (n : ℕ) → length (followers n) ≡ n
+length_followers : (n : ℕ) → length (followers n) ≡ n
 unfolding followers
-length-followers zero = refl
-length-followers (suc n) = ap suc (length-followers n)
+length_followers zero = refl
+length_followers (suc n) = ap suc (length_followers n)
 
-length-ahead : (n : ℕ) (r : Range) → length (ahead n r) ≡ n
+length_ahead : (n : ℕ) (r : Range) → length (ahead n r) ≡ n
 unfolding ahead
-length-ahead zero r = refl
-length-ahead (suc n) r = ap suc (length-followers n)
+length_ahead zero r = refl
+length_ahead (suc n) r = ap suc (length_followers n)
 
 -- a next byte
 next : (s : List ℕ) (j : ℕ) (r : Range) (n : ℕ) → 0 < n → j < length s → follow (ahead n r) (drop j s) ≡ pick (within r (get_or s j 0)) (follow (ahead (n - 1) follower) (drop (j + 1) s)) false
@@ -83,7 +83,7 @@ module _ (s : List ℕ) (i : ℕ) where
   pub begun : (n : ℕ) (r : Range) → i < length s → ahead n r ≡ following utf8_table (get_or s i 0) → Going s i 1 n r
   unfolding sequence_size
   begun n r h e =
-      let l : suc (length (ahead n r)) ≡ 1 + n = ap suc (length-ahead n r) ∙ omega arith in
+      let l : suc (length (ahead n r)) ≡ 1 + n = ap suc (length_ahead n r) ∙ omega arith in
       record { is = rw (add-one, drop-cons s i 0, ← e, l) }
 
   module _ (k n : ℕ) (r : Range) (g : Going s i k n r) where
@@ -103,7 +103,7 @@ module _ (s : List ℕ) (i : ℕ) where
         none (next s (i + k) r n p h ∙ pick_no (within r (get_or s (i + k) 0)) (follow (ahead (n - 1) follower) (drop (i + k + 1) s)) false w)
 
     pub cut : i + k ≤ length s → length s < i + k + n → 0 ≡ sequence_size (drop i s)
-    cut p h = none (short (ahead n r) (drop (i + k) s) (simp (length-drop, length-ahead) (omega arith)))
+    cut p h = none (short (ahead n r) (drop (i + k) s) (simp (length-drop, length_ahead) (omega arith)))
 
     pub whole : n ≡ 0 → k ≡ sequence_size (drop i s)
     unfolding ahead follow pick
@@ -166,17 +166,17 @@ size_goes (b ∷ l) h = go (follow (following utf8_table b) l) refl
     go false e = follow_goes (following utf8_table b) l ∙ rw e
 
 module _ (s : List ℕ) (i n : ℕ) (h : i < length s) (q : n ≡ sequence_size (drop i s)) where
-  same-on : goes_on [] (drop i s) ≡ pick (ltb 0 n) (goes_on [] (drop (i + n) s)) false
-  same-on = size_goes (drop i s) (rw (length-drop i s) (omega arith)) ∙ rw (← q, drop-drop)
+  same_on : goes_on [] (drop i s) ≡ pick (ltb 0 n) (goes_on [] (drop (i + n) s)) false
+  same_on = size_goes (drop i s) (rw (length-drop i s) (omega arith)) ∙ rw (← q, drop-drop)
 
   pub sequence_inside : i + n ≤ length s
   sequence_inside = let p = size_inside (drop i s) in omega (arith, length-drop i s)
 
   pub sequence_none : n ≡ 0 → goes_on [] (drop i s) ≡ false
-  sequence_none e = same-on ∙ pick_no (ltb 0 n) (goes_on [] (drop (i + n) s)) false (le-ltb 0 n (omega arith))
+  sequence_none e = same_on ∙ pick_no (ltb 0 n) (goes_on [] (drop (i + n) s)) false (le-ltb 0 n (omega arith))
 
   pub sequence_on : (n ≡ 0 → ⊥) → goes_on [] (drop i s) ≡ goes_on [] (drop (i + n) s)
-  sequence_on e = same-on ∙ pick_yes (ltb 0 n) (goes_on [] (drop (i + n) s)) false (lt-ltb 0 n (omega (arith, e)))
+  sequence_on e = same_on ∙ pick_yes (ltb 0 n) (goes_on [] (drop (i + n) s)) false (lt-ltb 0 n (omega (arith, e)))
 
 pub ended : (s : List ℕ) (i : ℕ) → length s ≤ i → goes_on [] (drop i s) ≡ true
 unfolding goes_on

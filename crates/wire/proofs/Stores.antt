@@ -10,9 +10,9 @@ use lib.ListN.{length, take, drop, get_or, set, length-set, take-append-drop, dr
 use lib.Seq.{sets, length-sets, set_out, take-suc, length-take-le}
 
 -- two runs of stores, the second where the first ends, are one
-pub sets-append : (l : List ℕ) (k : ℕ) (ws vs : List ℕ) → sets (sets l k ws) (k + length ws) vs ≡ sets l k (ws ++ vs)
-sets-append l k [] vs = rw add-zero
-sets-append l k (w ∷ ws) vs = rw (add-suc, ← suc-add k) (sets-append (set l k w) (suc k) ws vs)
+pub sets_append : (l : List ℕ) (k : ℕ) (ws vs : List ℕ) → sets (sets l k ws) (k + length ws) vs ≡ sets l k (ws ++ vs)
+sets_append l k [] vs = rw add-zero
+sets_append l k (w ∷ ws) vs = rw (add-suc, ← suc-add k) (sets_append (set l k w) (suc k) ws vs)
 
 -- nothing is stored past the end
 pub sets_out : (l : List ℕ) (i : ℕ) (vs : List ℕ) → length l ≤ i → sets l i vs ≡ l
@@ -26,14 +26,14 @@ module _ (out part : List ℕ) (at : ℕ) where
       let e : length (take k part) ≡ k = length-take-le k part (omega arith) in
       rw (add-one, take-suc part k 0)
       (ap (λ (j : ℕ). set (sets out at (take k part)) (at + j) (get_or part k 0)) (sym e)
-      ∙ sets-append out at (take k part) (get_or part k 0 ∷ []))
+      ∙ sets_append out at (take k part) (get_or part k 0 ∷ []))
 
   -- it is whole once the part or the room is at its end
   pub copy_end : (k : ℕ) → k ≡ min (length part) (length out - at) → sets out at (take k part) ≡ sets out at part
   copy_end k h =
       let e : length (take k part) ≡ k = length-take-le k part (omega arith) in
       sym (ap (sets out at) (sym (take-append-drop k part))
-      ∙ sym (sets-append out at (take k part) (drop k part))
+      ∙ sym (sets_append out at (take k part) (drop k part))
       ∙ elim (dec_lt k (length part)) [
         | yes l ↦ sets_out (sets out at (take k part)) (at + length (take k part)) (drop k part) (rw (length-sets, e) (omega arith))
         | no l ↦ let all : length part ≤ k = omega arith in rw (drop_of_length-le part all)

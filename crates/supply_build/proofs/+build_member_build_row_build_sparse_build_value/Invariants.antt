@@ -5,7 +5,7 @@ use Prim.Native.Nat.{◌+◌, ◌-◌, ◌*◌, ◌≤◌}
 use lib.ListN.{length, drop}
 use Rattle.supply_entries.specs.Emitting.{put_at, Gathers}
 use Rattle.protocol.specs.Plans.{look}
-use Rattle.protocol.specs.Building.{row_order, elementsMade, buildOf}
+use Rattle.protocol.specs.Building.{row_order, elements_made, build_of}
 use Rattle.supply_build.proofs.+build_member_build_row_build_sparse_build_value.Given as goal
 
 abbrev pub decreases-build_member : goal.decreases-build_member
@@ -23,8 +23,8 @@ decreases-build_value l = 3 * l.node + 2
 abbrev pub invariant-build_row-loop-row : goal.invariant-build_row-loop-row
 invariant-build_row-loop-row l =
     (l.row.index ≤ l.end) × (l.row.at ≤ 65535) × (length l.out ≡ length l.initial.out)
-    × (put_at (elementsMade row_order (buildOf l.src (look l.plan)) (look l.plan l.node) (l.end - l.initial.row.index) l.initial.row.index (drop l.initial.row.word l.list)) l.initial.row.at l.initial.out
-    ≡ put_at (elementsMade row_order (buildOf l.src (look l.plan)) (look l.plan l.node) (l.end - l.row.index) l.row.index (drop l.row.word l.list)) l.row.at l.out)
+    × (put_at (elements_made row_order (build_of l.src (look l.plan)) (look l.plan l.node) (l.end - l.initial.row.index) l.initial.row.index (drop l.initial.row.word l.list)) l.initial.row.at l.initial.out
+    ≡ put_at (elements_made row_order (build_of l.src (look l.plan)) (look l.plan l.node) (l.end - l.row.index) l.row.index (drop l.row.word l.list)) l.row.at l.out)
 
 abbrev pub decreases-build_row-loop-row : goal.decreases-build_row-loop-row
 decreases-build_row-loop-row l = l.end - l.row.index

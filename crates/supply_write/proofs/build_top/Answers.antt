@@ -6,7 +6,7 @@ use Rattle.supply_entries.specs.Emitting.{put_at, stand_of}
 use Rattle.supply_entries.proofs.Entries.{no_entry, entry_at, entry_inside}
 use Rattle.supply_entries.proofs.Values.{value_short, value_index, value_absent}
 use Rattle.protocol.specs.Plans.{look}
-use Rattle.protocol.specs.Building.{buildOf}
+use Rattle.protocol.specs.Building.{build_of}
 use Rattle.supply_write.proofs.build_top.Goals as goal
 
 pub returns-in_default : goal.returns-in_default
@@ -50,7 +50,7 @@ pub returns : goal.returns
 returns c =
     c.build_value.ensures
     ∙ ap (λ (i : ℕ). put_at
-    (buildOf c.args.src.now
+    (build_of c.args.src.now
     (look c.args.plan.now)
     c.args.node i
     c.args.list.now)

@@ -4,14 +4,14 @@ use Prim.Native.Nat.{◌-◌, ◌≤◌}
 use lib.ListN.{length, drop}
 use Rattle.supply_entries.specs.Emitting.{put_at}
 use Rattle.protocol.specs.Plans.{look}
-use Rattle.protocol.specs.Building.{row_order, elementsMade, buildOf}
+use Rattle.protocol.specs.Building.{row_order, elements_made, build_of}
 use Rattle.supply_entries.proofs.leaf.put_leaves.Given as goal
 
 abbrev pub invariant-loop-index : goal.invariant-loop-index
 invariant-loop-index l =
     (length l.out ≡ length l.initial.out) × (l.first ≤ l.index) × (l.index ≤ l.end) × (l.at ≤ 65535)
-    × (put_at (elementsMade row_order (buildOf l.src (look l.plan)) (look l.plan l.node) (l.end - l.first) l.first (drop l.initial.word l.list)) l.initial.at l.initial.out
-    ≡ put_at (elementsMade row_order (buildOf l.src (look l.plan)) (look l.plan l.node) (l.end - l.index) l.index (drop l.word l.list)) l.at l.out)
+    × (put_at (elements_made row_order (build_of l.src (look l.plan)) (look l.plan l.node) (l.end - l.first) l.first (drop l.initial.word l.list)) l.initial.at l.initial.out
+    ≡ put_at (elements_made row_order (build_of l.src (look l.plan)) (look l.plan l.node) (l.end - l.index) l.index (drop l.word l.list)) l.at l.out)
 
 abbrev pub decreases-loop-index : goal.decreases-loop-index
 decreases-loop-index l = l.end - l.index
