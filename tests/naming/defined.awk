@@ -1,6 +1,6 @@
 # Prints the names that the crates' files define, one to a line, kind and name with a tab between: a definition of specs/ or a theorem of
 # proofs/ as 'FILE NAME'; a function of src/ as 'FILE NAME', and by its path in the code: crate::module::name. Types, constants and modules of
-# the code count as functions. A field or a constructor is there twice: by itself, and as 'Owner .field'.
+# the code count as functions. A field or a constructor is there twice: by itself, and as 'Owner.field'.
 FNR == 1 { begin_file() }
 FILENAME ~ /\.antt$/ { antt_line() }
 FILENAME ~ /\.rt$/ { rt_line() }
@@ -35,7 +35,7 @@ function antt_line(   i, indent, public) {
     say(kind, FILENAME " " owner)
   } else if ($(i + 1) == ":" && $i !~ /^\(/ && (public || owner != "")) {
     say(kind, FILENAME " " $i)
-    if (owner != "") say(kind, FILENAME " " owner " ." $i)
+    if (owner != "") say(kind, FILENAME " " owner "." $i)
   }
 }
 

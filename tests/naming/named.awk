@@ -7,6 +7,7 @@
 #   `rembulfose_..`, `make target`     a C call; a target of the Makefile
 #   `panel command`                    a command of the panel program, which has a file of that name in host/
 #   tests/.., host/.., ..              a file or folder, in backticks or not
+#   `Owner.field`                      a part of a record or a type of a file that was given
 # In TRACE and PROMISES no other name may stand in backticks (kind 'unplaced'); elsewhere any other is a crate. The variable foreign lists words
 # that are no names of ours.
 # Code that is set apart gives paths and make's targets only; but for ARCHITECTURE's list of promises, which has names and their file.
@@ -14,6 +15,7 @@ BEGIN {
   TOP = "^(bench|build|crates|demo|docs|examples|host|include|second|tests|tools|[.]ci)/"
   PLACE = "^[a-z_]+/(specs|proofs|src)([/:,;.]|$)"
   EDIT = "^[a-z_]+/[a-z_0-9]+$"
+  FIELD = "^[A-Z][A-Za-z0-9]*[.][a-z][a-z_0-9]*$"
   n = split(foreign, words, " ")
   for (i = 1; i <= n; i++) is_foreign[words[i]]
 }
@@ -141,7 +143,7 @@ function ticked(token) {
 # A name by the file that was given: of the brackets in which it stands, or of the text around them.
 function name(token,   d) {
   for (d = depth; d > 0 && at[d] == ""; d--);
-  if (at[d] != "" && (d == depth || token ~ / \./)) say(kind_of(at[d]), at[d] " " token)
+  if (at[d] != "" && (d == depth || token ~ FIELD)) say(kind_of(at[d]), at[d] " " token)
   else if (at[d] != "") say("word", at[d] " " token)
   else if (doc !~ /host/) bare(token)
 }
@@ -170,7 +172,7 @@ function place(w,   colon) {
 function path(w) {
   sub(/[:,;.]+$/, "", w)
   sub(/\/$/, "", w)
-  if (w ~ /CRATE/) return
+  if (w ~ /CRATE/ || w in is_foreign) return
   say("file", doc ~ /host/ && w !~ /\// ? "host/" w : w)
 }
 
@@ -211,6 +213,6 @@ function promise_line(   i, file, w, words) {
   }
   for (i = split($0, words, "`") - 1; i > 1; i -= 2) say("promise", words[i])
   if (!match($0, / ensures /)) return
-  i = split(substr($0, RSTART + 9), words, /[^A-Za-z]+/)
+  i = split(substr($0, RSTART + 9), words, /[^A-Za-z_]+/)
   for (; i > 0; i--) if (length(words[i]) > 4) say("word", file " " words[i])
 }
