@@ -16,17 +16,17 @@ use Rattle.supply_laws.proofs.Exact.{exact_34, exact_33 as supply-33, exact_32 a
 use Rattle.supply_laws.proofs.Crossed.{exact_34_from_c}
 use Rattle.supply_laws.proofs.RoundTrip.{round_trip, round_trip_fits}
 use Rattle.run_compiled.proofs.Demand3.{demand_three, compiled_formed, compiled_small, refused_same}
-use Rattle.run_compiled.proofs.compile_and_run.Met.{met as compile-and-run-met}
-use Rattle.c_panel.proofs.rembulfose_read_message.Met.{met as read-message-met}
-use Rattle.c_panel.proofs.rembulfose_intake_start.Met.{met as intake-start-met}
-use Rattle.c_panel.proofs.rembulfose_intake_reset.Met.{met as intake-reset-met}
-use Rattle.c_panel.proofs.rembulfose_intake_take.Met.{met as intake-take-met}
-use Rattle.c_panel.proofs.rembulfose_write_message.Met.{met as write-message-met}
-use Rattle.c_panel.proofs.rembulfose_compile.Met.{met as compile-met}
-use Rattle.c_panel.proofs.rembulfose_run.Met.{met as run-met}
-use Rattle.c_panel.proofs.rembulfose_find.Met.{met as find-met}
-use Rattle.c_panel.proofs.rembulfose_find_number.Met.{met as find-number-met}
-use Rattle.c_panel.proofs.rembulfose_write_value.Met.{met as write-value-met}
+use Rattle.run_compiled.proofs.compile_and_run.Met.{met as compile_and_run_met}
+use Rattle.c_panel.proofs.rembulfose_read_message.Met.{met as read_message_met}
+use Rattle.c_panel.proofs.rembulfose_intake_start.Met.{met as intake_start_met}
+use Rattle.c_panel.proofs.rembulfose_intake_reset.Met.{met as intake_reset_met}
+use Rattle.c_panel.proofs.rembulfose_intake_take.Met.{met as intake_take_met}
+use Rattle.c_panel.proofs.rembulfose_write_message.Met.{met as write_message_met}
+use Rattle.c_panel.proofs.rembulfose_compile.Met.{met as compile_met}
+use Rattle.c_panel.proofs.rembulfose_run.Met.{met as run_met}
+use Rattle.c_panel.proofs.rembulfose_find.Met.{met as find_met}
+use Rattle.c_panel.proofs.rembulfose_find_number.Met.{met as find_number_met}
+use Rattle.c_panel.proofs.rembulfose_write_value.Met.{met as write_value_met}
 use Rattle.theorems.specs.Theorems.{RoomsKept, MessageAccepted, ReadThenWritten, WrittenThenRead, DescriptorAccepted}
 use Rattle.theorems.specs.Theorems.{DescriptorNumbers, PlanGiven, NeverUnformed, DemandThree, DemandThreeBytes, RulesNumbers}
 use Rattle.theorems.specs.Theorems.{ValueAccepted, TimesOfDay, RunExact, FewEntries, FoundOnList, FoundIsEntry, FoundPermitted, OneEntry, OneNumber, FloatKept}
@@ -170,20 +170,20 @@ round_trip_holds p s room f b e = (round_trip p s room f b e, zeroed_length p s 
 pub every_call_holds : EveryCall
 every_call_holds =
     record {
-      read_message_does = λ M. read-message-met {M = M};
-      intake_start_does = λ M. intake-start-met {M = M};
-      intake_reset_does = λ M. intake-reset-met {M = M};
-      intake_take_does = λ M. intake-take-met {M = M};
-      write_message_does = λ M. write-message-met {M = M};
-      compile_does = λ M. compile-met {M = M};
-      run_does = λ M. run-met {M = M};
-      find_does = λ M. find-met {M = M};
-      find_number_does = λ M. find-number-met {M = M};
-      write_value_does = λ M. write-value-met {M = M};
+      read_message_does = λ M. read_message_met {M = M};
+      intake_start_does = λ M. intake_start_met {M = M};
+      intake_reset_does = λ M. intake_reset_met {M = M};
+      intake_take_does = λ M. intake_take_met {M = M};
+      write_message_does = λ M. write_message_met {M = M};
+      compile_does = λ M. compile_met {M = M};
+      run_does = λ M. run_met {M = M};
+      find_does = λ M. find_met {M = M};
+      find_number_does = λ M. find_number_met {M = M};
+      write_value_does = λ M. write_value_met {M = M};
     }
 
 pub compile_and_run_holds : CompileAndRun
-compile_and_run_holds M = compile-and-run-met {M = M}
+compile_and_run_holds M = compile_and_run_met {M = M}
 
 -- ---- R10: the intake
 

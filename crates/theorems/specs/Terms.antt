@@ -4,7 +4,8 @@ use Rattle.std.proofs.Math.Option.{some}
 use seplogic.Ra.Ura.{Ura}
 use base.Logic.{emp}
 use prog.Model.{Model}
-use prog.Routine.{Routine}
+use prog.Wired.{Code, Wired}
+use mir.Syntax.{Callee}
 use types.Logic.{Logic}
 use contract.Monad.{fact}
 use contract.Lifetimes.{Lfts}
@@ -100,11 +101,12 @@ pub record SameEnd (c c' : Conversation) : Type 0 where
   pub state_same : c.intake ≡ c'.intake
   pub held_same : take c.intake.held c.room ≡ take c'.intake.held c'.room
 
--- A routine, called with any arguments: nothing is asked of them but what their types own. It ends, and `does` holds of the arguments, the
--- result and the arguments at exit: the logic's own triple, with an empty `requires` (R1.13, R9.12).
-abbrev pub Does : (T : Ended) → Routine
+-- A function, called with any arguments: nothing is asked of them but what their types own. It ends, and `does` holds of the arguments, the
+-- result and the arguments at exit: the logic's own triple, with an empty `requires` (R1.13, R9.12). `code` is the function's code with that of all
+-- it calls, and a call is what it is in any program that has this code.
+abbrev pub Does : (T : Ended) → Code → Callee
     → ((κs : Lfts T.signature.lifetimes) → Args T.signature κs → Res T.signature κs → AtExit T κs → Type 0) → Type 2
-Does T f does =
-    (M : Type 1) (𝓤 : Ura M) (𝓛 : Logic 𝓤) (𝓜 : Model 𝓤 𝓛.H) (𝓡 : Running 𝓤 𝓛.H 𝓜)
-    → Meets 𝓛 T.signature (𝓡.run f)
+Does T code name does =
+    (M : Type 1) (𝓤 : Ura M) (𝓛 : Logic 𝓤) (𝓜 : Model 𝓤 𝓛.H) (𝓡 : Running 𝓤 𝓛.H 𝓜) → Wired 𝓡.env code
+    → Meets 𝓛 T.signature (𝓡.run (𝓡.env name))
     (closing 𝓛 T (λ κs a. record { ghost = Unit {0}; requires = λ _. emp 𝓤; ensures = λ _ r e. fact 𝓤 (does κs a r e) }))

@@ -7,20 +7,31 @@ use Rattle.std.specs.Float.Ieee.{ones, hid, top, of_bits, to_bits}
 use Rattle.find_number.specs.Number.{Gives}
 use Rattle.find_number.specs.declared.Number.{Number}
 use Rattle.run_compiled.specs.Follows.{Follows}
-use Rattle.run_compiled.proofs.compile_and_run as compile-and-run
+use Rattle.run_compiled.specs.contracts.compile_and_run as compile_and_run_contract
+use Rattle.run_compiled.proofs.compile_and_run.Symbol as compile_and_run_code
 use Rattle.forms.specs.declared.Answer.{Answer}
 use Rattle.forms.specs.declared.Intake.{Intake}
 use Rattle.forms.specs.declared.Delivery.{Delivery}
-use Rattle.c_panel.proofs.rembulfose_read_message as read-message
-use Rattle.c_panel.proofs.rembulfose_intake_start as intake-start
-use Rattle.c_panel.proofs.rembulfose_intake_reset as intake-reset
-use Rattle.c_panel.proofs.rembulfose_intake_take as intake-take
-use Rattle.c_panel.proofs.rembulfose_write_message as write-message
-use Rattle.c_panel.proofs.rembulfose_compile as compile
-use Rattle.c_panel.proofs.rembulfose_run as run
-use Rattle.c_panel.proofs.rembulfose_find as find
-use Rattle.c_panel.proofs.rembulfose_find_number as find-number
-use Rattle.c_panel.proofs.rembulfose_write_value as write-value
+use Rattle.c_panel.specs.contracts.rembulfose_read_message as read_message_contract
+use Rattle.c_panel.proofs.rembulfose_read_message.Symbol as read_message_code
+use Rattle.c_panel.specs.contracts.rembulfose_intake_start as intake_start_contract
+use Rattle.c_panel.proofs.rembulfose_intake_start.Symbol as intake_start_code
+use Rattle.c_panel.specs.contracts.rembulfose_intake_reset as intake_reset_contract
+use Rattle.c_panel.proofs.rembulfose_intake_reset.Symbol as intake_reset_code
+use Rattle.c_panel.specs.contracts.rembulfose_intake_take as intake_take_contract
+use Rattle.c_panel.proofs.rembulfose_intake_take.Symbol as intake_take_code
+use Rattle.c_panel.specs.contracts.rembulfose_write_message as write_message_contract
+use Rattle.c_panel.proofs.rembulfose_write_message.Symbol as write_message_code
+use Rattle.c_panel.specs.contracts.rembulfose_compile as compile_contract
+use Rattle.c_panel.proofs.rembulfose_compile.Symbol as compile_code
+use Rattle.c_panel.specs.contracts.rembulfose_run as run_contract
+use Rattle.c_panel.proofs.rembulfose_run.Symbol as run_code
+use Rattle.c_panel.specs.contracts.rembulfose_find as find_contract
+use Rattle.c_panel.proofs.rembulfose_find.Symbol as find_code
+use Rattle.c_panel.specs.contracts.rembulfose_find_number as find_number_contract
+use Rattle.c_panel.proofs.rembulfose_find_number.Symbol as find_number_code
+use Rattle.c_panel.specs.contracts.rembulfose_write_value as write_value_contract
+use Rattle.c_panel.proofs.rembulfose_write_value.Symbol as write_value_code
 use Rattle.protocol.specs.Constants.{MESSAGE_HEAD, MOST_VALUE, VALUE_SIZE, PLAN_ROOM, LIST_ROOM, OUTPUT_ROOM, BAD_PLAN, NO_VALUE}
 use Rattle.protocol.specs.Constants.{FORMAT_LOCAL_TIME, KIND_LEAF}
 use Rattle.protocol.specs.Numbers.{be, bytes_be}
@@ -254,27 +265,27 @@ RoundTrip =
 -- Each C call's answer, and every byte of its room, is what its definition computes from the bytes that were lent, and an intake's state (R9.1 to
 -- R9.8). The room's bytes are l before the call, and l' after it.
 pub record EveryCall : Type 2 where
-  pub read_message_does : Does read-message.ended read-message.Symbol.routine
+  pub read_message_does : Does read_message_contract.ended read_message_code.code read_message_code.name
       (λ κs (side, (s, (l, _))) r (_, (_, (l', _))). ReadsMessage side s.now r l.now l'.now)
-  pub intake_start_does : Does intake-start.ended intake-start.Symbol.routine (λ κs (side, (room, _)) r _. r ≡ intake_start side room)
-  pub intake_reset_does : Does intake-reset.ended intake-reset.Symbol.routine (λ κs (i, _) r _. r ≡ intake_reset i)
-  pub intake_take_does : Does intake-take.ended intake-take.Symbol.routine
+  pub intake_start_does : Does intake_start_contract.ended intake_start_code.code intake_start_code.name (λ κs (side, (room, _)) r _. r ≡ intake_start side room)
+  pub intake_reset_does : Does intake_reset_contract.ended intake_reset_code.code intake_reset_code.name (λ κs (i, _) r _. r ≡ intake_reset i)
+  pub intake_take_does : Does intake_take_contract.ended intake_take_code.code intake_take_code.name
       (λ κs (i, (src, (l, _))) r (_, (_, (l', _))). TakesDelivery i src.now r l.now l'.now)
-  pub write_message_does : Does write-message.ended write-message.Symbol.routine
+  pub write_message_does : Does write_message_contract.ended write_message_code.code write_message_code.name
       (λ κs (side, (t, (list, (src, (l, _))))) r (_, (_, (_, (_, (l', _))))). WritesMessage side t list.now src.now r l.now l'.now)
-  pub compile_does : Does compile.ended compile.Symbol.routine
+  pub compile_does : Does compile_contract.ended compile_code.code compile_code.name
       (λ κs (d, (root, (l, _))) r (_, (_, (l', _))). CompilesPlan d.now root.now r l.now l'.now)
-  pub run_does : Does run.ended run.Symbol.routine (λ κs (p, (s, (l, _))) r (_, (_, (l', _))). RunsValue p.now s.now r l.now l'.now)
-  pub find_does : Does find.ended find.Symbol.routine (λ κs (p, (s, (path, _))) r _. r ≡ find_answer (find_from p.now s.now path.now))
-  pub find_number_does : Does find-number.ended find-number.Symbol.routine
+  pub run_does : Does run_contract.ended run_code.code run_code.name (λ κs (p, (s, (l, _))) r (_, (_, (l', _))). RunsValue p.now s.now r l.now l'.now)
+  pub find_does : Does find_contract.ended find_code.code find_code.name (λ κs (p, (s, (path, _))) r _. r ≡ find_answer (find_from p.now s.now path.now))
+  pub find_number_does : Does find_number_contract.ended find_number_code.code find_number_code.name
       (λ κs (p, (s, (path, _))) r _. r ≡ number_answer (number_from p.now s.now path.now))
-  pub write_value_does : Does write-value.ended write-value.Symbol.routine
+  pub write_value_does : Does write_value_contract.ended write_value_code.code write_value_code.name
       (λ κs (p, (list, (src, (l, _)))) r (_, (_, (_, (l', _)))). WritesValue p.now list.now src.now r l.now l'.now)
 
 -- Demand 3 as one function, on words: it compiles, and then runs the plan alone (R4.14); what it lists has few entries (R6.10).
 abbrev pub CompileAndRun : Type 2
 CompileAndRun =
-    Does compile-and-run.ended compile-and-run.Symbol.routine
+    Does compile_and_run_contract.ended compile_and_run_code.code compile_and_run_code.name
     (λ κs (d, (root, (p, (s, (l, _))))) r (_, (_, (p', (_, (l', _))))). Follows d.now root.now s.now r p.now p'.now l.now l'.now)
 
 -- ---- R10: the intake
