@@ -50,8 +50,8 @@ build/panel-%: tests/panel/%.c tests/panel/sending.h tests/hex.h $(BUILDER) $(HE
 	mkdir -p build
 	$(CC) $(CFLAGS) $< $(BUILDER) $(LIBRARY) -o $@
 
-# Code, contracts, definitions and proofs: what was changed is proved before the library is used.
-PROVED := crates.txt $(shell find crates -name '*.rt' -o -name '*.antt')
+# Code, contracts, definitions and proofs: what was changed is proved before the library is used. What rt keeps beside them, in out/, does not count.
+PROVED := crates.txt $(shell find $(wildcard crates/*/src crates/*/specs crates/*/proofs) -name '*.rt' -o -name '*.antt')
 
 $(LIBRARY): $(PROVED) | compiler
 	@bash tools/build-library
@@ -103,5 +103,6 @@ install: build/librembulfose.a build/panel
 uninstall:
 	rm -f '$(to)/include/rembulfose.h' '$(to)/lib/librembulfose.a' '$(to)/lib/pkgconfig/rembulfose.pc' '$(to)/bin/panel'
 
+# Also what rt keeps of each crate, so that all is proved from nothing the next time.
 clean:
-	rm -rf target build
+	rm -rf target build crates/*/out

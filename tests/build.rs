@@ -1,5 +1,5 @@
 //! Tells rustc where the static library is: in the folder that PANEL_LIB_DIR names, or else where
-//! `rt staticlib c_panel` writes it.
+//! tools/build-library puts it.
 
 use std::env;
 use std::path::PathBuf;
@@ -12,7 +12,7 @@ fn main() {
     };
     let library = folder.join("libc_panel.a");
     if !library.is_file() {
-        println!("cargo:warning=no libc_panel.a: run `rt staticlib c_panel` or set PANEL_LIB_DIR");
+        println!("cargo:warning=no libc_panel.a: run tools/build-library or set PANEL_LIB_DIR");
     }
     println!("cargo:rerun-if-env-changed=PANEL_LIB_DIR");
     println!("cargo:rerun-if-changed={}", library.display());

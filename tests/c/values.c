@@ -169,7 +169,7 @@ static int no_label(uint8_t *label, size_t length) {
     return 1;
 }
 
-/* Labels of every length up to one that has words and blocks of both sizes (L5). */
+/* Labels of every length up to one that has words, and blocks of 64 and of 128 bytes. */
 static void labels(void) {
     for (size_t length = 1; length <= 340; length++) {
         uint8_t *label = malloc(length);

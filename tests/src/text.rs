@@ -59,8 +59,8 @@ const BAD: [&[u8]; 24] = [
     &[0xf4, 0x8f, 0xbf],
 ];
 
-/// Lengths about those at which the library's step over plain bytes (L5) goes another way: words of
-/// 8 bytes, a first block of 64 after a word, and blocks of 128 after that, with words behind them.
+/// Lengths about those at which a step over plain bytes may go another way: words of 8 bytes and 16
+/// bytes one by one, blocks of 64 after a word, and blocks of 128 after that, with words behind them.
 const LENGTHS: [std::ops::Range<usize>; 5] = [0..26, 62..76, 134..140, 198..212, 326..330];
 
 /// Bytes at the edges of the table's columns.
@@ -175,7 +175,9 @@ mod tests {
     fn swept_texts_are_well_formed_and_not() {
         for (texts, least) in [(stepped(), 30_000), (rows(), 8_000)] {
             assert!(texts.len() > least);
-            let good = texts.iter().filter(|text| std::str::from_utf8(text).is_ok());
+            let good = texts
+                .iter()
+                .filter(|text| std::str::from_utf8(text).is_ok());
             let good = good.count();
             assert!(good > least / 10 && texts.len() - good > least / 10);
         }

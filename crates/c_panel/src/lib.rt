@@ -1,4 +1,5 @@
 // The calls of the panel's C host, under their C names. Each is one call of the crate of its subject, whose contract it has.
+// They are a library, on which the page of theorems stands; the crate c_panel_c hands them to C.
 #![tactic(auto)]
 
 ghost use Rattle.std.specs.Prelude.{◌≡◌};
@@ -8,40 +9,35 @@ ghost use Rattle.protocol.specs.Intake.{intake_start, intake_reset, TakesDeliver
 use forms::{Answer, Delivery, Intake, Number};
 
 // Reads the message at the start of src; the list's words go out as bytes.
-#[unsafe(no_mangle)]
-pub extern "C" fn rembulfose_read_message(side: u32, src: &[u8], list: &mut [u8]) -> Answer
+pub fn rembulfose_read_message(side: u32, src: &[u8], list: &mut [u8]) -> Answer
     ensures { ReadsMessage side src.now result list.old list.new }
 {
     c_message::read_message(side, src, list)
 }
 
 // The state of an intake, for a side and the length of its room.
-#[unsafe(no_mangle)]
-pub extern "C" fn rembulfose_intake_start(side: u32, room: usize) -> Intake
+pub fn rembulfose_intake_start(side: u32, room: usize) -> Intake
     ensures { result ≡ intake_start side room }
 {
     Intake::start(side, room)
 }
 
 // The state of an intake with what it holds and what was refused dropped.
-#[unsafe(no_mangle)]
-pub extern "C" fn rembulfose_intake_reset(intake: Intake) -> Intake
+pub fn rembulfose_intake_reset(intake: Intake) -> Intake
     ensures { result ≡ intake_reset intake }
 {
     intake.reset()
 }
 
 // Takes bytes from the front of src until a message is whole, which then stands at the front of the room, or src ends.
-#[unsafe(no_mangle)]
-pub extern "C" fn rembulfose_intake_take(intake: Intake, src: &[u8], room: &mut [u8]) -> Delivery
+pub fn rembulfose_intake_take(intake: Intake, src: &[u8], room: &mut [u8]) -> Delivery
     ensures { TakesDelivery intake src.now result room.old room.new }
 {
     message_intake::take(intake, src, room)
 }
 
 // Writes the message of a type byte whose fields hold the bytes of src that the list's pairs name.
-#[unsafe(no_mangle)]
-pub extern "C" fn rembulfose_write_message(
+pub fn rembulfose_write_message(
     side: u32,
     ty: u8,
     list: &[u8],
@@ -54,45 +50,35 @@ pub extern "C" fn rembulfose_write_message(
 }
 
 // Compiles a descriptor's plan for the block with the id of `root`.
-#[unsafe(no_mangle)]
-pub extern "C" fn rembulfose_compile(descriptor: &[u8], root: &[u8], plan: &mut [u8]) -> Answer
+pub fn rembulfose_compile(descriptor: &[u8], root: &[u8], plan: &mut [u8]) -> Answer
     ensures { CompilesPlan descriptor.now root.now result plan.old plan.new }
 {
     c_compile::compile_plan(descriptor, root, plan)
 }
 
 // Checks a value by a plan and lists it.
-#[unsafe(no_mangle)]
-pub extern "C" fn rembulfose_run(plan: &[u8], value: &[u8], list: &mut [u8]) -> Answer
+pub fn rembulfose_run(plan: &[u8], value: &[u8], list: &mut [u8]) -> Answer
     ensures { RunsValue plan.now value.now result list.old list.new }
 {
     c_run::run_value(plan, value, list)
 }
 
 // Finds the element that a path leads to.
-#[unsafe(no_mangle)]
-pub extern "C" fn rembulfose_find(plan: &[u8], value: &[u8], path: &[u8]) -> Answer
+pub fn rembulfose_find(plan: &[u8], value: &[u8], path: &[u8]) -> Answer
     ensures { result ≡ find_answer (find_from plan.now value.now path.now) }
 {
     c_find::find_element(plan, value, path)
 }
 
 // The number of the element that a path leads to.
-#[unsafe(no_mangle)]
-pub extern "C" fn rembulfose_find_number(plan: &[u8], value: &[u8], path: &[u8]) -> Number
+pub fn rembulfose_find_number(plan: &[u8], value: &[u8], path: &[u8]) -> Number
     ensures { result ≡ number_answer (number_from plan.now value.now path.now) }
 {
     c_number::find_number(plan, value, path)
 }
 
 // Writes the value of a plan that has the supply of a list and source bytes.
-#[unsafe(no_mangle)]
-pub extern "C" fn rembulfose_write_value(
-    plan: &[u8],
-    list: &[u8],
-    src: &[u8],
-    out: &mut [u8],
-) -> Answer
+pub fn rembulfose_write_value(plan: &[u8], list: &[u8], src: &[u8], out: &mut [u8]) -> Answer
     ensures { WritesValue plan.now list.now src.now result out.old out.new }
 {
     c_supply::write_value(plan, list, src, out)

@@ -1,5 +1,5 @@
 //! Every value of what has few of them: type bytes, named bytes, D's number, the bytes of one
-//! letter of a text, and the places of one letter among plain ones (L5). Chance would leave some out.
+//! letter of a text, and the places of one letter among plain ones. Chance would leave some out.
 
 use super::bytes::whole;
 use super::case::{Call, Case, ReadCall, WriteCall};

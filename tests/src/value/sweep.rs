@@ -1,5 +1,6 @@
-//! Every value of what has few of them: flags, named bytes, sizes of scalars, texts with one letter
-//! at each place, words of a plan, and the bytes of a value with all kinds of containers. Chance would leave some out.
+//! Every value of what has few of them: flags, named bytes, sizes of scalars, words of a plan, the
+//! bytes of a value with all kinds of containers, and texts with one letter at each place. Chance
+//! would leave some out.
 
 use super::fixed::Cases;
 use super::scalar::{BOOL, FORMATS, JSON, STR};
@@ -17,9 +18,9 @@ pub fn add(cases: &mut Cases) {
     flags(cases);
     scalars(cases);
     letters(cases);
-    texts(cases);
     plan_words(cases);
     rich(cases);
+    texts(cases);
 }
 
 /// A value of the rich plan: its elements in the order 1, 2 (absent), 0, 4.
@@ -104,15 +105,6 @@ fn letters(cases: &mut Cases) {
     }
 }
 
-/// One letter at each place among plain ones (L5), and letters of one row of the table; as a text,
-/// which starts where the lent bytes do, and as a json, which starts behind a byte.
-fn texts(cases: &mut Cases) {
-    for text in text::stepped().into_iter().chain(text::rows()) {
-        cases.unknown(&[4, 2, 1, STR], &text);
-        cases.unknown(&[4, 2, 1, JSON], &[&[1], &text[..]].concat());
-    }
-}
-
 /// Each small kind, format and cardinality, and each word of the rich plan as each small number.
 fn plan_words(cases: &mut Cases) {
     let large = [
@@ -167,6 +159,16 @@ fn rich(cases: &mut Cases) {
             changed[at..at + 4].copy_from_slice(&word.to_be_bytes());
             cases.unknown(&RICH, &changed);
         }
+    }
+}
+
+/// One letter at each place among plain ones, and letters of one row of the table; as a text, which
+/// starts where the lent bytes do, and as a json, which starts behind a byte. These come last, so
+/// that every case before them keeps its number.
+fn texts(cases: &mut Cases) {
+    for text in text::stepped().into_iter().chain(text::rows()) {
+        cases.unknown(&[4, 2, 1, STR], &text);
+        cases.unknown(&[4, 2, 1, JSON], &[&[1], &text[..]].concat());
     }
 }
 
