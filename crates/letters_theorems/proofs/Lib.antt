@@ -1,0 +1,2 @@
+-- That what specs/Theorems states holds.
+pub mod Theorems

@@ -1,0 +1,25 @@
+-- `wire_letters::letters::threes_end` meets its contract: what the tests say of a first byte is what the table says, which is computed at each byte.
+use mathlib.Core.Path.{refl}
+use native.Mathlib.Omega.{arith}
+use Rattle.wire.specs.Scan.{followers, ahead}
+use Rattle.wire_letters.specs.Scan.{firsts}
+use Rattle.wire_letters.proofs.Rows.{letters_are}
+use Rattle.protocol.specs.Numbers.{pick}
+use Rattle.protocol.specs.Text.{within, utf8_table, following}
+use Rattle.wire_letters.proofs.letters.threes_end.Goals as goal
+
+pub returns-then-b-lt225 : goal.returns-then-b-lt225
+unfolding pick within utf8_table following followers ahead firsts
+returns-then-b-lt225 c = letters_are _ _ 0xe0 1 _ refl c.requires.0 (omega arith) (omega arith) _ c.row_end.ensures
+
+pub returns-then-b-lt237 : goal.returns-then-b-lt237
+unfolding pick within utf8_table following followers ahead firsts
+returns-then-b-lt237 c = letters_are _ _ 0xe1 12 _ refl c.requires.0 (omega arith) (omega arith) _ c.row_end-then-b-lt237.ensures
+
+pub returns-then-b-lt238 : goal.returns-then-b-lt238
+unfolding pick within utf8_table following followers ahead firsts
+returns-then-b-lt238 c = letters_are _ _ 0xed 1 _ refl c.requires.0 (omega arith) (omega arith) _ c.row_end-then-b-lt238.ensures
+
+pub returns : goal.returns
+unfolding pick within utf8_table following followers ahead firsts
+returns c = letters_are _ _ 0xee 2 _ refl c.requires.0 (omega arith) (omega arith) _ c.row_end-2.ensures
