@@ -10,8 +10,8 @@ use Rattle.protocol.specs.Descriptors.{bare_form}
 use Rattle.descriptor_blocks.specs.Descriptor.{description_of, plan_of, roomed, compile_of}
 use Rattle.descriptor_agree.proofs.Whole.{refused_by_lem, planned_by}
 use Rattle.descriptor_compile.specs.Checking.{Checks}
-use Rattle.descriptor_compile.specs.declared.Answer as Compile
-use Rattle.descriptor_compile.specs.declared.Answer.TheVariants.{Refused, Words}
+use Rattle.std.specs.Prelude.{Ok, Err}
+use Rattle.forms.specs.declared.fault.Refusal.{Refusal}
 use Rattle.descriptor_compile.proofs.Compiles.{Found, found, turned_down}
 use Rattle.c_words.specs.Answers.{WordsOut}
 use Rattle.forms.specs.declared.Answer.{Answer}
@@ -21,16 +21,16 @@ use Rattle.protocol.specs.Answers.{Outcome, refused, accepted}
 use Rattle.protocol.specs.Compiling.{compile_by}
 use Rattle.protocol.specs.Crossing.{word_room, refusal, compile_answer, compile_room, SettlesPlan}
 
-module _ (d root : List ℕ) (a : Compile.Answer) (k k' : List ℕ) (c : Checks (plan_of (description_of d root)) a k k') (l : List ℕ) where
-  pub plans_refused : (n q : ℕ) → a ≡ Refused n q → SettlesPlan (compile_by bare_form d root (word_room (length l))) (refusal n q) l l
+module _ (d root k k' l : List ℕ) where
+  pub plans_refused : (e : Refusal) → Checks (plan_of (description_of d root)) (Err e) k k' → SettlesPlan (compile_by bare_form d root (word_room (length l))) (refusal e.fault e.place) l l
   unfolding compile_of roomed compile_answer compile_room
-  plans_refused n q e =
-      let o = turned_down _ a k k' c n q e in
-      rw (refused_by_lem d root (word_room (length l)) n q (rw o)) (record { answer = refl; plan = refl })
+  plans_refused e c =
+      let o = turned_down _ k k' e c in
+      rw (refused_by_lem d root (word_room (length l)) e.fault e.place (rw o)) (record { answer = refl; plan = refl })
 
-  module _ (w : ℕ) (e : a ≡ Words w) where
+  module _ (w : ℕ) (c : Checks (plan_of (description_of d root)) (Ok w) k k') where
     f : Found (plan_of (description_of d root)) w k k'
-    f = found _ a k k' c w e
+    f = found _ k k' w c
 
     -- a plan for which there is room is whole in the scratch room
     pub scratch_holds : 8192 ≤ length k → w ≤ word_room (length l) → w ≤ length k

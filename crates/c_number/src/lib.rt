@@ -1,28 +1,16 @@
 // The number of an element that a path leads to.
 #![tactic(auto)]
 
-ghost use Rattle.std.specs.Prelude.{◌≡◌, true, not, ◌+◌, ◌-◌, ◌*◌, ◌≤◌, T, length, take, drop};
-ghost use Rattle.std.specs.Float.{binary32};
-ghost use Rattle.std.specs.Float.Ieee.{to_bits, is_nan};
-ghost use Rattle.find_number.specs.Number.{Proper, shown};
-ghost use Rattle.protocol.specs.Finding.{unnumbered, numbered, number_of};
+ghost use Rattle.std.specs.Prelude.{◌≡◌, true, ◌+◌, ◌*◌, ◌≤◌, length};
+ghost use Rattle.find_number.specs.Number.{Proper, Gives, shown};
+ghost use Rattle.protocol.specs.Finding.{numbered};
 ghost use Rattle.protocol.specs.Crossing.{crosses, number_from, number_answer};
 
 use forms::Number;
-
-// No number.
-fn number_refused(number: u32, place: u32) -> Number
-    ensures { result ≡ number_answer (unnumbered number place) }
-{
-    Number {
-        number,
-        place,
-        format: 0,
-        bits: 0,
-    }
-}
+use forms::fault::{Fault, Refusal};
 
 // A number of a format.
+#[tactic(auto, unfolding(protocol::specs::Crossing::number_answer))]
 fn known(format: u32, bits: u64) -> Number
     ensures { result ≡ number_answer (numbered format bits) }
 {
@@ -34,68 +22,62 @@ fn known(format: u32, bits: u64) -> Number
     }
 }
 
-// The bits of a float of 32 bits.
-fn single_bits(x: f32) -> u32
-    requires { T (not (is_nan x)) }
-    ensures { result ≡ to_bits binary32 x }
-{
-    f32::to_bits(x)
-}
-
 // The format and the bits of a number, or a refusal.
-fn number_answer(number: find_number::Number) -> Number
+#[tactic(auto, unfolding(protocol::specs::Crossing::number_answer, find_number::specs::Number::shown, find_number::specs::Number::Proper))]
+fn number_answer(number: Result<find_number::Number, Refusal>) -> Number
     requires { Proper number }
     ensures { result ≡ number_answer (shown number) }
 {
     match number {
-        find_number::Number::Refused { no, place } => number_refused(no, place),
-        find_number::Number::Integer { format, bits } => known(format, bits),
-        find_number::Number::Truth(b) => {
-            if b {
-                return known(constants::FORMAT_BOOL, 1);
-            }
-            known(constants::FORMAT_BOOL, 0)
-        }
-        find_number::Number::Single(x) => known(constants::FORMAT_FLOAT32, single_bits(x) as u64),
-        find_number::Number::Double(x) => known(constants::FORMAT_FLOAT64, f64::to_bits(x)),
-        find_number::Number::SingleNan(bits) => known(constants::FORMAT_FLOAT32, bits as u64),
-        find_number::Number::DoubleNan(bits) => known(constants::FORMAT_FLOAT64, bits),
+        Err(refusal) => Number {
+            number: refusal.fault.number(),
+            place: refusal.place,
+            format: 0,
+            bits: 0,
+        },
+        Ok(find_number::Number::Integer { format, bits }) => known(format, bits),
+        Ok(find_number::Number::Truth(b)) => known(constants::FORMAT_BOOL, b as u64),
+        Ok(find_number::Number::Single(x)) => known(constants::FORMAT_FLOAT32, x.to_bits() as u64),
+        Ok(find_number::Number::Double(x)) => known(constants::FORMAT_FLOAT64, x.to_bits()),
+        Ok(find_number::Number::SingleNan(bits)) => known(constants::FORMAT_FLOAT32, bits as u64),
+        Ok(find_number::Number::DoubleNan(bits)) => known(constants::FORMAT_FLOAT64, bits),
     }
 }
 
-// The number of the element, by the words of a plan and a path.
-fn number_both(words: &[u32], n: usize, end: usize, value: &[u8]) -> Number
-    requires { (n ≤ end) × (end ≤ length words.now) }
-    ensures { result ≡ number_answer (number_of (take n words.now) value.now (take (end - n) (drop n words.now))) }
+// The number by a plan and a path that cross, in scratch room for the words of both.
+fn number_in(
+    plan: &[u8],
+    value: &[u8],
+    path: &[u8],
+    scratch: &mut [u32],
+) -> Result<find_number::Number, Refusal>
+    requires { (crosses (length plan.now) ≡ true) × (crosses (length path.now) ≡ true) × (length plan.now + length path.now ≤ 4 * length scratch.old) }
+    ensures { Gives (number_from plan.now value.now path.now) result }
 {
-    number_answer(find_number::find_number(&words[..n], value, &words[n..end]))
+    c_words::take_both(plan, path, scratch);
+    let words = &scratch[..];
+    let n = plan.len() / 4;
+    find_number::find_number(&words[..n], value, &words[n..n + path.len() / 4])
 }
 
-fn number_in(plan: &[u8], value: &[u8], path: &[u8], scratch: &mut [u32]) -> Number
-    requires { (crosses (length plan.now) ≡ true) × (crosses (length path.now) ≡ true) × (length plan.now + length path.now ≤ 4 * length scratch.old) }
-    ensures { result ≡ number_answer (number_from plan.now value.now path.now) }
+// The number by the bytes of a plan and a path.
+fn number(plan: &[u8], value: &[u8], path: &[u8]) -> Result<find_number::Number, Refusal>
+    ensures { Gives (number_from plan.now value.now path.now) result }
 {
-    let n = plan.len() / 4;
-    let end = n + path.len() / 4;
-    c_words::take_both(plan, path, scratch);
-    number_both(scratch, n, end, value)
+    if !c_words::whole_words(plan.len()) {
+        Err(Fault::BAD_PLAN.at(0))
+    } else if !c_words::whole_words(path.len()) {
+        Err(c_find::find_lost(plan, value))
+    } else if c_words::few_words(plan.len(), path.len()) {
+        number_in(plan, value, path, &mut [0u32; c_words::FEW])
+    } else {
+        number_in(plan, value, path, &mut [0u32; c_find::BOTH])
+    }
 }
 
 // The number of the element that a path leads to.
 pub fn find_number(plan: &[u8], value: &[u8], path: &[u8]) -> Number
     ensures { result ≡ number_answer (number_from plan.now value.now path.now) }
 {
-    if !c_words::whole_words(plan.len()) {
-        return number_refused(constants::BAD_PLAN, 0);
-    }
-    if !c_words::whole_words(path.len()) {
-        let lost = c_find::find_lost(plan, value);
-        return number_refused(lost.number, lost.place);
-    }
-    if c_words::few_words(plan.len(), path.len()) {
-        let mut few = [0u32; c_words::FEW];
-        return number_in(plan, value, path, &mut few);
-    }
-    let mut many = [0u32; c_find::BOTH];
-    number_in(plan, value, path, &mut many)
+    number_answer(number(plan, value, path))
 }

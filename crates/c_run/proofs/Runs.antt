@@ -6,8 +6,8 @@ use Prim.Native.Nat.{ℕ, ◌≤◌}
 use native.Mathlib.Omega.{arith}
 use lib.ListN.{length, take}
 use Rattle.run_plan.specs.Run.{Checks}
-use Rattle.run_plan.specs.declared.Answer as Run
-use Rattle.run_plan.specs.declared.Answer.TheVariants.{Refused, Listed}
+use Rattle.std.specs.Prelude.{Ok, Err}
+use Rattle.forms.specs.declared.fault.Refusal.{Refusal}
 use Rattle.run_plan.proofs.Runs.{Found, found, turned_down}
 use Rattle.c_words.specs.Answers.{WordsOut}
 use Rattle.c_run.specs.Runs.{Roomy}
@@ -19,14 +19,14 @@ use Rattle.protocol.specs.Answers.{refused, accepted}
 use Rattle.protocol.specs.Running.{list_roomed, checked, run_of}
 use Rattle.protocol.specs.Crossing.{words_in, crosses, word_room, refusal, run_answer, run_list, run_from, SettlesRun}
 
-module _ (p s : List ℕ) (a : Run.Answer) (k k' : List ℕ) (c : Checks (length s) (checked p s) a k k') (l : List ℕ) where
-  pub settles_refused : (n q : ℕ) → a ≡ Refused n q → SettlesRun (run_of p s (word_room (length l))) (refusal n q) l l
+module _ (p s k k' l : List ℕ) where
+  pub settles_refused : (e : Refusal) → Checks (length s) (checked p s) (Err e) k k' → SettlesRun (run_of p s (word_room (length l))) (refusal e.fault e.place) l l
   unfolding run_of list_roomed run_answer run_list
-  settles_refused n q e = let o = turned_down _ _ a k k' c n q e in record { answer = rw o; list = rw o }
+  settles_refused e c = let o = turned_down _ _ (Err e) k k' c e refl in record { answer = rw o; list = rw o }
 
-  module _ (w : ℕ) (e : a ≡ Listed w) where
+  module _ (w : ℕ) (c : Checks (length s) (checked p s) (Ok w) k k') where
     f : Found (length s) (checked p s) w k k'
-    f = found _ _ a k k' c w e
+    f = found _ _ (Ok w) k k' c w refl
 
     -- a list for which there is room is whole in the scratch room
     pub scratch_holds : Roomy (length s) (length k) → w ≤ word_room (length l) → w ≤ length k

@@ -1,30 +1,26 @@
 // Checking and listing a value by a plan.
 #![tactic(auto)]
 
-ghost use Rattle.std.specs.Prelude.{◌≡◌, true, ◌≤◌, length};
+ghost use Rattle.std.specs.Prelude.{◌≡◌, true, ◌*◌, ◌≤◌, length};
 ghost use Rattle.c_run.specs.Runs.{Roomy};
 ghost use Rattle.protocol.specs.Running.{run_of};
 ghost use Rattle.protocol.specs.Crossing.{crosses, word_room, SettlesRun, RunsValue};
 
-use c_words::refused;
 use forms::Answer;
+use forms::fault::Fault;
 
 // A value of at most this many bytes has a list of at most c_words::FEW words: 1 + 800 / 4 entries of five.
 const SMALL: usize = 800;
 
-// Runs a plan over a value, with scratch room for the list; the list goes out as bytes only when the whole value is accepted.
-fn run_by(plan: &[u32], value: &[u8], scratch: &mut [u32], list: &mut [u8]) -> Answer
-    requires { Roomy (length value.now) (length scratch.old) }
+// Runs a plan over a value, with scratch room of N words for the list; the list goes out as bytes only when the whole value is accepted.
+fn run_listing<const N: usize>(plan: &[u32], value: &[u8], list: &mut [u8]) -> Answer
+    requires { Roomy (length value.now) N × (N ≤ 8192) }
     ensures { SettlesRun (run_of plan.now value.now (word_room (length list.old))) result list.old list.new }
 {
-    match run_plan::check(plan, value, scratch) {
-        run_plan::Answer::Refused { no, place } => refused(no, place),
-        run_plan::Answer::Listed { words } => c_words::put_answer(
-            constants::LIST_ROOM,
-            scratch,
-            words,
-            list,
-        ),
+    let mut scratch = [0u32; N];
+    match run_plan::check(plan, value, &mut scratch) {
+        Ok(words) => c_words::put_answer(Fault::LIST_ROOM, &scratch, words, list),
+        Err(refusal) => Answer::from(refusal),
     }
 }
 
@@ -32,43 +28,30 @@ fn run_words(plan: &[u32], value: &[u8], list: &mut [u8]) -> Answer
     ensures { SettlesRun (run_of plan.now value.now (word_room (length list.old))) result list.old list.new }
 {
     if value.len() <= SMALL {
-        let mut few = [0u32; c_words::FEW];
-        return run_by(plan, value, &mut few, list);
+        return run_listing::<{ c_words::FEW }>(plan, value, list);
     }
-    let mut many = [0u32; constants::MOST_WORDS];
-    run_by(plan, value, &mut many, list)
+    run_listing::<{ constants::MOST_WORDS }>(plan, value, list)
 }
 
-// A plan of few words, and one of many.
-fn run_few(plan: &[u8], value: &[u8], list: &mut [u8]) -> Answer
-    requires { (crosses (length plan.now) ≡ true) × (length plan.now ≤ 4096) }
+// Runs a plan that crosses, in room for N words.
+fn run_crossed<const N: usize>(plan: &[u8], value: &[u8], list: &mut [u8]) -> Answer
+    requires { (crosses (length plan.now) ≡ true) × (length plan.now ≤ 4 * N) × (N ≤ 8192) }
     ensures { RunsValue plan.now value.now result list.old list.new }
 {
-    let n = plan.len() / 4;
-    let mut words = [0u32; c_words::FEW];
+    let mut words = [0u32; N];
     c_words::take_words(plan, &mut words);
-    run_words(&words[..n], value, list)
-}
-
-fn run_many(plan: &[u8], value: &[u8], list: &mut [u8]) -> Answer
-    requires { crosses (length plan.now) ≡ true }
-    ensures { RunsValue plan.now value.now result list.old list.new }
-{
-    let n = plan.len() / 4;
-    let mut words = [0u32; constants::MOST_WORDS];
-    c_words::take_words(plan, &mut words);
-    run_words(&words[..n], value, list)
+    run_words(&words[..plan.len() / 4], value, list)
 }
 
 // Checks a value by a plan and lists it.
 pub fn run_value(plan: &[u8], value: &[u8], list: &mut [u8]) -> Answer
     ensures { RunsValue plan.now value.now result list.old list.new }
 {
-    if c_words::whole_words(plan.len()) {
-        if plan.len() <= 4 * c_words::FEW {
-            return run_few(plan, value, list);
-        }
-        return run_many(plan, value, list);
+    if !c_words::whole_words(plan.len()) {
+        return Answer::from(Fault::BAD_PLAN.at(0));
     }
-    refused(constants::BAD_PLAN, 0)
+    if plan.len() <= 4 * c_words::FEW {
+        return run_crossed::<{ c_words::FEW }>(plan, value, list);
+    }
+    run_crossed::<{ constants::MOST_WORDS }>(plan, value, list)
 }

@@ -7,8 +7,7 @@ use native.Mathlib.Omega.{arith}
 use lib.ListN.{length, take, drop}
 use lib.Seq.{sets}
 use Rattle.supply_write.specs.Answers.{answer_of, Puts}
-use Rattle.supply_write.specs.declared.Answer as Supply
-use Rattle.supply_write.specs.declared.Answer.TheVariants.{Refused, Written}
+use Rattle.std.specs.Prelude.{Ok, Err}
 use Rattle.c_supply.specs.Supplies.{BothCross}
 use Rattle.forms.specs.declared.Answer.{Answer}
 use Rattle.c_words.proofs.Words.{first_taken, second_taken}
@@ -20,20 +19,20 @@ use Rattle.protocol.specs.Crossing.{words_in, crosses, refusal, success, put_ans
 
 -- ---- the writer's answer
 
-module _ (o : Put) (a : Supply.Answer) (out out' : List ℕ) (p : Puts o a out out') where
-  pub settles_refused : (n : ℕ) → a ≡ Refused n → SettlesPut o (refusal n 0) out out'
+module _ (o : Put) (n : ℕ) (out out' : List ℕ) where
+  pub settles_refused : Puts o (Err n) out out' → SettlesPut o (refusal n 0) out out'
   unfolding answer_of put_answer
-  settles_refused n e = record { answer = go o (sym e ∙ p.answer); output = p.output }
+  settles_refused p = record { answer = go o p.answer; output = p.output }
     where
-      go : (x : Put) → Refused n ≡ answer_of x → refusal n 0 ≡ put_answer x
+      go : (x : Put) → Err n ≡ answer_of x → refusal n 0 ≡ put_answer x
       go (refused_put m) g = let h : n ≡ m = cc in rw h
       go (put_out b) g = let z : ◌≡◌ {A = ℕ} 0 1 = cc in absurd (omega arith)
 
-  pub settles_written : (n : ℕ) → a ≡ Written n → SettlesPut o (success n 0) out out'
+  pub settles_written : Puts o (Ok n) out out' → SettlesPut o (success n 0) out out'
   unfolding answer_of put_answer
-  settles_written n e = record { answer = go o (sym e ∙ p.answer); output = p.output }
+  settles_written p = record { answer = go o p.answer; output = p.output }
     where
-      go : (x : Put) → Written n ≡ answer_of x → success n 0 ≡ put_answer x
+      go : (x : Put) → Ok n ≡ answer_of x → success n 0 ≡ put_answer x
       go (refused_put m) g = let z : ◌≡◌ {A = ℕ} 0 1 = cc in absurd (omega arith)
       go (put_out b) g = let h : n ≡ length b = cc in rw h
 

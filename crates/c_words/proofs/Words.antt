@@ -8,7 +8,7 @@ use native.Mathlib.Numerals.{add-one}
 use lib.Dec.{leb, ltb, eqb}
 use lib.ListN.{length, take, drop, get_or, set, length-take, length-drop, length-append, drop_of_length-le}
 use lib.Seq.{sets, sets-eq, length-sets, drop-cons, drop-drop, take_all, take_at, drop_at}
-use borrow.Author.Tests.{eq-eqb, le-leb, lt-leb, leb-true, leb-false, lt-ltb, le-ltb, ltb-false}
+use borrow.Author.Tests.{eq-eqb, le-leb, leb-true, leb-false, lt-ltb, le-ltb, ltb-false}
 use borrow.Rule.Slice.PartMut.{put_mid}
 use Rattle.wire.proofs.Numbers.{be_bytes, length_bytes}
 use Rattle.wire.proofs.Picks.{pick_case, pick_yes, both}
@@ -56,17 +56,6 @@ length_in (a ∷ b ∷ c ∷ []) = refl
 length_in (a ∷ b ∷ c ∷ d ∷ s) = omega (arith, length_in s)
 
 -- ---- the words of two runs, one run after the other
-
--- two runs are few words together when the second is in what the first leaves
-pub few_left : (n m k : ℕ) → n ≤ k → leb m (k - n) ≡ leb (n + m) k
-few_left n m k h = go (leb m (k - n)) refl
-  where
-    go : (t : Bool) → leb m (k - n) ≡ t → t ≡ leb (n + m) k
-    go true e = sym (le-leb (n + m) k (omega (arith, leb-true m (k - n) e)))
-    go false e = sym (lt-leb (n + m) k (omega (arith, leb-false m (k - n) e)))
-
-pub few_not : (n m k : ℕ) → k < n → false ≡ leb (n + m) k
-few_not n m k h = sym (lt-leb (n + m) k (omega arith))
 
 -- few words together are in the short room
 pub few_fit : (n m : ℕ) (b : Bool) → b ≡ leb (n + m) 4096 → b ≡ true → n + m ≤ 4096

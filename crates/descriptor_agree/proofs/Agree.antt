@@ -3,16 +3,17 @@
 use mathlib.Core.Path.{◌≡◌, refl, ◌∙◌}
 use mathlib.Core.Bool.{Bool, true, false}
 use mathlib.Core.List.{List, [], ◌∷◌, ◌++◌}
-use Prim.Native.Nat.{ℕ, suc, ◌+◌, ◌≤◌}
+use Rattle.std.specs.Prelude.{Ok, Err}
+use Prim.Native.Nat.{ℕ, ◌+◌, ◌≤◌}
 use native.Mathlib.Omega.{arith}
 use native.Mathlib.Nat.{add_assoc}
-use lib.Dec.{leb, eqb}
+use lib.Dec.{leb}
 use lib.ListN.{length, take, drop, length-drop}
 use lib.Seq.{drop-drop}
-use borrow.Author.Tests.{leb-true, leb-false, le-leb, lt-leb, eqb-true, ne_eqb}
-use Rattle.descriptor_fields.specs.Fields.{Known, Element, extent, text_at, fault as fault_of, kept, grown}
+use borrow.Author.Tests.{leb-true, leb-false, le-leb, lt-leb}
+use Rattle.descriptor_fields.specs.Fields.{Known, Element, extent, Verdict, fine, text_at, fault as fault_of, kept, grown}
 use Rattle.descriptor_fields.specs.declared.Draft.{Draft}
-use Rattle.descriptor_blocks.specs.Blocks.{Item, Reading, stop, next, noted, and_then, field}
+use Rattle.descriptor_blocks.specs.Blocks.{Item, Reading, stop, next, if_fine, noted, and_then, field}
 use Rattle.protocol.specs.Descriptors.{Parsed, unparsed, parsed, Reader, parse_then, some_bytes, number_field, passing, text_field}
 use Rattle.protocol.specs.Descriptors
 use Rattle.protocol.specs.Numbers.{pick, be}
@@ -99,39 +100,45 @@ unfolding parse_then
 then_assoc (unparsed n) f g = refl
 then_assoc (parsed a s) f g = refl
 
--- a fault's number, or none
-unfoldable pub verdict : {A : Type 0} → ℕ → Parsed A → Parsed A
-verdict n p = pick (eqb n 0) p (unparsed n)
+-- what was read, if a rule has nothing against it
+unfoldable pub verdict : {A : Type 0} → Verdict → Parsed A → Parsed A
+verdict (Ok u) p = p
+verdict (Err n) p = unparsed n
 
-pub verdict_pick : {A : Type 0} (t : Bool) (n : ℕ) (p : Parsed A) → verdict (pick t 0 (suc n)) p ≡ pick t p (unparsed (suc n))
+-- one rule after another
+unfoldable pub then_rule : Verdict → Verdict → Verdict
+then_rule (Ok u) w = w
+then_rule (Err n) w = Err n
+
+pub verdict_pick : {A : Type 0} (t : Bool) (n : ℕ) (p : Parsed A) → verdict (pick t fine (Err n)) p ≡ pick t p (unparsed n)
 unfolding verdict pick
 verdict_pick true n p = refl
-verdict_pick false n p = rw (ne_eqb (suc n) 0 (λ h. omega arith))
+verdict_pick false n p = refl
 
 -- ---- a field
 
 -- the bytes of a field that starts at a place, first whole, and then a verdict on it
-unfoldable pub judged : {A : Type 0} → List ℕ → ℕ → ℕ → ℕ → A → Parsed A
-judged d at size n a = pick (leb (at + size) (length d)) (verdict n (parsed a (drop (at + size) d))) (unparsed 10)
+unfoldable pub judged : {A : Type 0} → List ℕ → ℕ → ℕ → Verdict → A → Parsed A
+judged d at size v a = pick (leb (at + size) (length d)) (verdict v (parsed a (drop (at + size) d))) (unparsed 10)
 
 module _ (d : List ℕ) (known : List Known) (tag : ℕ) where
   module _ {A B : Type 0} (Q : Draft → List Element → B → Type 0) (c : ℕ) (x : Draft) (es : List Element) (p : Parsed A) (a : A) (f : Draft → List Element → Reading) (g : A → Reader B) where
     pub agree_field : p ≡ judged d x.at (extent d c x.at) (fault_of d known tag c x es) a
-        → (x.at + extent d c x.at ≤ length d → fault_of d known tag c x es ≡ 0 → Agree d Q (f (kept d known tag c x) (grown d c x es)) (g a (drop (x.at + extent d c x.at) d)))
+        → (x.at + extent d c x.at ≤ length d → fault_of d known tag c x es ≡ fine → Agree d Q (f (kept d known tag c x) (grown d c x es)) (g a (drop (x.at + extent d c x.at) d)))
         → Agree d Q (and_then (field d known tag c x es) f) (parse_then p g)
-    unfolding field judged verdict kept pick and_then parse_then
-    agree_field e k = rw e (cases (leb (x.at + extent d c x.at) (length d)) refl (eqb (fault_of d known tag c x es) 0) refl)
+    unfolding field if_fine judged verdict kept pick and_then parse_then
+    agree_field e k = rw e (cases (leb (x.at + extent d c x.at) (length d)) refl (fault_of d known tag c x es) refl)
       where
-        cases : (s : Bool) → leb (x.at + extent d c x.at) (length d) ≡ s → (t : Bool) → eqb (fault_of d known tag c x es) 0 ≡ t
+        cases : (s : Bool) → leb (x.at + extent d c x.at) (length d) ≡ s → (v : Verdict) → fault_of d known tag c x es ≡ v
             → Agree d Q
-            (and_then (pick s (pick t (next (kept d known tag c x) (grown d c x es) (record { kind = c; start = x.at } ∷ [])) (stop (fault_of d known tag c x es))) (stop 10)) f)
-            (parse_then (pick s (pick t (parsed a (drop (x.at + extent d c x.at) d)) (unparsed (fault_of d known tag c x es))) (unparsed 10)) g)
-        cases true h true z =
+            (and_then (pick s (if_fine v (next (kept d known tag c x) (grown d c x es) (record { kind = c; start = x.at } ∷ []))) (stop 10)) f)
+            (parse_then (pick s (verdict v (parsed a (drop (x.at + extent d c x.at) d))) (unparsed 10)) g)
+        cases true h (Ok u) z =
             agree_noted d Q (record { kind = c; start = x.at } ∷ []) (f (kept d known tag c x) (grown d c x es))
             (g a (drop (x.at + extent d c x.at) d))
-            (k (leb-true (x.at + extent d c x.at) (length d) h) (eqb-true (fault_of d known tag c x es) 0 z))
-        cases true h false z = refl
-        cases false h t z = refl
+            (k (leb-true (x.at + extent d c x.at) (length d) h) z)
+        cases true h (Err n) z = refl
+        cases false h v z = refl
 
   pub then_give : {A : Type 0} (q : Parsed A) → parse_then q Descriptors.give ≡ q
   unfolding parse_then
@@ -141,7 +148,7 @@ module _ (d : List ℕ) (known : List Known) (tag : ℕ) where
   -- the last field
   module _ {A : Type 0} (Q : Draft → List Element → A → Type 0) (c : ℕ) (x : Draft) (es : List Element) (p : Parsed A) (a : A) where
     pub agree_last : p ≡ judged d x.at (extent d c x.at) (fault_of d known tag c x es) a
-        → (x.at + extent d c x.at ≤ length d → fault_of d known tag c x es ≡ 0 → Q (kept d known tag c x) (grown d c x es) a)
+        → (x.at + extent d c x.at ≤ length d → fault_of d known tag c x es ≡ fine → Q (kept d known tag c x) (grown d c x es) a)
         → Agree d Q (and_then (field d known tag c x es) (λ y fs. next y fs [])) p
     unfolding kept
     agree_last e k = rw then_give at (agree_field Q c x es p a (λ y fs. next y fs []) Descriptors.give e (λ l z. (refl, l, k l z)))
@@ -156,53 +163,54 @@ module _ (d : List ℕ) (at : ℕ) (inside : at ≤ length d) where
       go true e = le-leb n (length (drop at d)) (let h = leb-true (at + n) (length d) e in simp length-drop (omega arith))
       go false e = lt-leb n (length (drop at d)) (let h = leb-false (at + n) (length d) e in simp length-drop (omega arith))
 
-  pub bytes_at : (n : ℕ) → some_bytes n (drop at d) ≡ judged d at n 0 (take n (drop at d))
+  pub bytes_at : (n : ℕ) → some_bytes n (drop at d) ≡ judged d at n fine (take n (drop at d))
   unfolding some_bytes judged verdict pick
   bytes_at n = rw (leb_at n, drop-drop)
 
-  pub judged_then : {A B : Type 0} (size : ℕ) (a : A) (g : A → Reader B) → parse_then (judged d at size 0 a) g ≡ pick (leb (at + size) (length d)) (g a (drop (at + size) d)) (unparsed 10)
+  pub judged_then : {A B : Type 0} (size : ℕ) (a : A) (g : A → Reader B) → parse_then (judged d at size fine a) g ≡ pick (leb (at + size) (length d)) (g a (drop (at + size) d)) (unparsed 10)
   unfolding judged verdict parse_then pick
-  judged_then size a g = then_pick (leb (at + size) (length d)) (pick (eqb 0 0) (parsed a (drop (at + size) d)) (unparsed 0)) (unparsed 10) g
+  judged_then size a g = then_pick (leb (at + size) (length d)) (parsed a (drop (at + size) d)) (unparsed 10) g
 
-  pub number_at_lem : (w : ℕ) → number_field w (drop at d) ≡ judged d at w 0 (be (take w (drop at d)))
+  pub number_at_lem : (w : ℕ) → number_field w (drop at d) ≡ judged d at w fine (be (take w (drop at d)))
   unfolding number_field judged verdict pick
   number_at_lem w = rw (bytes_at w) (judged_then w (take w (drop at d)) (λ b. Descriptors.give (be b)))
 
   -- a rule, which refuses with a number
-  pub checked_at : {A : Type 0} (n : ℕ) (rule : A → Bool) (p : Reader A) (size : ℕ) (a : A) → p (drop at d) ≡ judged d at size 0 a
-      → passing (suc n) rule p (drop at d) ≡ judged d at size (pick (rule a) 0 (suc n)) a
+  pub checked_at : {A : Type 0} (n : ℕ) (rule : A → Bool) (p : Reader A) (size : ℕ) (a : A) → p (drop at d) ≡ judged d at size fine a
+      → passing n rule p (drop at d) ≡ judged d at size (pick (rule a) fine (Err n)) a
   unfolding passing judged
-  checked_at n rule p size a e = rw (e, judged_then size a (λ b. pick (rule b) (Descriptors.give b) (Descriptors.refuse (suc n))), verdict_pick (rule a) n (parsed a (drop (at + size) d))) (rw pick_at)
+  checked_at n rule p size a e = rw (e, judged_then size a (λ b. pick (rule b) (Descriptors.give b) (Descriptors.refuse n)), verdict_pick (rule a) n (parsed a (drop (at + size) d))) (rw pick_at)
 
   -- one more rule, after a field's own
-  pub checked_more : {A : Type 0} (n m : ℕ) (rule : A → Bool) (p : Reader A) (size : ℕ) (a : A) → p (drop at d) ≡ judged d at size m a
-      → passing (suc n) rule p (drop at d) ≡ judged d at size (pick (eqb m 0) (pick (rule a) 0 (suc n)) m) a
-  unfolding passing judged verdict parse_then pick
-  checked_more n m rule p size a e = rw e (go (leb (at + size) (length d)) (eqb m 0) refl (rule a))
+  pub checked_more : {A : Type 0} (n : ℕ) (v : Verdict) (rule : A → Bool) (p : Reader A) (size : ℕ) (a : A) → p (drop at d) ≡ judged d at size v a
+      → passing n rule p (drop at d) ≡ judged d at size (then_rule v (pick (rule a) fine (Err n))) a
+  unfolding passing judged verdict then_rule parse_then pick
+  checked_more n v rule p size a e = rw e (go (leb (at + size) (length d)) v)
     where
-      go : (s t : Bool) → eqb m 0 ≡ t → (r : Bool)
-          → parse_then (pick s (pick t (parsed a (drop (at + size) d)) (unparsed m)) (unparsed 10)) (λ b. pick (rule b) (Descriptors.give b) (Descriptors.refuse (suc n)))
-          ≡ pick s (verdict (pick t (pick (rule a) 0 (suc n)) m) (parsed a (drop (at + size) d))) (unparsed 10)
-      go true true z r = after (rule a)
-        where
-          after : (r : Bool) → pick r (Descriptors.give a) (Descriptors.refuse (suc n)) (drop (at + size) d) ≡ verdict (pick r 0 (suc n)) (parsed a (drop (at + size) d))
-          after r = rw verdict_pick (pick_at r (Descriptors.give a) (Descriptors.refuse (suc n)) (drop (at + size) d))
-      go true false z r = rw z
-      go false t z r = refl
+      after : (r : Bool) → pick r (Descriptors.give a) (Descriptors.refuse n) (drop (at + size) d) ≡ verdict (pick r fine (Err n)) (parsed a (drop (at + size) d))
+      after true = refl
+      after false = refl
+
+      go : (s : Bool) (v : Verdict)
+          → parse_then (pick s (verdict v (parsed a (drop (at + size) d))) (unparsed 10)) (λ b. pick (rule b) (Descriptors.give b) (Descriptors.refuse n))
+          ≡ pick s (verdict (then_rule v (pick (rule a) fine (Err n))) (parsed a (drop (at + size) d))) (unparsed 10)
+      go true (Ok u) = after (rule a)
+      go true (Err m) = refl
+      go false v = refl
 
 -- a text: how long it is, and then its bytes
 module _ (d : List ℕ) (at : ℕ) (inside : at ≤ length d) where
   abbrev pub text_size : ℕ
   text_size = pick (leb (at + 4) (length d)) (4 + be (take 4 (drop at d))) 4
 
-  content_at_lem : parse_then (number_field 4 (drop at d)) some_bytes ≡ judged d at text_size 0 (text_at d at)
+  content_at_lem : parse_then (number_field 4 (drop at d)) some_bytes ≡ judged d at text_size fine (text_at d at)
   unfolding pick text_at judged verdict
   content_at_lem = rw (number_at_lem d at inside 4, judged_then d at inside 4 (be (take 4 (drop at d))) some_bytes) (go (leb (at + 4) (length d)) refl)
     where
-      go : (t : Bool) → leb (at + 4) (length d) ≡ t → pick (leb (at + 4) (length d)) (some_bytes (be (take 4 (drop at d))) (drop (at + 4) d)) (unparsed 10) ≡ judged d at text_size 0 (text_at d at)
+      go : (t : Bool) → leb (at + 4) (length d) ≡ t → pick (leb (at + 4) (length d)) (some_bytes (be (take 4 (drop at d))) (drop (at + 4) d)) (unparsed 10) ≡ judged d at text_size fine (text_at d at)
       go true e = rw e (bytes_at d (at + 4) (leb-true (at + 4) (length d) e) (be (take 4 (drop at d))) ∙ rw add_assoc)
       go false e = rw e (rw e)
 
-  pub text_at_lem : text_field (drop at d) ≡ judged d at text_size (pick (well_formed (text_at d at)) 0 12) (text_at d at)
+  pub text_at_lem : text_field (drop at d) ≡ judged d at text_size (pick (well_formed (text_at d at)) fine (Err 12)) (text_at d at)
   unfolding text_field
-  text_at_lem = checked_at d at inside 11 well_formed (λ s. parse_then (number_field 4 s) some_bytes) text_size (text_at d at) content_at_lem
+  text_at_lem = checked_at d at inside 12 well_formed (λ s. parse_then (number_field 4 s) some_bytes) text_size (text_at d at) content_at_lem

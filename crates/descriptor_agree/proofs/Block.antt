@@ -3,6 +3,7 @@ use mathlib.Core.Path.{◌≡◌, refl, sym, subst}
 use mathlib.Core.Bool.{Bool, true, false, not}
 use mathlib.Core.List.{List, [], ◌∷◌}
 use mathlib.Core.Option.{Option, none, some}
+use Rattle.std.specs.Prelude.{None}
 use Prim.Native.Nat.{ℕ, ◌≤◌, ◌<◌}
 use native.Mathlib.Omega.{arith}
 use native.Mathlib.Decide.{dec_lt}
@@ -35,7 +36,7 @@ pub record Twin (d : List ℕ) (known : List Known) (bs : List Block) (tag at : 
   pub final : Final known bs tag x es block.kind
 
 abbrev blank : ℕ → Draft
-blank at = record { at = at; left = 0; free = 0; format = 20; height = 1; card = 0; name = 0; count = 0 }
+blank at = record { at = at; left = 0; free = 0; format = None; height = 1; card = 0; name = 0; count = 0 }
 
 abbrev pub tags : List ℕ
 tags = 0 ∷ 1 ∷ 3 ∷ 4 ∷ 5 ∷ 6 ∷ 7 ∷ 8 ∷ 9 ∷ 10 ∷ 11 ∷ 13 ∷ []

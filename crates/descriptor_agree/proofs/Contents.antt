@@ -3,6 +3,7 @@ use mathlib.Core.Path.{◌≡◌, refl, sym, ◌∙◌}
 use mathlib.Core.Bool.{Bool, true, false}
 use mathlib.Core.List.{List, [], ◌∷◌, ◌++◌, map, map-append}
 use mathlib.Core.Option.{none, some}
+use Rattle.std.specs.Prelude.{Err}
 use Prim.Native.Nat.{ℕ, suc, ◌+◌, ◌≤◌, ◌<◌}
 use native.Mathlib.Omega.{arith}
 use lib.ListN.{length, take, drop, get_or}
@@ -10,7 +11,7 @@ use borrow.Author.Tests.{ltb-true}
 use Rattle.descriptor_fields.specs.Layouts.{TEXT, NAME, BOOL, FREE, OPERATION, CARDINALITY, SHAPE_FLAGS, INPUT_FLAGS, BOUND, DIMENSIONS}
 use Rattle.descriptor_fields.specs.Layouts.{ANCESTORS, COUNT, ANCESTOR, ANY, OBJECT, ELEMENT, SET_ELEMENT, ARRAY_ELEMENT, RANGE_ELEMENT}
 use Rattle.descriptor_fields.specs.Layouts.{valued as valuedTag}
-use Rattle.descriptor_fields.specs.Fields.{Known, no_block, Element, text_at, number_at, width_of, formatless, fault as fault_of, ref_fault, kept, grown, height_after}
+use Rattle.descriptor_fields.specs.Fields.{Known, no_block, Element, Verdict, fine, format_number, text_at, number_at, width_of, formatless, fault as fault_of, ref_fault, kept, grown, height_after}
 use Rattle.descriptor_fields.specs.declared.Draft.{Draft}
 use Rattle.descriptor_blocks.specs.Blocks.{Reading, stop, next, noted, and_then, fields, items, section, counting}
 use Rattle.descriptor_blocks.specs.Descriptor.{node_of as oldNode, only_ref}
@@ -61,7 +62,7 @@ pub record Shaped {A : Type 0} (type cardinal : A → ℕ) (known : List Known) 
 -- what both definitions make of a block
 pub record Final (known : List Known) (bs : List Block) (tag : ℕ) (x : Draft) (es : List Element) (kind : BlockKind) : Type 0 where
   pub height : x.height ≡ height_over bs 1 (types kind)
-  pub node : block_node bs kind ≡ pick (valuedTag tag) (some (oldNode known tag x.format es)) none
+  pub node : block_node bs kind ≡ pick (valuedTag tag) (some (oldNode known tag (format_number x.format) es)) none
   pub below : Below (length known) (types kind)
 
 snoc_map : {A B C : Type 0} (f : A → C) (g : B → C) (xs : List A) (ys : List B) (a : A) (b : B) → map f xs ≡ map g ys → f a ≡ g b → map f (xs ++ (a ∷ [])) ≡ map g (ys ++ (b ∷ []))
@@ -72,10 +73,10 @@ unfolding only_ref
 only_of [] t e = let z : ◌≡◌ {A = ℕ} 0 1 = cc in absurd (omega arith)
 only_of (f ∷ fs) t e = cc
 
-named_13 : (t : Bool) (k : ℕ) → ◌≡◌ {A = ℕ} (pick t k 13) 0 → t ≡ true
+named_13 : (t : Bool) (k : Verdict) → pick t k (Err 13) ≡ fine → t ≡ true
 unfolding pick
 named_13 true k e = refl
-named_13 false k e = let z : ◌≡◌ {A = ℕ} 0 1 = absurd (omega arith) in absurd (omega arith)
+named_13 false k e = let z : ◌≡◌ {A = ℕ} 0 1 = cc in absurd (omega arith)
 
 module _ (d : List ℕ) (known : List Known) (bs : List Block) (pairs : Pairs d known bs) where
   listed_none : (x : Draft) (es : List Element) → Fresh x es → Listed known bs x.height es []

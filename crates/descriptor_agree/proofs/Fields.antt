@@ -3,6 +3,7 @@ use mathlib.Core.Path.{◌≡◌, refl, ap, sym, ◌∙◌}
 use mathlib.Core.Bool.{Bool, true, false, not}
 use mathlib.Core.List.{List, [], ◌∷◌, map}
 use mathlib.Core.Option.{none, some}
+use Rattle.std.specs.Prelude.{Err}
 use Prim.Native.Nat.{ℕ, zero, suc, ◌+◌, ◌≤◌, ◌<◌}
 use native.Mathlib.Omega.{arith}
 use native.Mathlib.Nat.{not-suc-le-zero}
@@ -12,7 +13,7 @@ use borrow.Author.Tests.{leb-true, leb-false, eqb-true, eqb-false, ne_eqb, eq-eq
 use Rattle.descriptor_fields.specs.Layouts.{ID, TEXT, NAME, BOOL, FREE, OPERATION, CARDINALITY, SHAPE_FLAGS, INPUT_FLAGS, BOUND, DIMENSIONS}
 use Rattle.descriptor_fields.specs.Layouts.{ANCESTORS, COUNT, ANCESTOR, ANY, OBJECT, ELEMENT, SET_ELEMENT, ARRAY_ELEMENT, RANGE_ELEMENT}
 use Rattle.descriptor_fields.specs.Layouts.{valued as valuedTag, object_type as objectTag}
-use Rattle.descriptor_fields.specs.Fields.{Known, no_block, Element, id_at, extent, width_of, text_at, number_at, taken, id_fault, named}
+use Rattle.descriptor_fields.specs.Fields.{Known, no_block, Element, Verdict, fine, id_at, extent, width_of, text_at, number_at, taken, id_fault, named}
 use Rattle.descriptor_fields.specs.Fields.{text_fault, permits, number_fault, formatless, count_fault, decides, fits, kind_fault, ref_fault}
 use Rattle.descriptor_fields.specs.Fields.{fault as fault_of}
 use Rattle.descriptor_fields.specs.declared.Draft.{Draft}
@@ -20,7 +21,7 @@ use Rattle.protocol.specs.Descriptors.{Block, unparsed, parsed, Reader, number_f
 use Rattle.protocol.specs.Descriptors.{output_flags, input_flags, dimensions, unbound, item_count, new_name, new_id, refers_to, reference}
 use Rattle.protocol.specs.Descriptors.{any_block, object_reference, element, height_at, has_values, of_objects, set_element, array_element}
 use Rattle.protocol.specs.Descriptors.{range_element, Text}
-use Rattle.descriptor_agree.proofs.Agree.{judged, verdict, verdict_pick, number_at_lem, checked_at, checked_more, judged_then, text_at_lem, pick_at}
+use Rattle.descriptor_agree.proofs.Agree.{judged, verdict, then_rule, verdict_pick, number_at_lem, checked_at, checked_more, judged_then, text_at_lem, pick_at}
 use Rattle.protocol.specs.Numbers.{pick, be, any, same_bytes}
 use Rattle.protocol.specs.Text.{well_formed}
 use Rattle.protocol.specs.Messages.{is_cardinality}
@@ -124,11 +125,11 @@ module _ (d : List ℕ) (k : Known) (b : Block) (p : Pair d k b) where
   unfolding range_element
   range_fit = rw p.tags
 
-tests : (s t : Bool) (h : ℕ) → ◌≡◌ {A = ℕ} (pick (eqb (pick s (pick t 0 14) 13) 0) (pick (ltb h 32) 0 17) (pick s (pick t 0 14) 13)) (pick s (pick t (pick (leb 32 h) 17 0) 14) 13)
-unfolding pick
+tests : (s t : Bool) (h : ℕ) → then_rule (pick s (pick t fine (Err 14)) (Err 13)) (pick (ltb h 32) fine (Err 17)) ≡ pick s (pick t (pick (leb 32 h) (Err 17) fine) (Err 14)) (Err 13)
+unfolding then_rule pick
 tests true true h = go (leb 32 h) refl
   where
-    go : (r : Bool) → leb 32 h ≡ r → ◌≡◌ {A = ℕ} (pick (ltb h 32) 0 17) (pick r 17 0)
+    go : (r : Bool) → leb 32 h ≡ r → ◌≡◌ {A = Verdict} (pick (ltb h 32) fine (Err 17)) (pick r (Err 17) fine)
     go true e = rw (le-ltb h 32 (leb-true 32 h e))
     go false e = rw (lt-ltb h 32 (leb-false 32 h e))
 tests true false h = refl
@@ -145,81 +146,81 @@ module _ (d : List ℕ) (known : List Known) (tag : ℕ) (bs : List Block) (pair
   here = drop x.at d
 
   ruled : (c w n : ℕ) (rule : ℕ → Bool) → extent d c x.at ≡ w
-      → fault_of d known tag c x es ≡ pick (rule (be (take w (drop x.at d)))) 0 (suc n)
-      → Same c (passing (suc n) rule (number_field w)) (be (take w (drop x.at d)))
+      → fault_of d known tag c x es ≡ pick (rule (be (take w (drop x.at d)))) fine (Err n)
+      → Same c (passing n rule (number_field w)) (be (take w (drop x.at d)))
   ruled c w n rule e f = checked_at d x.at inside n rule (number_field w) w (be (take w (drop x.at d))) (number_at_lem d x.at inside w) ∙ rw (e, f)
 
   pub bool_same : Same BOOL bool_field (be (take 1 (drop x.at d)))
   unfolding bool_field extent fault_of number_fault permits number_at width_of pick
-  bool_same = ruled BOOL 1 11 (λ v. leb v 1) refl refl
+  bool_same = ruled BOOL 1 12 (λ v. leb v 1) refl refl
 
   pub free_same : Same FREE bool_field (be (take 1 (drop x.at d)))
   unfolding bool_field extent fault_of number_fault permits number_at width_of pick
-  free_same = ruled FREE 1 11 (λ v. leb v 1) refl refl
+  free_same = ruled FREE 1 12 (λ v. leb v 1) refl refl
 
   pub operation_same : Same OPERATION operation (be (take 1 (drop x.at d)))
   unfolding operation any extent fault_of number_fault permits number_at width_of pick
-  operation_same = ruled OPERATION 1 11 (λ v. any (eqb v) (1 ∷ 2 ∷ [])) refl (two (eqb (be (take 1 (drop x.at d))) 1) (eqb (be (take 1 (drop x.at d))) 2))
+  operation_same = ruled OPERATION 1 12 (λ v. any (eqb v) (1 ∷ 2 ∷ [])) refl (two (eqb (be (take 1 (drop x.at d))) 1) (eqb (be (take 1 (drop x.at d))) 2))
     where
-      two : (s t : Bool) → ◌≡◌ {A = ℕ} (pick (pick s true t) 0 12) (pick (pick s true (pick t true false)) 0 12)
+      two : (s t : Bool) → ◌≡◌ {A = Verdict} (pick (pick s true t) fine (Err 12)) (pick (pick s true (pick t true false)) fine (Err 12))
       two true t = refl
       two false true = refl
       two false false = refl
 
   pub cardinal_same : Same CARDINALITY cardinal_of (be (take 1 (drop x.at d)))
   unfolding cardinal_of extent fault_of number_fault permits number_at width_of pick
-  cardinal_same = ruled CARDINALITY 1 11 is_cardinality refl refl
+  cardinal_same = ruled CARDINALITY 1 12 is_cardinality refl refl
 
   pub output_flags_same : Same SHAPE_FLAGS output_flags (be (take 4 (drop x.at d)))
   unfolding output_flags extent fault_of number_fault permits number_at width_of pick
-  output_flags_same = ruled SHAPE_FLAGS 4 11 (λ v. ltb v 8) refl refl
+  output_flags_same = ruled SHAPE_FLAGS 4 12 (λ v. ltb v 8) refl refl
 
   pub input_flags_same : Same INPUT_FLAGS input_flags (be (take 4 (drop x.at d)))
   unfolding input_flags extent fault_of number_fault permits number_at width_of pick
-  input_flags_same = ruled INPUT_FLAGS 4 11 (λ v. eqb v 0) refl refl
+  input_flags_same = ruled INPUT_FLAGS 4 12 (λ v. eqb v 0) refl refl
 
   pub bound_same : Same BOUND unbound (be (take 4 (drop x.at d)))
   unfolding unbound extent fault_of number_fault permits number_at width_of pick
-  bound_same = ruled BOUND 4 11 (λ v. eqb v 0xffffffff) refl refl
+  bound_same = ruled BOUND 4 12 (λ v. eqb v 0xffffffff) refl refl
 
   pub dimensions_same : Same DIMENSIONS dimensions (be (take 2 (drop x.at d)))
   unfolding dimensions extent fault_of number_fault permits number_at width_of pick
-  dimensions_same = ruled DIMENSIONS 2 11 (λ v. eqb v 1) refl refl
+  dimensions_same = ruled DIMENSIONS 2 12 (λ v. eqb v 1) refl refl
 
   -- counts
-  pub over : (v m : ℕ) → pick (ltb 512 v) m 0 ≡ pick (leb v 512) 0 m
+  pub over : (v : ℕ) (m : Verdict) → pick (ltb 512 v) m fine ≡ pick (leb v 512) fine m
   unfolding pick
   over v m = go (leb v 512) refl
     where
-      go : (t : Bool) → leb v 512 ≡ t → pick (ltb 512 v) m 0 ≡ pick t 0 m
+      go : (t : Bool) → leb v 512 ≡ t → pick (ltb 512 v) m fine ≡ pick t fine m
       go true e = rw (le-ltb 512 v (leb-true v 512 e))
       go false e = rw (lt-ltb 512 v (leb-false v 512 e))
 
   pub count_same : Same COUNT item_count (be (take 2 (drop x.at d)))
   unfolding item_count extent fault_of count_fault number_at width_of pick
-  count_same = ruled COUNT 2 16 (λ v. leb v 512) refl (over (be (take 2 (drop x.at d))) 17)
+  count_same = ruled COUNT 2 17 (λ v. leb v 512) refl (over (be (take 2 (drop x.at d))) (Err 17))
 
-  idle : (t : Bool) → ◌≡◌ {A = ℕ} (pick t 0 0) 0
+  idle : (t : Bool) → ◌≡◌ {A = Verdict} (pick t fine fine) fine
   unfolding pick
   idle true = refl
   idle false = refl
 
   pub ancestors_same : formatless tag x ≡ false → Same ANCESTORS item_count (be (take 2 (drop x.at d)))
   unfolding item_count extent fault_of count_fault number_at width_of pick
-  ancestors_same e = ruled ANCESTORS 2 16 (λ v. leb v 512) refl (rw (e, idle (eqb (be (take 2 (drop x.at d))) 0)) (over (be (take 2 (drop x.at d))) 17))
+  ancestors_same e = ruled ANCESTORS 2 17 (λ v. leb v 512) refl (rw (e, idle (eqb (be (take 2 (drop x.at d))) 0)) (over (be (take 2 (drop x.at d))) (Err 17)))
 
   pub ancestors_some : eqb (be (take 2 (drop x.at d))) 0 ≡ false → Same ANCESTORS item_count (be (take 2 (drop x.at d)))
   unfolding item_count extent fault_of count_fault number_at width_of pick
-  ancestors_some e = ruled ANCESTORS 2 16 (λ v. leb v 512) refl (rw e (over (be (take 2 (drop x.at d))) 17))
+  ancestors_some e = ruled ANCESTORS 2 17 (λ v. leb v 512) refl (rw e (over (be (take 2 (drop x.at d))) (Err 17)))
 
   -- ids and texts
   pub id_same : Same ID (new_id bs) (be (take 16 (drop x.at d)))
   unfolding new_id extent fault_of id_fault id_at any pick
   id_same =
-      ruled ID 16 14 (λ i. not (any (eqb i) (0 ∷ map (λ (b : Block). b.id) bs))) refl
+      ruled ID 16 15 (λ i. not (any (eqb i) (0 ∷ map (λ (b : Block). b.id) bs))) refl
       (rw (pairs_taken d known bs pairs (be (take 16 (drop x.at d)))) (two (eqb (be (take 16 (drop x.at d))) 0) (any (eqb (be (take 16 (drop x.at d)))) (map (λ (b : Block). b.id) bs))))
     where
-      two : (s t : Bool) → ◌≡◌ {A = ℕ} (pick s 15 (pick t 15 0)) (pick (not (pick s true t)) 0 15)
+      two : (s t : Bool) → ◌≡◌ {A = Verdict} (pick s (Err 15) (pick t (Err 15) fine)) (pick (not (pick s true t)) fine (Err 15))
       two true t = refl
       two false true = refl
       two false false = refl
@@ -230,13 +231,13 @@ module _ (d : List ℕ) (known : List Known) (tag : ℕ) (bs : List Block) (pair
 
   -- a name that is not among the others'
   pub name_same : (others : List Text) → map (λ (e : Element). text_at d e.name) es ≡ others → Same NAME (new_name others) (text_at d x.at)
-  unfolding new_name extent fault_of text_fault named pick
+  unfolding new_name extent fault_of text_fault named then_rule pick
   name_same others e =
-      checked_more d x.at inside 15 (pick (well_formed (text_at d x.at)) 0 12) (λ t. not (any (λ o. same_bytes o t) others)) text_field _ (text_at d x.at) (text_at_lem d x.at inside)
-      ∙ rw (← e, ← heard d es (text_at d x.at)) (ap (λ (n : ℕ). judged d x.at (extent d NAME x.at) n (text_at d x.at))
+      checked_more d x.at inside 16 (pick (well_formed (text_at d x.at)) fine (Err 12)) (λ t. not (any (λ o. same_bytes o t) others)) text_field _ (text_at d x.at) (text_at_lem d x.at inside)
+      ∙ rw (← e, ← heard d es (text_at d x.at)) (ap (λ (v : Verdict). judged d x.at (extent d NAME x.at) v (text_at d x.at))
       (two (well_formed (text_at d x.at)) (any (λ e. same_bytes (text_at d e.name) (text_at d x.at)) es)))
     where
-      two : (s t : Bool) → ◌≡◌ {A = ℕ} (pick (eqb (pick s 0 12) 0) (pick (not t) 0 16) (pick s 0 12)) (pick s (pick t 16 0) 12)
+      two : (s t : Bool) → then_rule (pick s fine (Err 12)) (pick (not t) fine (Err 16)) ≡ pick s (pick t (Err 16) fine) (Err 12)
       two true true = refl
       two true false = refl
       two false t = refl
@@ -244,29 +245,29 @@ module _ (d : List ℕ) (known : List Known) (tag : ℕ) (bs : List Block) (pair
   -- references: what is asked of the block is the same
   module _ (old : Known → Bool) (new : Block → Bool) (same : (k : Known) (b : Block) → Pair d k b → old k ≡ new b) where
     reference_at : reference bs new (drop x.at d)
-        ≡ judged d x.at 2 (pick (ltb (be (take 2 (drop x.at d))) (length known)) (pick (old (get_or known (be (take 2 (drop x.at d))) no_block)) 0 14) 13) (be (take 2 (drop x.at d)))
+        ≡ judged d x.at 2 (pick (ltb (be (take 2 (drop x.at d))) (length known)) (pick (old (get_or known (be (take 2 (drop x.at d))) no_block)) fine (Err 14)) (Err 13)) (be (take 2 (drop x.at d)))
     unfolding reference judged refers_to pick verdict
     reference_at =
         rw (number_at_lem d x.at inside 2, judged_then d x.at inside 2 (be (take 2 (drop x.at d))) (λ t. refers_to bs new t (get_elem? bs t)))
         (go (be (take 2 (drop x.at d))) (ltb (be (take 2 (drop x.at d))) (length known)) refl)
       where
         go : (v : ℕ) (t : Bool) → ltb v (length known) ≡ t
-            → pick (leb (x.at + 2) (length d)) (refers_to bs new v (get_elem? bs v) (drop (x.at + 2) d)) (unparsed 10) ≡ judged d x.at 2 (pick t (pick (old (get_or known v no_block)) 0 14) 13) v
+            → pick (leb (x.at + 2) (length d)) (refers_to bs new v (get_elem? bs v) (drop (x.at + 2) d)) (unparsed 10) ≡ judged d x.at 2 (pick t (pick (old (get_or known v no_block)) fine (Err 14)) (Err 13)) v
         go v true e =
             let q = pairs_at d known bs pairs v (ltb-true v (length known) e) in
-            rw (q.1, same (get_or known v no_block) q.0 q.2, pick_at (new q.0)) (rw (verdict_pick (new q.0) 13 (parsed v (drop (x.at + 2) d))))
+            rw (q.1, same (get_or known v no_block) q.0 q.2, pick_at (new q.0)) (rw (verdict_pick (new q.0) 14 (parsed v (drop (x.at + 2) d))))
         go v false e = rw (pairs_past d known bs pairs v (ltb-false v (length known) e)) refl
 
     -- the height of the block comes after its kind
     element_at_lem : element bs new (drop x.at d)
         ≡ judged d x.at 2
         (pick (ltb (be (take 2 (drop x.at d))) (length known))
-        (pick (old (get_or known (be (take 2 (drop x.at d))) no_block)) (pick (leb 32 (get_or known (be (take 2 (drop x.at d))) no_block).height) 17 0) 14) 13)
+        (pick (old (get_or known (be (take 2 (drop x.at d))) no_block)) (pick (leb 32 (get_or known (be (take 2 (drop x.at d))) no_block).height) (Err 17) fine) (Err 14)) (Err 13))
         (be (take 2 (drop x.at d)))
     unfolding element
     element_at_lem =
-        checked_more d x.at inside 16 _ (λ t. ltb (height_at bs t) 32) (reference bs new) 2 (be (take 2 (drop x.at d))) reference_at
-        ∙ ap (λ (n : ℕ). judged d x.at 2 n (be (take 2 (drop x.at d))))
+        checked_more d x.at inside 17 _ (λ t. ltb (height_at bs t) 32) (reference bs new) 2 (be (take 2 (drop x.at d))) reference_at
+        ∙ ap (λ (v : Verdict). judged d x.at 2 v (be (take 2 (drop x.at d))))
         (rw (pairs_height d known bs pairs) (tests (ltb (be (take 2 (drop x.at d))) (length known))
         (old (get_or known (be (take 2 (drop x.at d))) no_block)) (height_at bs (be (take 2 (drop x.at d))))))
 
@@ -285,7 +286,7 @@ module _ (d : List ℕ) (known : List Known) (tag : ℕ) (bs : List Block) (pair
       go : (t : Bool)
           → pick t (number_field 2) (reference bs of_objects) (drop x.at d)
           ≡ judged d x.at 2
-          (pick t 0 (pick (ltb (be (take 2 (drop x.at d))) (length known)) (pick (objectTag (get_or known (be (take 2 (drop x.at d))) no_block).tag) 0 14) 13))
+          (pick t fine (pick (ltb (be (take 2 (drop x.at d))) (length known)) (pick (objectTag (get_or known (be (take 2 (drop x.at d))) no_block).tag) fine (Err 14)) (Err 13)))
           (be (take 2 (drop x.at d)))
       go true = number_at_lem d x.at inside 2
       go false = reference_at (λ k. objectTag k.tag) of_objects (object_fit d)

@@ -3,6 +3,8 @@ use mathlib.Core.Path.{◌≡◌, refl, ap, sym, subst, ◌∙◌}
 use mathlib.Core.Bool.{Bool, true, false, not}
 use mathlib.Core.List.{List, [], ◌∷◌, ◌++◌}
 use mathlib.Core.Option.{Option, none, some, map}
+use Rattle.std.specs.Prelude.{Option as FoundOption, Some, None}
+use Rattle.std.specs.Option.{option_map}
 use Prim.Native.Nat.{ℕ, zero, suc, ◌+◌, ◌-◌, ◌≤◌, ◌<◌}
 use native.Mathlib.Omega.{arith}
 use native.Mathlib.Numerals.{add-one}
@@ -12,13 +14,13 @@ use lib.Seq.{drop-cons, take_all}
 use borrow.Author.Tests.{leb-true, leb-false, eqb-true}
 use Rattle.wire.proofs.Picks.{clash}
 use Rattle.descriptor_fields.specs.Layouts.{known_tag, indexed, valued as valuedTag}
-use Rattle.descriptor_fields.specs.Fields.{Element, id_at, index_in}
+use Rattle.descriptor_fields.specs.Fields.{Element, id_at, index_in, format_number}
 use Rattle.descriptor_fields.specs.declared.Draft.{Draft}
 use Rattle.descriptor_blocks.specs.Blocks.{Item, Reading, stop, next, block_from}
 use Rattle.descriptor_blocks.specs.Descriptor.{Block as OldBlock, Blocks, faulty, whole, summary, summaries, all_words, node_at}
 use Rattle.descriptor_blocks.specs.Descriptor.{node_of as oldNode, words_of as oldWordsOf, block_of, extended, full}
 use Rattle.descriptor_blocks.specs.Descriptor.{onward as oldOnward, blocks_from as oldFrom, blocks_of as oldBlocks}
-use Rattle.descriptor_blocks.specs.Descriptor.{Description as OldDescription, refused_by, without_type, described as oldDescribed, index_of, tag_at}
+use Rattle.descriptor_blocks.specs.Descriptor.{Description as OldDescription, refused_by, without_type, described as oldDescribed, index_of, tag_at, root_at}
 use Rattle.descriptor_blocks.specs.Descriptor.{rooted as oldRooted, description_of, plan_words as oldPlan, Compiled, refused_plan, plan}
 use Rattle.descriptor_blocks.specs.Descriptor.{plan_of, roomed as oldRoomed, compile_of}
 use Rattle.protocol.specs.Descriptors.{Block, BlockKind, types, Parsed, unparsed, parsed, annotation_block, indexed_block, tagged, block}
@@ -70,7 +72,7 @@ module _ (d : List ℕ) where
       rw w.is
       (twins_more d os bs t (block_of os at tag x es is) b
       (record { tags = sym w.tags; ids = sym w.ids; heights = sym w.height })
-      (words_by_lem (valuedTag tag) os bs b.kind (oldNode (summaries os) tag x.format es) w.final.node)
+      (words_by_lem (valuedTag tag) os bs b.kind (oldNode (summaries os) tag (format_number x.format) es) w.final.node)
       refl
       (subst (λ (n : ℕ). Below n (types b.kind)) (pairs_length d (summaries os) bs t.pairs) w.final.below)
       w.final.node)
@@ -168,21 +170,23 @@ module _ (d : List ℕ) where
   map_pick true k = refl
   map_pick false k = refl
 
-  valued_none : (i : ℕ) → pick (valuedTag 10) (some i) none ≡ none
-  unfolding valuedTag pick
-  valued_none i = refl
+  -- the index of the root, if the block there has values
+  abbrev root_of : List OldBlock → FoundOption ℕ → Option ℕ
+  root_of os None = none
+  root_of os (Some k) = pick (valuedTag (tag_at os k)) (some k) none
 
-  root_same : (os : List OldBlock) (bs : List Block) (i : ℕ) → Pairs d (summaries os) bs → root_in i bs ≡ pick (valuedTag (tag_at os (index_of d os i))) (some (index_of d os i)) none
+  root_same : (os : List OldBlock) (bs : List Block) (i : ℕ) → Pairs d (summaries os) bs → root_in i bs ≡ root_of os (index_of d os i)
   unfolding root_in tag_at index_in summary pick
-  root_same [] [] i p = sym (valued_none 0)
+  root_same [] [] i p = refl
   root_same [] (b ∷ bs) i p = absurd p
   root_same (o ∷ os) [] i p = absurd p
-  root_same (o ∷ os) (b ∷ bs) i p = let e : id_at d (o.start + 1) ≡ b.id = p.0.ids in rw e (go (eqb b.id i) (root_same os bs i p.1))
+  root_same (o ∷ os) (b ∷ bs) i p = let e : id_at d (o.start + 1) ≡ b.id = p.0.ids in rw e (go (eqb b.id i) (index_of d os i) (root_same os bs i p.1))
     where
-      go : (t : Bool) → root_in i bs ≡ pick (valuedTag (tag_at os (index_of d os i))) (some (index_of d os i)) none
-          → pick t (pick (has_values b) (some 0) none) (map suc (root_in i bs)) ≡ pick (valuedTag (tag_at (o ∷ os) (pick t 0 (index_of d os i + 1)))) (some (pick t 0 (index_of d os i + 1))) none
-      go true ih = let e : valuedTag o.tag ≡ has_values b = valued_fit d (summary o) b p.0 in rw e
-      go false ih = rw (ih, add-one) (map_pick (valuedTag (tag_at os (index_of d os i))) (index_of d os i))
+      go : (t : Bool) (j : FoundOption ℕ) → root_in i bs ≡ root_of os j
+          → pick t (pick (has_values b) (some 0) none) (map suc (root_in i bs)) ≡ root_of (o ∷ os) (pick t (Some 0) (option_map suc j))
+      go true j ih = let e : valuedTag o.tag ≡ has_values b = valued_fit d (summary o) b p.0 in rw e
+      go false None ih = rw ih
+      go false (Some k) ih = rw ih (map_pick (valuedTag (tag_at os k)) k)
 
   root_below : (os : List OldBlock) (k : ℕ) → valuedTag (tag_at os k) ≡ true → k < length os
   unfolding tag_at valuedTag pick
@@ -234,16 +238,20 @@ module _ (d : List ℕ) where
   Alike (oldDescribed os j) (accepted (block_type bs k)) = Twins d os bs × (j ≡ k) × (k < length bs)
 
   rooted_alike : (i : ℕ) (o : Blocks) (a : Outcome (List Block)) → Both d o a → Alike (oldRooted d i o) (rooted_blocks (length d) i a)
-  unfolding rooted_blocks rooted_at oldRooted pick
+  unfolding rooted_blocks rooted_at oldRooted root_at pick
   rooted_alike i (faulty n p) (refused m q) e = e
   rooted_alike i (faulty n p) (accepted bs) e = absurd e
   rooted_alike i (whole os) (refused m q) e = absurd e
-  rooted_alike i (whole os) (accepted bs) t = rw (root_same d os bs i t.pairs) (go (valuedTag (tag_at os (index_of d os i))) refl)
+  rooted_alike i (whole os) (accepted bs) t = rw (root_same d os bs i t.pairs) (go (index_of d os i))
     where
-      go : (v : Bool) → valuedTag (tag_at os (index_of d os i)) ≡ v
-          → Alike (pick v (oldDescribed os (index_of d os i)) (refused_by 18 (length d))) (rooted_at (length d) bs (pick v (some (index_of d os i)) none))
-      go true e = (t, refl, let h = root_below d os (index_of d os i) e in let l = sym (length-map os summary) ∙ pairs_length d (summaries os) bs t.pairs in omega arith)
-      go false e = (refl, refl)
+      at_root : (k : ℕ) (v : Bool) → valuedTag (tag_at os k) ≡ v
+          → Alike (pick v (oldDescribed os k) (refused_by 18 (length d))) (rooted_at (length d) bs (pick v (some k) none))
+      at_root k true e = (t, refl, let h = root_below d os k e in let l = sym (length-map os summary) ∙ pairs_length d (summaries os) bs t.pairs in omega arith)
+      at_root k false e = (refl, refl)
+
+      go : (j : FoundOption ℕ) → Alike (root_at d os j) (rooted_at (length d) bs (root_of d os j))
+      go None = (refl, refl)
+      go (Some k) = at_root k (valuedTag (tag_at os k)) refl
 
   plan_alike : (room : ℕ) (o : OldDescription) (a : Outcome DescribedType) → Alike o a → as_compiled (plan_roomed room a) ≡ oldRoomed room (plan_of o)
   unfolding as_compiled plan_roomed oldRoomed plan_of

@@ -3,6 +3,7 @@ use mathlib.Core.Path.{◌≡◌, refl, sym, ◌∙◌}
 use mathlib.Core.Logic.{⊎_elim}
 use mathlib.Core.Bool.{true, false}
 use mathlib.Core.List.{List, [], ◌∷◌, ◌++◌}
+use Rattle.std.specs.Prelude.{Option, Some, None}
 use Prim.Native.Nat.{ℕ, zero, suc, ◌+◌, ◌≤◌, ◌<◌}
 use native.Mathlib.Nat.{eq-or-lt_of_le, le_of_suc-le-suc}
 use native.Mathlib.Omega.{arith}
@@ -14,7 +15,7 @@ use Rattle.descriptor_fields.specs.Layouts.{known_tag, indexed, valued}
 use Rattle.descriptor_fields.specs.Fields.{Element, id_at}
 use Rattle.descriptor_blocks.specs.Blocks.{Item, Reading, stop, next, block_from}
 use Rattle.descriptor_blocks.specs.Descriptor.{Block, summaries, block_of, Blocks, faulty, whole, extended, full, onward, blocks_from}
-use Rattle.descriptor_blocks.specs.Descriptor.{blocks_of, refused_by, described, index_of, tag_at, rooted, description_of}
+use Rattle.descriptor_blocks.specs.Descriptor.{blocks_of, refused_by, described, index_of, tag_at, root_at, rooted, description_of}
 use Rattle.descriptor_fields.specs.declared.Draft.{Draft}
 use Rattle.descriptor_blocks.proofs.Sound.{Sound, block_sound}
 use Rattle.protocol.specs.Numbers.{pick}
@@ -118,17 +119,21 @@ tag_valued (b ∷ bs) (suc i) e = let v = tag_valued bs i e in record { inside =
 
 -- an accepted descriptor that has a type
 rooted_is : (d : List ℕ) (r : ℕ) (t : Blocks) → blocks_of d ≡ t → (bs : List Block) (i : ℕ) → rooted d r t ≡ described bs i → Accepted bs × Valued bs i
-unfolding rooted blocks_of
+unfolding rooted blocks_of root_at
 rooted_is d r (faulty n p) w bs i e = let z : ◌≡◌ {A = ℕ} 0 1 = cc in absurd (omega arith)
-rooted_is d r (whole cs) w bs i e =
-    ⊎_elim
-    (λ p.
-    let q : cs ≡ bs = cc p.1 in
-    let q' : index_of d cs r ≡ i = cc p.1 in
-    let v : Valued cs (index_of d cs r) = tag_valued cs (index_of d cs r) p.0 in
-    (rw q at (blocks_accepted d (suc (length d)) 0 [] cs accepted_none w), rw (q', q) at v))
-    (λ z. let z : ◌≡◌ {A = ℕ} 0 1 = cc z.1 in absurd (omega arith))
-    (pick_split _ _ _ _ e)
+rooted_is d r (whole cs) w bs i e = go (index_of d cs r) e
+  where
+    go : (o : Option ℕ) → root_at d cs o ≡ described bs i → Accepted bs × Valued bs i
+    go None e = let z : ◌≡◌ {A = ℕ} 0 1 = cc in absurd (omega arith)
+    go (Some j) e =
+        ⊎_elim
+        (λ p.
+        let q : cs ≡ bs = cc p.1 in
+        let q' : j ≡ i = cc p.1 in
+        let v : Valued cs j = tag_valued cs j p.0 in
+        (rw q at (blocks_accepted d (suc (length d)) 0 [] cs accepted_none w), rw (q', q) at v))
+        (λ z. let z : ◌≡◌ {A = ℕ} 0 1 = cc z.1 in absurd (omega arith))
+        (pick_split _ _ _ _ e)
 
 pub described_is : (d root : List ℕ) (bs : List Block) (i : ℕ) → description_of d root ≡ described bs i → Accepted bs × Valued bs i
 unfolding description_of

@@ -4,6 +4,7 @@ use mathlib.Core.Path.{◌≡◌, refl, ap, sym, ◌∙◌}
 use mathlib.Core.Logic.{⊎_elim}
 use mathlib.Core.Bool.{Bool, true, false}
 use mathlib.Core.List.{List, [], ◌∷◌, ◌++◌}
+use Rattle.std.specs.Prelude.{Err, None}
 use Prim.Native.Nat.{ℕ, suc, ◌+◌, ◌*◌, ◌≤◌, ◌<◌}
 use native.Mathlib.Nat.{add-zero, eq-or-lt_of_le, le_of_suc-le-suc}
 use native.Mathlib.Omega.{arith}
@@ -13,7 +14,7 @@ use lib.Seq.{get_or_at}
 use borrow.Author.Tests.{eqb-true, ltb-true, ltb-false, leb-true, leb-false, le-leb, lt-leb, le-ltb, ne_eqb}
 use Rattle.wire.proofs.Picks.{clash, both, pick_yes, pick_no, pick_case}
 use Rattle.descriptor_fields.specs.Layouts.{ID, NAME, CARDINALITY, DIMENSIONS, ANCESTORS, COUNT, ANCESTOR, ANY, OBJECT, ELEMENT, layout, known_tag, valued}
-use Rattle.descriptor_fields.specs.Fields.{Known, Element, no_block, number_at, permits, number_fault, count_fault, fits, kind_fault, ref_fault, fault, height_after, kept, grown}
+use Rattle.descriptor_fields.specs.Fields.{Known, Element, fine, no_block, number_at, permits, number_fault, count_fault, fits, kind_fault, ref_fault, fault, height_after, kept, grown}
 use Rattle.descriptor_blocks.specs.Blocks.{Item, next, counting, fields, items, section, block_from}
 use Rattle.descriptor_fields.specs.declared.Draft.{Draft}
 use Rattle.descriptor_blocks.proofs.Tags.{element_kind, suited, suited_valued, carded, orderly, elements_in, total, all_orderly}
@@ -72,11 +73,11 @@ pub record Held (known : List Known) (tag n : ℕ) (x : Draft) (es : List Elemen
 
 -- ---- one field
 
-module _ (d : List ℕ) (known : List Known) (tag c : ℕ) (x : Draft) (es : List Element) (fine : fault d known tag c x es ≡ 0) where
+module _ (d : List ℕ) (known : List Known) (tag c : ℕ) (x : Draft) (es : List Element) (sound : fault d known tag c x es ≡ fine) where
   -- a cardinality is one of the five
   card_fine : c ≡ CARDINALITY → is_cardinality (number_at d c x.at) ≡ true
   unfolding fault number_fault permits pick
-  card_fine e = let f : number_fault 7 (number_at d 7 x.at) ≡ 0 = rw e at fine in rw e (no_fault _ 0 11 f).0
+  card_fine e = let f : number_fault 7 (number_at d 7 x.at) ≡ fine = rw e at sound in rw e (no_fault _ fine 12 f).0
 
   -- counts and references
   late_fault : DIMENSIONS < c
@@ -88,7 +89,7 @@ module _ (d : List ℕ) (known : List Known) (tag c : ℕ) (x : Draft) (es : Lis
   -- a count is at most 512
   count_fine : DIMENSIONS < c → c ≤ COUNT → number_at d c x.at ≤ 512
   unfolding count_fault
-  count_fine l m = ltb-false 512 _ (fault_no _ 16 _ (sym (late_fault l ∙ pick_yes _ _ _ (le-leb c COUNT m)) ∙ fine)).0
+  count_fine l m = ltb-false 512 _ (fault_no _ 17 _ (sym (late_fault l ∙ pick_yes _ _ _ (le-leb c COUNT m)) ∙ sound)).0
 
   -- an element reference goes to an earlier block that suits and has room above it
   module _ (l : ELEMENT ≤ c) where
@@ -105,17 +106,17 @@ module _ (d : List ℕ) (known : List Known) (tag c : ℕ) (x : Draft) (es : Lis
     unfolding ref_fault kind_fault new_element
     new_fine k card =
         let v = number_at d c x.at in
-        let a : ref_fault d known tag c x v ≡ 0 = sym (late_fault (omega arith) ∙ pick_no _ _ _ (lt-leb c COUNT (omega arith))) ∙ fine in
+        let a : ref_fault d known tag c x v ≡ fine = sym (late_fault (omega arith) ∙ pick_no _ _ _ (lt-leb c COUNT (omega arith))) ∙ sound in
         let o : pick (eqb c OBJECT) (eqb x.free 1) false ≡ false = pick_no _ _ _ (ne_eqb c OBJECT (λ (e : c ≡ 16). omega arith)) in
-        let b : pick (ltb v (length known)) (kind_fault d tag c x (get_or known v no_block)) 13 ≡ 0 = sym (pick_no _ _ _ o) ∙ a in
-        let g = no_fault _ _ 12 b in
-        let h = no_fault _ _ 13 g.1 in
-        let i : ◌≡◌ {A = ℕ} (pick (leb 32 (get_or known v no_block).height) 17 0) 0 = sym (pick_yes _ _ _ (le-leb ELEMENT c l)) ∙ h.1 in
+        let b : pick (ltb v (length known)) (kind_fault d tag c x (get_or known v no_block)) (Err 13) ≡ fine = sym (pick_no _ _ _ o) ∙ a in
+        let g = no_fault _ _ 13 b in
+        let h = no_fault _ _ 14 g.1 in
+        let i : pick (leb 32 (get_or known v no_block).height) (Err 17) fine ≡ fine = sym (pick_yes _ _ _ (le-leb ELEMENT c l)) ∙ h.1 in
         let s : suited c (get_or known v no_block).tag ≡ true = sym (fits_suited (get_or known v no_block)) ∙ h.0 in
         record {
           below = ltb-true _ _ g.0;
           suits = ap (λ (m : ℕ). suited m (get_or known v no_block).tag) (sym k) ∙ s;
-          low = omega (arith, leb-false 32 (get_or known v no_block).height (fault_no (leb 32 (get_or known v no_block).height) 16 0 i).0);
+          low = omega (arith, leb-false 32 (get_or known v no_block).height (fault_no (leb 32 (get_or known v no_block).height) 17 fine i).0);
           card = card;
         }
 
@@ -169,13 +170,13 @@ abbrev Ready : Bool → Draft → Type 0
 Ready b x = b ≡ true → is_cardinality x.card ≡ true
 
 module _ (d : List ℕ) (known : List Known) (tag n c : ℕ) (b : Bool) (x : Draft) (es : List Element) (h : Held known tag n x es) (r : Ready b x)
-    (fine : fault d known tag c x es ≡ 0) where
+    (sound : fault d known tag c x es ≡ fine) where
   left_few : (kept d known tag c x).left ≤ 512
   unfolding kept
   left_few =
       let P : ℕ → Type 0 = λ m. m ≤ 512 in
       let count : (k : ℕ) → eqb c k ≡ true → DIMENSIONS < k → k ≤ COUNT → number_at d c x.at ≤ 512 =
-      λ k t l m. let e = eqb-true c k t in count_fine d known tag c x es fine (omega arith) (omega arith)
+      λ k t l m. let e = eqb-true c k t in count_fine d known tag c x es sound (omega arith) (omega arith)
       in
       pick_case P (eqb c ANCESTORS) _ _ (λ t. count ANCESTORS t (omega arith) (omega arith))
       (λ _. pick_case P (eqb c COUNT) _ _ (λ t. count COUNT t (omega arith) (omega arith)) (λ _. h.few))
@@ -185,7 +186,7 @@ module _ (d : List ℕ) (known : List Known) (tag n c : ℕ) (b : Bool) (x : Dra
   card_ready = go (eqb c CARDINALITY) refl
     where
       go : (t : Bool) → eqb c CARDINALITY ≡ t → pick t true b ≡ true → is_cardinality (pick t (number_at d c x.at) x.card) ≡ true
-      go true e g = card_fine d known tag c x es fine (eqb-true _ _ e)
+      go true e g = card_fine d known tag c x es sound (eqb-true _ _ e)
       go false e g = r g
 
   kept_element : ELEMENT ≤ c → Fit tag b c → Held known tag (suc n) (kept d known tag c x) (grown d c x es)
@@ -194,9 +195,9 @@ module _ (d : List ℕ) (known : List Known) (tag n c : ℕ) (b : Bool) (x : Dra
       let t : leb ELEMENT c ≡ true = le-leb _ _ l in
       let g : pick (eqb c (element_kind tag)) (pick (carded tag) b true) false ≡ true = sym (pick_no _ _ _ (le-ltb c ELEMENT l)) ∙ f in
       let g2 = both _ _ g in
-      let e = new_element d known tag c x es fine l in
+      let e = new_element d known tag c x es sound l in
       let new : Refers known tag e =
-      new_fine d known tag c x es fine l (eqb-true _ _ g2.0) (λ q. r (sym (pick_yes _ _ _ q) ∙ g2.1))
+      new_fine d known tag c x es sound l (eqb-true _ _ g2.0) (λ q. r (sym (pick_yes _ _ _ q) ∙ g2.1))
       in
       let w : grown d c x es ≡ es ++ (e ∷ []) = grown_is d known tag c x es t in
       let high : (kept d known tag c x).height ≡ raised_by known 1 (es ++ (e ∷ [])) =
@@ -301,7 +302,7 @@ module _ (d : List ℕ) (known : List Known) (tag : ℕ) where
   block_held k at y fs js e =
       let o = all_orderly tag k in
       let b = between _ _ y fs js e in
-      let start : Held known tag 0 (record { at = at; left = 0; free = 0; format = 20; height = 1; card = 0; name = 0; count = 0 }) [] =
+      let start : Held known tag 0 (record { at = at; left = 0; free = 0; format = None; height = 1; card = 0; name = 0; count = 0 }) [] =
       record { each = λ j l. absurd (omega arith); high = refl; count = refl; number = refl; few = omega arith }
       in
       let f = section_held 0 (layout tag).head (layout tag).first o.head o.first _ [] start b.draft b.list b.read b.first in

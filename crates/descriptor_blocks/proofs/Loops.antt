@@ -1,6 +1,7 @@
 -- The loops over fields and over items: what is left of each leads to the same place, inside the descriptor and with room for the elements.
 use mathlib.Core.Path.{◌≡◌, refl, ap, sym, ◌∙◌}
 use mathlib.Core.List.{List, [], ◌∷◌}
+use Rattle.std.specs.Prelude.{Result, Ok, Err, None}
 use Prim.Native.Nat.{ℕ, ◌+◌, ◌*◌, ◌≤◌, ◌<◌}
 use native.Mathlib.Nat.{add-mul, one-mul, mul-le-mul_right}
 use native.Mathlib.Omega.{arith}
@@ -13,27 +14,21 @@ use Rattle.descriptor_blocks.specs.Blocks.{counting, field, fields, items, secti
 use Rattle.descriptor_blocks.specs.Walks.{Walk, stopped, moved, led, walk_of, push, pushes, Inside}
 use Rattle.descriptor_fields.specs.Arrays.{Roomy, tab, elements_of}
 use Rattle.descriptor_fields.specs.declared.Draft.{Draft}
-use Rattle.descriptor_blocks.specs.declared.Part.{Part}
-use Rattle.descriptor_blocks.specs.declared.Part.TheVariants.{Fault, Next}
 use Rattle.descriptor_blocks.proofs.Steps.{halts, goes, codes_over, codes_end, codes_next, pushes_next, fields_none, fields_halt, fields_go, items_none, items_halt, items_go}
 use Rattle.protocol.specs.Numbers.{pick}
 
 -- a part that was read, and where it leads
-module _ (p : Part) (a : List ℕ) (w : Walk) (e : walk_of p a ≡ w) where
-  pub went : (z : Draft) → p ≡ Next z → moved z (elements_of a z.count) ≡ w
+module _ (p : Result Draft ℕ) (a : List ℕ) (w : Walk) (e : walk_of p a ≡ w) where
+  pub went : (z : Draft) → p ≡ Ok z → moved z (elements_of a z.count) ≡ w
   unfolding walk_of
-  went z q = ap (λ (r : Part). walk_of r a) (sym q) ∙ e
+  went z q = ap (λ (r : Result Draft ℕ). walk_of r a) (sym q) ∙ e
 
-  pub ended : (n : ℕ) → p ≡ Fault n → stopped n ≡ w
+  pub ended : (n : ℕ) → p ≡ Err n → stopped n ≡ w
   unfolding walk_of
-  ended n q = ap (λ (r : Part). walk_of r a) (sym q) ∙ e
+  ended n q = ap (λ (r : Result Draft ℕ). walk_of r a) (sym q) ∙ e
 
-pub is_inside : (p : Part) (z : Draft) (end n : ℕ) → p ≡ Next z → Inside end n p → Inside end n (Next z)
+pub is_inside : (p : Result Draft ℕ) (z : Draft) (end n : ℕ) → p ≡ Ok z → Inside end n p → Inside end n (Ok z)
 is_inside p z end n q i = rw q at i
-
-pub fault_inside : (p : Part) (m end n : ℕ) → p ≡ Fault m → Inside end n p
-unfolding Inside
-fault_inside p m end n q = rw q tt
 
 -- ---- fields
 
@@ -53,7 +48,7 @@ module _ (d : List ℕ) (known : List Known) (tag : ℕ) (codes : List ℕ) (x :
     over : up_to_end (drop k codes) ≡ [] → moved y (elements_of a y.count) ≡ led (fields d known tag (up_to_end codes) x (elements_of a₀ x.count))
     over e = fields_none d known tag (up_to_end (drop k codes)) y (elements_of a y.count) e ∙ sym g.same
 
-    pub going_inside : Inside (length d) (x.count + pushes (up_to_end codes)) (Next y)
+    pub going_inside : Inside (length d) (x.count + pushes (up_to_end codes)) (Ok y)
     unfolding Inside
     going_inside = (g.at, g.left, omega (arith, g.spare))
 
@@ -75,15 +70,13 @@ module _ (d : List ℕ) (known : List Known) (tag : ℕ) (codes : List ℕ) (x :
               few = omega (arith, r.few, g.spare, pushes_next c (up_to_end (drop k codes)) (up_to_end (drop (k + 1) codes)) next);
             }
 
-        module _ (p : Part) (b : List ℕ) (e : walk_of p b ≡ led (field d known tag c y (elements_of a y.count))) where
-          pub going_halt : (m : ℕ) → p ≡ Fault m → walk_of p b ≡ led (fields d known tag (up_to_end codes) x (elements_of a₀ x.count))
-          unfolding walk_of
+        module _ (p : Result Draft ℕ) (b : List ℕ) (e : walk_of p b ≡ led (field d known tag c y (elements_of a y.count))) where
+          pub going_halt : (m : ℕ) → p ≡ Err m → stopped m ≡ led (fields d known tag (up_to_end codes) x (elements_of a₀ x.count))
           going_halt m q =
-              rw q
-              (fields_halt d known tag c (up_to_end (drop k codes)) (up_to_end (drop (k + 1) codes)) y (elements_of a y.count) next m
-              (ended p b (led (field d known tag c y (elements_of a y.count))) e m q) ∙ sym g.same)
+              fields_halt d known tag c (up_to_end (drop k codes)) (up_to_end (drop (k + 1) codes)) y (elements_of a y.count) next m
+              (ended p b (led (field d known tag c y (elements_of a y.count))) e m q) ∙ sym g.same
 
-          pub going_next : (z : Draft) → p ≡ Next z → Inside (length d) (y.count + push c) p → length b ≡ length a → Going (k + 1) z b
+          pub going_next : (z : Draft) → p ≡ Ok z → Inside (length d) (y.count + push c) p → length b ≡ length a → Going (k + 1) z b
           unfolding Inside
           going_next z q i s =
               let f = is_inside p z (length d) (y.count + push c) q i in
@@ -114,7 +107,7 @@ module _ (d : List ℕ) (known : List Known) (tag : ℕ) (cs : List ℕ) (x : Dr
   counting_start h g = record { at = h; left = g; few = g; spare = omega arith; size = refl; same = refl }
 
   module _ (n : ℕ) (y : Draft) (a : List ℕ) (g : Counting n y a) where
-    pub counting_end : n ≤ 0 → (moved y (elements_of a y.count) ≡ led (items d known tag cs x.left x (elements_of a₀ x.count))) × Inside (length d) (x.count + x.left * pushes cs) (Next y)
+    pub counting_end : n ≤ 0 → (moved y (elements_of a y.count) ≡ led (items d known tag cs x.left x (elements_of a₀ x.count))) × Inside (length d) (x.count + x.left * pushes cs) (Ok y)
     unfolding Inside
     counting_end h =
         (items_none d known tag cs n y (elements_of a y.count) (omega arith) ∙ sym g.same, (g.at, g.left, omega (arith, g.spare)))
@@ -126,15 +119,13 @@ module _ (d : List ℕ) (known : List Known) (tag : ℕ) (cs : List ℕ) (x : Dr
       pub counting_room : Roomy a₀ (x.count + x.left * pushes cs) → Roomy a (y.count + pushes cs)
       counting_room r = record { room = omega (arith, r.room, g.size); few = omega (arith, r.few, g.spare, product) }
 
-      module _ (p : Part) (b : List ℕ) (e : walk_of p b ≡ led (fields d known tag cs (counting n y) (elements_of a y.count))) where
-        pub counting_halt : (k : ℕ) → p ≡ Fault k → walk_of p b ≡ led (items d known tag cs x.left x (elements_of a₀ x.count))
-        unfolding walk_of
+      module _ (p : Result Draft ℕ) (b : List ℕ) (e : walk_of p b ≡ led (fields d known tag cs (counting n y) (elements_of a y.count))) where
+        pub counting_halt : (k : ℕ) → p ≡ Err k → stopped k ≡ led (items d known tag cs x.left x (elements_of a₀ x.count))
         counting_halt k q =
-            rw q
-            (items_halt d known tag cs n m y (elements_of a y.count) is k (ended p b (led (fields d known tag cs (counting n y) (elements_of a y.count))) e k q)
-            ∙ sym g.same)
+            items_halt d known tag cs n m y (elements_of a y.count) is k (ended p b (led (fields d known tag cs (counting n y) (elements_of a y.count))) e k q)
+            ∙ sym g.same
 
-        pub counting_next : (z : Draft) → p ≡ Next z → Inside (length d) (y.count + pushes cs) p → length b ≡ length a → Counting m z b
+        pub counting_next : (z : Draft) → p ≡ Ok z → Inside (length d) (y.count + pushes cs) p → length b ≡ length a → Counting m z b
         unfolding Inside
         counting_next z q i s =
             let f = is_inside p z (length d) (y.count + pushes cs) q i in
@@ -152,21 +143,20 @@ module _ (d : List ℕ) (known : List Known) (tag : ℕ) (cs : List ℕ) (x : Dr
 
 -- ---- a section, and a block
 
-pub inside_more : (p : Part) (end n m : ℕ) → n ≤ m → Inside end n p → Inside end m p
+pub inside_more : (p : Result Draft ℕ) (end n m : ℕ) → n ≤ m → Inside end n p → Inside end m p
 unfolding Inside
-inside_more (Fault k) end n m h i = tt
-inside_more (Next x) end n m h i = (i.0, i.1, omega (arith, i.2))
+inside_more (Err k) end n m h i = tt
+inside_more (Ok x) end n m h i = (i.0, i.1, omega (arith, i.2))
 
-module _ (d : List ℕ) (known : List Known) (tag : ℕ) (cs is : List ℕ) (x : Draft) (es : List Element) (p : Part) (b : List ℕ)
+module _ (d : List ℕ) (known : List Known) (tag : ℕ) (cs is : List ℕ) (x : Draft) (es : List Element) (p : Result Draft ℕ) (b : List ℕ)
     (e : walk_of p b ≡ led (fields d known tag cs (counting 0 x) es)) where
-  pub section_halt : (m : ℕ) → p ≡ Fault m → walk_of p b ≡ led (section d known tag cs is x es)
-  unfolding walk_of section
+  pub section_halt : (m : ℕ) → p ≡ Err m → stopped m ≡ led (section d known tag cs is x es)
+  unfolding section
   section_halt m q =
-      rw q
-      (halts (fields d known tag cs (counting 0 x) es) (λ y fs. items d known tag is y.left y fs) m
-      (ended p b (led (fields d known tag cs (counting 0 x) es)) e m q))
+      halts (fields d known tag cs (counting 0 x) es) (λ y fs. items d known tag is y.left y fs) m
+      (ended p b (led (fields d known tag cs (counting 0 x) es)) e m q)
 
-  module _ (y : Draft) (q : p ≡ Next y) (i : Inside (length d) (x.count + pushes cs) p) where
+  module _ (y : Draft) (q : p ≡ Ok y) (i : Inside (length d) (x.count + pushes cs) p) where
     here : (y.at ≤ length d) × (y.left ≤ 512) × (y.count ≤ x.count + pushes cs)
     unfolding Inside
     here = is_inside p y (length d) (x.count + pushes cs) q i
@@ -180,19 +170,19 @@ module _ (d : List ℕ) (known : List Known) (tag : ℕ) (cs is : List ℕ) (x :
     pub section_at : (y.at ≤ length d) × (y.left ≤ 512)
     section_at = (here.0, here.1)
 
-    pub section_go : (r : Part) (c : List ℕ) → walk_of r c ≡ led (items d known tag is y.left y (elements_of b y.count)) → walk_of r c ≡ led (section d known tag cs is x es)
+    pub section_go : (r : Result Draft ℕ) (c : List ℕ) → walk_of r c ≡ led (items d known tag is y.left y (elements_of b y.count)) → walk_of r c ≡ led (section d known tag cs is x es)
     unfolding section
     section_go r c f =
         f
         ∙ sym (goes (fields d known tag cs (counting 0 x) es) (λ z fs. items d known tag is z.left z fs) y (elements_of b y.count)
         (went p b (led (fields d known tag cs (counting 0 x) es)) e y q))
 
-    pub section_inside : (r : Part) → Inside (length d) (y.count + y.left * pushes is) r → Inside (length d) (x.count + pushes cs + 512 * pushes is) r
+    pub section_inside : (r : Result Draft ℕ) → Inside (length d) (y.count + y.left * pushes is) r → Inside (length d) (x.count + pushes cs + 512 * pushes is) r
     section_inside r = inside_more r (length d) (y.count + y.left * pushes is) (x.count + pushes cs + 512 * pushes is) enough
 
 -- the start of a block
 abbrev pub fresh : ℕ → Draft
-fresh at = record { at = at; left = 0; free = 0; format = 20; height = 1; card = 0; name = 0; count = 0 }
+fresh at = record { at = at; left = 0; free = 0; format = None; height = 1; card = 0; name = 0; count = 0 }
 
 -- the elements of a block are at most 512
 unfoldable pub most : Layout → ℕ
@@ -217,19 +207,18 @@ module _ (d : List ℕ) (known : List Known) (tag at : ℕ) (l : Layout) (h : l 
   unfolding most
   block_room = record { room = r.room; few = omega (arith, few) }
 
-  module _ (p : Part) (b : List ℕ) (e : walk_of p b ≡ led (section d known tag l.head l.first (fresh at) (elements_of a 0))) where
+  module _ (p : Result Draft ℕ) (b : List ℕ) (e : walk_of p b ≡ led (section d known tag l.head l.first (fresh at) (elements_of a 0))) where
     first_section : walk_of p b ≡ led (section d known tag (layout tag).head (layout tag).first (fresh at) [])
     unfolding tab
     first_section = rw h at e
 
-    pub block_halt : (m : ℕ) → p ≡ Fault m → walk_of p b ≡ led (block_from d known tag at)
-    unfolding walk_of block_from
+    pub block_halt : (m : ℕ) → p ≡ Err m → stopped m ≡ led (block_from d known tag at)
+    unfolding block_from
     block_halt m q =
-        rw q
-        (halts (section d known tag (layout tag).head (layout tag).first (fresh at) []) (section d known tag (layout tag).more (layout tag).last) m
-        (ended p b (led (section d known tag (layout tag).head (layout tag).first (fresh at) [])) first_section m q))
+        halts (section d known tag (layout tag).head (layout tag).first (fresh at) []) (section d known tag (layout tag).more (layout tag).last) m
+        (ended p b (led (section d known tag (layout tag).head (layout tag).first (fresh at) [])) first_section m q)
 
-    module _ (y : Draft) (q : p ≡ Next y) (i : Inside (length d) (0 + pushes l.head + 512 * pushes l.first) p) where
+    module _ (y : Draft) (q : p ≡ Ok y) (i : Inside (length d) (0 + pushes l.head + 512 * pushes l.first) p) where
       there : (y.at ≤ length d) × (y.left ≤ 512) × (y.count ≤ 0 + pushes l.head + 512 * pushes l.first)
       unfolding Inside
       there = is_inside p y (length d) (0 + pushes l.head + 512 * pushes l.first) q i
@@ -242,7 +231,7 @@ module _ (d : List ℕ) (known : List Known) (tag at : ℕ) (l : Layout) (h : l 
       pub block_next : length b ≡ length a → Roomy b (y.count + pushes l.more + 512 * pushes l.last) × (y.at ≤ length d)
       block_next s = (record { room = omega (arith, r.room); few = all }, there.0)
 
-      pub block_done : (r : Part) (c : List ℕ) → walk_of r c ≡ led (section d known tag l.more l.last y (elements_of b y.count))
+      pub block_done : (r : Result Draft ℕ) (c : List ℕ) → walk_of r c ≡ led (section d known tag l.more l.last y (elements_of b y.count))
           → Inside (length d) (y.count + pushes l.more + 512 * pushes l.last) r → (walk_of r c ≡ led (block_from d known tag at)) × Inside (length d) 512 r
       unfolding block_from
       block_done r c w j = (

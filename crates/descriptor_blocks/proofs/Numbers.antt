@@ -1,56 +1,56 @@
 -- A descriptor that is refused has a number from 10 to 18, at a place in it or at its end: so no refusal has number 0, and none is 30, which
 -- is the plan's room alone. By induction over the fields and the blocks.
 use mathlib.Core.Path.{◌≡◌, refl}
-use mathlib.Core.Bool.{false}
 use mathlib.Core.List.{List, [], ◌∷◌}
-use mathlib.Core.Logic.{◌⊎◌, inl, inr, ⊎_elim}
+use Rattle.std.specs.Prelude.{Ok, Err, Option, Some, None}
 use Prim.Native.Nat.{ℕ, zero, suc, ◌+◌, ◌≤◌}
 use native.Mathlib.Omega.{arith}
-use lib.Dec.{eqb, lit≤}
+use lib.Dec.{lit≤}
 use lib.ListN.{length, get_or}
-use borrow.Author.Tests.{eqb-false, leb-false}
+use borrow.Author.Tests.{leb-false}
 use Rattle.wire.proofs.Picks.{pick_case}
 use Rattle.descriptor_fields.specs.Layouts.{layout}
-use Rattle.descriptor_fields.specs.Fields.{Known, no_block, Element, id_fault, text_fault, number_fault, count_fault, kind_fault, ref_fault, fault}
-use Rattle.descriptor_blocks.specs.Blocks.{Item, Reading, stop, next, noted, and_then, counting, field, fields, items, section, block_from}
-use Rattle.descriptor_blocks.specs.Descriptor.{Block, summaries, Blocks, faulty, whole, onward, blocks_from, blocks_of, Description, refused_by, without_type, described, rooted, description_of}
+use Rattle.descriptor_fields.specs.Fields.{Known, no_block, Element, Verdict, id_fault, text_fault, number_fault, count_fault, kind_fault, ref_fault, fault}
+use Rattle.descriptor_blocks.specs.Blocks.{Item, Reading, stop, next, if_fine, noted, and_then, counting, field, fields, items, section, block_from}
+use Rattle.descriptor_blocks.specs.Descriptor.{Block, summaries, Blocks, faulty, whole, onward, blocks_from, blocks_of, Description, refused_by, without_type, described, index_of, root_at, rooted, description_of}
 use Rattle.descriptor_fields.specs.declared.Draft.{Draft}
 use Rattle.descriptor_blocks.proofs.Progress.{block_past}
 
 -- ---- a field
 
 -- no fault, or one of 12 to 17
-abbrev Ruled : ℕ → Type 0
-Ruled n = (n ≡ 0) ⊎ ((12 ≤ n) × (n ≤ 17))
+abbrev Ruled : Verdict → Type 0
+Ruled (Ok u) = Unit {0}
+Ruled (Err n) = (12 ≤ n) × (n ≤ 17)
 
 module _ (d : List ℕ) (known : List Known) (tag : ℕ) where
   kind_ruled : (c : ℕ) (x : Draft) (k : Known) → Ruled (kind_fault d tag c x k)
   unfolding kind_fault
   kind_ruled c x k =
       pick_case Ruled _ _ _
-      (λ _. pick_case Ruled _ _ _ (λ _. pick_case Ruled _ _ _ (λ _. inr (lit≤ tt, lit≤ tt)) (λ _. inl refl)) (λ _. inl refl))
-      (λ _. inr (lit≤ tt, lit≤ tt))
+      (λ _. pick_case Ruled _ _ _ (λ _. pick_case Ruled _ _ _ (λ _. (lit≤ tt, lit≤ tt)) (λ _. tt)) (λ _. tt))
+      (λ _. (lit≤ tt, lit≤ tt))
 
   ref_ruled : (c : ℕ) (x : Draft) (v : ℕ) → Ruled (ref_fault d known tag c x v)
   unfolding ref_fault
   ref_ruled c x v =
-      pick_case Ruled _ _ _ (λ _. inl refl) (λ _. pick_case Ruled _ _ _ (λ _. kind_ruled c x (get_or known v no_block)) (λ _. inr (lit≤ tt, lit≤ tt)))
+      pick_case Ruled _ _ _ (λ _. tt) (λ _. pick_case Ruled _ _ _ (λ _. kind_ruled c x (get_or known v no_block)) (λ _. (lit≤ tt, lit≤ tt)))
 
   fault_ruled : (c : ℕ) (x : Draft) (es : List Element) → Ruled (fault d known tag c x es)
   unfolding fault id_fault text_fault number_fault count_fault
   fault_ruled c x es =
       pick_case Ruled _ _ _
-      (λ _. pick_case Ruled _ _ _ (λ _. inr (lit≤ tt, lit≤ tt)) (λ _. pick_case Ruled _ _ _ (λ _. inr (lit≤ tt, lit≤ tt)) (λ _. inl refl)))
+      (λ _. pick_case Ruled _ _ _ (λ _. (lit≤ tt, lit≤ tt)) (λ _. pick_case Ruled _ _ _ (λ _. (lit≤ tt, lit≤ tt)) (λ _. tt)))
       (λ _. pick_case Ruled _ _ _
       (λ _. pick_case Ruled _ _ _
-      (λ _. pick_case Ruled _ _ _ (λ _. pick_case Ruled _ _ _ (λ _. inr (lit≤ tt, lit≤ tt)) (λ _. inl refl)) (λ _. inl refl))
-      (λ _. inr (lit≤ tt, lit≤ tt)))
-      (λ _. pick_case Ruled _ _ _ (λ _. pick_case Ruled _ _ _ (λ _. inl refl) (λ _. inr (lit≤ tt, lit≤ tt)))
+      (λ _. pick_case Ruled _ _ _ (λ _. pick_case Ruled _ _ _ (λ _. (lit≤ tt, lit≤ tt)) (λ _. tt)) (λ _. tt))
+      (λ _. (lit≤ tt, lit≤ tt)))
+      (λ _. pick_case Ruled _ _ _ (λ _. pick_case Ruled _ _ _ (λ _. tt) (λ _. (lit≤ tt, lit≤ tt)))
       (λ _. pick_case Ruled _ _ _
-      (λ _. pick_case Ruled _ _ _ (λ _. inr (lit≤ tt, lit≤ tt))
+      (λ _. pick_case Ruled _ _ _ (λ _. (lit≤ tt, lit≤ tt))
       (λ _. pick_case Ruled _ _ _
-      (λ _. pick_case Ruled _ _ _ (λ _. pick_case Ruled _ _ _ (λ _. inr (lit≤ tt, lit≤ tt)) (λ _. inl refl)) (λ _. inl refl))
-      (λ _. inl refl)))
+      (λ _. pick_case Ruled _ _ _ (λ _. pick_case Ruled _ _ _ (λ _. (lit≤ tt, lit≤ tt)) (λ _. tt)) (λ _. tt))
+      (λ _. tt)))
       (λ _. ref_ruled c x _))))
 
   -- ---- a block
@@ -70,14 +70,16 @@ module _ (d : List ℕ) (known : List Known) (tag : ℕ) where
   then_stops (stop n) f h g = h
   then_stops (next x es is) f h g = noted_stops is (f x es) (g x es)
 
-  rule_stops : (n : ℕ) → Ruled n → eqb n 0 ≡ false → (10 ≤ n) × (n ≤ 17)
-  rule_stops n r e = ⊎_elim (λ (z : n ≡ 0). absurd (eqb-false n 0 e z)) (λ (z : (12 ≤ n) × (n ≤ 17)). (omega (arith, z.0), z.1)) r
+  rule_stops : (v : Verdict) (r : Reading) → Ruled v → Stops r → Stops (if_fine v r)
+  unfolding if_fine
+  rule_stops (Ok u) r f g = g
+  rule_stops (Err n) r f g = (omega (arith, f.0), f.1)
 
   field_stops : (c : ℕ) (x : Draft) (es : List Element) → Stops (field d known tag c x es)
   unfolding field
   field_stops c x es =
       pick_case Stops _ _ _
-      (λ _. pick_case Stops _ _ _ (λ _. tt) (λ e. rule_stops _ (fault_ruled c x es) e))
+      (λ _. rule_stops _ _ (fault_ruled c x es) tt)
       (λ _. (lit≤ tt, lit≤ tt))
 
   fields_stops : (cs : List ℕ) (x : Draft) (es : List Element) → Stops (fields d known tag cs x es)
@@ -133,10 +135,15 @@ module _ (d : List ℕ) where
   Refusable without_type = Unit {0}
   Refusable (described bs i) = Unit {0}
 
+  root_refusable : (bs : List Block) (o : Option ℕ) → Refusable (root_at d bs o)
+  unfolding root_at
+  root_refusable bs None = (lit≤ tt, lit≤ tt, omega arith)
+  root_refusable bs (Some i) = pick_case Refusable _ _ _ (λ _. tt) (λ _. (lit≤ tt, lit≤ tt, omega arith))
+
   rooted_refusable : (i : ℕ) (t : Blocks) → Faults t → Refusable (rooted d i t)
   unfolding rooted
   rooted_refusable i (faulty n p) h = (h.0, omega (arith, h.1), h.2)
-  rooted_refusable i (whole bs) h = pick_case Refusable _ _ _ (λ _. tt) (λ _. (lit≤ tt, lit≤ tt, omega arith))
+  rooted_refusable i (whole bs) h = root_refusable bs (index_of d bs i)
 
   -- A descriptor is refused with nothing else.
   pub described_refusable : (root : List ℕ) → Refusable (description_of d root)

@@ -3,26 +3,36 @@ use mathlib.Core.Path.{◌≡◌, refl}
 use mathlib.Core.Logic.{⊎_elim}
 use mathlib.Core.Bool.{Bool, true, false}
 use mathlib.Core.List.{List, [], ◌∷◌}
+use Rattle.std.specs.Prelude.{Ok, Err}
 use Prim.Native.Nat.{ℕ, zero, suc, ◌+◌, ◌≤◌}
 use native.Mathlib.Omega.{arith}
 use lib.ListN.{length}
-use borrow.Author.Tests.{leb-true, eqb-true}
+use borrow.Author.Tests.{leb-true}
 use Rattle.wire.proofs.Picks.{pick_split}
-use Rattle.descriptor_fields.specs.Fields.{Known, Element, extent, fault, kept, grown}
-use Rattle.descriptor_blocks.specs.Blocks.{Item, Reading, stop, next, noted, and_then, counting, field, fields, items}
+use Rattle.descriptor_fields.specs.Fields.{Known, Element, Verdict, fine, extent, fault, kept, grown}
+use Rattle.descriptor_blocks.specs.Blocks.{Item, Reading, stop, next, if_fine, noted, and_then, counting, field, fields, items}
 use Rattle.descriptor_fields.specs.declared.Draft.{Draft}
 use Rattle.protocol.specs.Numbers.{pick}
 
--- a choice without a fault is 0
-pub no_fault : (t : Bool) (a b : ℕ) → pick t a (suc b) ≡ 0 → (t ≡ true) × (a ≡ 0)
-unfolding pick
-no_fault true a b e = (refl, e)
-no_fault false a b e = absurd (omega arith)
+-- nothing was fine and a refusal
+pub refusal_fine : {A : Type 0} (n : ℕ) → ◌≡◌ {A = Verdict} (Err n) fine → A
+refusal_fine n e = let z : ◌≡◌ {A = ℕ} 0 1 = cc in absurd (omega arith)
 
-pub fault_no : (t : Bool) (a b : ℕ) → pick t (suc a) b ≡ 0 → (t ≡ false) × (b ≡ 0)
+-- a choice that is fine is none of the refusals
+pub no_fault : (t : Bool) (a : Verdict) (n : ℕ) → pick t a (Err n) ≡ fine → (t ≡ true) × (a ≡ fine)
 unfolding pick
-fault_no true a b e = absurd (omega arith)
-fault_no false a b e = (refl, e)
+no_fault true a n e = (refl, e)
+no_fault false a n e = refusal_fine n e
+
+pub fault_no : (t : Bool) (n : ℕ) (b : Verdict) → pick t (Err n) b ≡ fine → (t ≡ false) × (b ≡ fine)
+unfolding pick
+fault_no true n b e = refusal_fine n e
+fault_no false n b e = (refl, e)
+
+fine_next : (v : Verdict) (r : Reading) (y : Draft) (fs : List Element) (is : List Item) → if_fine v r ≡ next y fs is → (v ≡ fine) × (r ≡ next y fs is)
+unfolding if_fine
+fine_next (Ok u) r y fs is e = (refl, e)
+fine_next (Err n) r y fs is e = let z : ◌≡◌ {A = ℕ} 0 1 = cc in absurd (omega arith)
 
 -- ---- two readings, one after the other
 
@@ -57,7 +67,7 @@ module _ (d : List ℕ) (known : List Known) (tag : ℕ) where
 
   pub record Step (c : ℕ) (x : Draft) (es : List Element) (y : Draft) (fs : List Element) : Type 0 where
     pub inside : x.at + extent d c x.at ≤ length d
-    pub fine : fault d known tag c x es ≡ 0
+    pub fine : fault d known tag c x es ≡ fine
     pub draft : kept d known tag c x ≡ y
     pub list : grown d c x es ≡ fs
 
@@ -66,12 +76,9 @@ module _ (d : List ℕ) (known : List Known) (tag : ℕ) where
   stepped c x es y fs is e =
       ⊎_elim
       (λ a.
-      ⊎_elim
-      (λ b.
+      let b = fine_next _ _ _ _ _ a.1 in
       let s = next_same _ _ _ _ _ _ b.1 in
-      record { inside = leb-true _ _ a.0; fine = eqb-true _ _ b.0; draft = s.0; list = s.1 })
-      (λ b. let z : ◌≡◌ {A = ℕ} 0 1 = cc b.1 in absurd (omega arith))
-      (pick_split _ _ _ _ a.1))
+      record { inside = leb-true _ _ a.0; fine = b.0; draft = s.0; list = s.1 })
       (λ b. let z : ◌≡◌ {A = ℕ} 0 1 = cc b.1 in absurd (omega arith))
       (pick_split _ _ _ _ e)
 

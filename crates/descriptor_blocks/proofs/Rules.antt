@@ -3,6 +3,8 @@ use mathlib.Core.Path.{◌≡◌, refl, ap, sym, ◌∙◌}
 use mathlib.Core.Logic.{⊎_elim}
 use mathlib.Core.Bool.{true, false}
 use mathlib.Core.List.{List, [], ◌∷◌, ◌++◌}
+use Rattle.std.specs.Prelude.{Option, max}
+use Rattle.std.proofs.lemmas.Bool.Decides.{nat_tests}
 use Prim.Native.Nat.{ℕ, ◌+◌, ◌*◌, ◌≤◌, ◌<◌}
 use native.Mathlib.Nat.{add-zero}
 use native.Mathlib.Numerals.{add-one}
@@ -12,7 +14,7 @@ use lib.Seq.{get_or-set_same, get_or-set_other}
 use lib.Dec.{eqb, leb, ltb}
 use borrow.Author.Tests.{eq-eqb, ne_eqb, le-leb, lt-leb, eqb-true, ltb-false}
 use Rattle.wire.proofs.Picks.{pick_yes, pick_no, pick_case, pick_split}
-use Rattle.descriptor_fields.specs.Fields.{Known, no_block, Element, id_at, format_of, number_at, extent, id_fault, text_fault, number_fault}
+use Rattle.descriptor_fields.specs.Fields.{Known, no_block, Element, fine, id_at, format_of, number_at, extent, id_fault, text_fault, number_fault}
 use Rattle.descriptor_fields.specs.Fields.{decides, count_fault, format_by, ref_fault, fault, format_after, height_after, kept, grown}
 use Rattle.descriptor_fields.specs.Arrays.{tab, element_at, elements_of, known_at, known_of, Told}
 use Rattle.descriptor_blocks.specs.Walks.{push}
@@ -52,13 +54,17 @@ module _ (d : List ℕ) (known : List Known) (tag c : ℕ) (x : Draft) (es : Lis
 
 -- ---- what is kept
 
+pub max_is : (a b : ℕ) → max a b ≡ at_least a b
+unfolding at_least pick
+max_is a b = grind (arith, nat_tests)
+
 -- a draft with some of its numbers changed
-abbrev pub draft : ℕ → ℕ → ℕ → ℕ → ℕ → ℕ → ℕ → ℕ → Draft
+abbrev pub draft : ℕ → ℕ → ℕ → Option ℕ → ℕ → ℕ → ℕ → ℕ → Draft
 draft at left free format height card name count =
     record { at = at; left = left; free = free; format = format; height = height; card = card; name = name; count = count }
 
 module _ (d : List ℕ) (known : List Known) (tag c : ℕ) (x : Draft) (size : ℕ) (is : size ≡ extent d c x.at) where
-  pub kept_id : c ≡ 1 → (v : ℕ) → v ≡ format_of (id_at d x.at) → draft (x.at + size) x.left x.free v x.height x.card x.name x.count ≡ kept d known tag c x
+  pub kept_id : c ≡ 1 → (v : Option ℕ) → v ≡ format_of (id_at d x.at) → draft (x.at + size) x.left x.free v x.height x.card x.name x.count ≡ kept d known tag c x
   unfolding kept format_after height_after pick
   kept_id e v q = rw (is, q, e)
 
@@ -83,7 +89,7 @@ module _ (d : List ℕ) (known : List Known) (tag c : ℕ) (x : Draft) (size : �
     unfolding kept format_after height_after pick
     kept_count e = rw (is, q, e)
 
-    pub kept_deciding : c ≡ 14 → decides tag x ≡ true → (f : ℕ) → f ≡ format_by d (get_or known v no_block)
+    pub kept_deciding : c ≡ 14 → decides tag x ≡ true → (f : Option ℕ) → f ≡ format_by d (get_or known v no_block)
         → draft (x.at + size) x.left x.free f x.height x.card x.name x.count ≡ kept d known tag c x
     unfolding kept format_after height_after pick
     kept_deciding e t f p = rw (is, p, q, e, t)
@@ -223,14 +229,14 @@ unfolding kept
 kept_at d known tag c x = refl
 
 module _ (d : List ℕ) (known : List Known) (tag c : ℕ) (x : Draft) (es : List Element) where
-  count_small : (v : ℕ) → count_fault tag c x v ≡ 0 → v ≤ 512
+  count_small : (v : ℕ) → count_fault tag c x v ≡ fine → v ≤ 512
   unfolding count_fault
-  count_small v e = ⊎_elim (λ p. let z : 17 ≡ 0 = p.1 in absurd (omega arith)) (λ p. ltb-false 512 v p.0) (pick_split (ltb 512 v) _ _ _ e)
+  count_small v e = ⊎_elim (λ p. let z : ◌≡◌ {A = ℕ} 0 1 = cc p.1 in absurd (omega arith)) (λ p. ltb-false 512 v p.0) (pick_split (ltb 512 v) _ _ _ e)
 
-  counted : 11 < c → c ≤ 13 → fault d known tag c x es ≡ 0 → number_at d c x.at ≤ 512
+  counted : 11 < c → c ≤ 13 → fault d known tag c x es ≡ fine → number_at d c x.at ≤ 512
   counted l m e = count_small _ (sym (fault_count d known tag c x es (λ (q : c ≡ 1). omega arith) (omega arith) l m) ∙ e)
 
-  pub kept_left : fault d known tag c x es ≡ 0 → x.left ≤ 512 → (kept d known tag c x).left ≤ 512
+  pub kept_left : fault d known tag c x es ≡ fine → x.left ≤ 512 → (kept d known tag c x).left ≤ 512
   unfolding kept
   kept_left f l =
       pick_case (λ (n : ℕ). n ≤ 512) (eqb c 12) _ _

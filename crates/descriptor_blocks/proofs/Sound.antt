@@ -9,7 +9,7 @@ use lib.ListN.{length, get_or}
 use borrow.Author.Tests.{leb-true}
 use Rattle.wire.proofs.Picks.{pick_case}
 use Rattle.descriptor_fields.specs.Layouts.{known_tag}
-use Rattle.descriptor_fields.specs.Fields.{Known, Element}
+use Rattle.descriptor_fields.specs.Fields.{Known, Element, format_number}
 use Rattle.descriptor_blocks.specs.Blocks.{Item, next, block_from}
 use Rattle.descriptor_fields.specs.declared.Draft.{Draft}
 use Rattle.descriptor_blocks.proofs.Tags.{single, bare, all_numbered}
@@ -44,7 +44,7 @@ pub record Sound (known : List Known) (tag : ℕ) (x : Draft) (es : List Element
   pub number : x.count ≡ length es
   pub each : (j : ℕ) → j < length es → Refers known tag (get_or es j no_element)
   pub high : x.height ≡ raised_by known 1 es
-  pub format : tag ≡ 3 → x.format < 20
+  pub format : tag ≡ 3 → format_number x.format < 20
 
 pub block_sound : (d : List ℕ) (known : List Known) (tag at : ℕ) → known_tag tag ≡ true → (x : Draft) (es : List Element) (is : List Item)
     → block_from d known tag at ≡ next x es is → Sound known tag x es

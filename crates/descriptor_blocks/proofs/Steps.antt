@@ -2,6 +2,7 @@
 use mathlib.Core.Path.{◌≡◌, refl, ap, sym, ◌∙◌}
 use mathlib.Core.Bool.{true}
 use mathlib.Core.List.{List, [], ◌∷◌}
+use Rattle.std.specs.Prelude.{Ok, Err}
 use Prim.Native.Nat.{ℕ, suc, ◌+◌, ◌≤◌, ◌<◌}
 use native.Mathlib.Nat.{add-zero}
 use native.Mathlib.Numerals.{add-one}
@@ -12,11 +13,10 @@ use lib.Seq.{drop-cons}
 use borrow.Author.Tests.{eq-eqb, ne_eqb, le-leb, lt-leb}
 use Rattle.wire.proofs.Picks.{pick_yes, pick_no}
 use Rattle.descriptor_fields.specs.Layouts.{up_to_end}
-use Rattle.descriptor_fields.specs.Fields.{Known, Element, extent, fault, kept, grown}
-use Rattle.descriptor_blocks.specs.Blocks.{Reading, stop, next, noted, and_then, counting, field, fields, items}
+use Rattle.descriptor_fields.specs.Fields.{Known, Element, Verdict, fine, extent, fault, kept, grown}
+use Rattle.descriptor_blocks.specs.Blocks.{Reading, stop, next, if_fine, noted, and_then, counting, field, fields, items}
 use Rattle.descriptor_blocks.specs.Walks.{Walk, stopped, moved, led, push, pushes, Inside}
 use Rattle.descriptor_fields.specs.Arrays.{Roomy, elements_of}
-use Rattle.descriptor_blocks.specs.declared.Part.TheVariants.{Next}
 use Rattle.descriptor_blocks.proofs.Rules.{kept_at, kept_left, kept_many, grown_not}
 use Rattle.descriptor_fields.specs.declared.Draft.{Draft}
 use Rattle.protocol.specs.Numbers.{pick}
@@ -52,20 +52,22 @@ module _ (d : List ℕ) (known : List Known) (tag c : ℕ) (x : Draft) (es : Lis
   unfolding field led
   field_short h = ap led (sym (pick_no _ _ _ (lt-leb _ _ (rw is at h))))
 
-  module _ (h : x.at + size ≤ length d) (n : ℕ) (e : n ≡ fault d known tag c x es) where
+  module _ (h : x.at + size ≤ length d) (v : Verdict) (e : v ≡ fault d known tag c x es) where
     fits : leb (x.at + extent d c x.at) (length d) ≡ true
     fits = le-leb _ _ (rw is at h)
 
-    pub field_bad : (n ≡ 0 → ⊥) → stopped n ≡ led (field d known tag c x es)
-    unfolding field led
-    field_bad z = ap stopped e ∙ ap led (sym (pick_yes _ _ _ fits ∙ pick_no _ _ _ (ne_eqb _ _ (λ (q : fault d known tag c x es ≡ 0). z (e ∙ q)))))
+    pub field_bad : (n : ℕ) → v ≡ Err n → stopped n ≡ led (field d known tag c x es)
+    unfolding field led if_fine
+    field_bad n z = ap led (sym (pick_yes _ _ _ fits ∙ ap (λ (w : Verdict). if_fine w (next (kept d known tag c x) (grown d c x es) (record { kind = c; start = x.at } ∷ []))) (sym e ∙ z)))
 
-    module _ (z : n ≡ 0) (y : Draft) (p : y ≡ kept d known tag c x) where
+    module _ (z : v ≡ fine) (y : Draft) (p : y ≡ kept d known tag c x) where
       pub field_good : (fs : List Element) → fs ≡ grown d c x es → moved y fs ≡ led (field d known tag c x es)
-      unfolding field led
-      field_good fs q = rw (p, q) (ap led (sym (pick_yes _ _ _ fits ∙ pick_yes _ _ _ (eq-eqb _ _ (sym e ∙ z)))))
+      unfolding field led if_fine
+      field_good fs q =
+          rw (p, q)
+          (ap led (sym (pick_yes _ _ _ fits ∙ ap (λ (w : Verdict). if_fine w (next (kept d known tag c x) (grown d c x es) (record { kind = c; start = x.at } ∷ []))) (sym e ∙ z))))
 
-      pub field_inside : x.left ≤ 512 → Inside (length d) (x.count + push c) (Next y)
+      pub field_inside : x.left ≤ 512 → Inside (length d) (x.count + push c) (Ok y)
       unfolding Inside
       field_inside l = rw p (omega (arith, kept_at d known tag c x), kept_left d known tag c x es (sym e ∙ z) l, omega (arith, kept_many d known tag c x))
 

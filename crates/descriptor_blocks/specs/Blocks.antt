@@ -1,8 +1,8 @@
 -- Nobody has to believe these definitions: they are what the code says to itself of reading a block field by field; that they give what
 -- protocol's give is proved (descriptor_agree).
-use Rattle.std.specs.Prelude.{ℕ, zero, suc, ◌+◌, List, [], ◌∷◌, ◌++◌, leb, eqb, length}
+use Rattle.std.specs.Prelude.{ℕ, zero, suc, ◌+◌, List, [], ◌∷◌, ◌++◌, leb, length, Ok, Err, None}
 use Rattle.descriptor_fields.specs.Layouts.{layout}
-use Rattle.descriptor_fields.specs.Fields.{Known, Element, extent, fault, kept, grown}
+use Rattle.descriptor_fields.specs.Fields.{Known, Element, Verdict, extent, fault, kept, grown}
 use Rattle.descriptor_fields.specs.declared.Draft.{Draft}
 use Rattle.protocol.specs.Numbers.{pick}
 
@@ -24,6 +24,11 @@ unfoldable pub and_then : Reading → (Draft → List Element → Reading) → R
 and_then (stop n) f = stop n
 and_then (next x es is) f = noted is (f x es)
 
+-- a reading, if the rule has nothing against it
+unfoldable pub if_fine : Verdict → Reading → Reading
+if_fine (Ok u) r = r
+if_fine (Err n) r = stop n
+
 -- what is kept, with a number of items to come
 abbrev pub counting : ℕ → Draft → Draft
 counting n x =
@@ -34,9 +39,7 @@ module _ (d : List ℕ) (known : List Known) (tag : ℕ) where
   unfoldable pub field : ℕ → Draft → List Element → Reading
   field c x es =
       pick (leb (x.at + extent d c x.at) (length d))
-      (pick (eqb (fault d known tag c x es) 0)
-      (next (kept d known tag c x) (grown d c x es) (record { kind = c; start = x.at } ∷ []))
-      (stop (fault d known tag c x es)))
+      (if_fine (fault d known tag c x es) (next (kept d known tag c x) (grown d c x es) (record { kind = c; start = x.at } ∷ [])))
       (stop 10)
 
   unfoldable pub fields : List ℕ → Draft → List Element → Reading
@@ -56,5 +59,5 @@ module _ (d : List ℕ) (known : List Known) (tag : ℕ) where
   block_from at =
       and_then
       (section (layout tag).head (layout tag).first
-      (record { at = at; left = 0; free = 0; format = 20; height = 1; card = 0; name = 0; count = 0 }) [])
+      (record { at = at; left = 0; free = 0; format = None; height = 1; card = 0; name = 0; count = 0 }) [])
       (section (layout tag).more (layout tag).last)

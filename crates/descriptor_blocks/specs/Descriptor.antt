@@ -1,8 +1,8 @@
 -- Nobody has to believe these definitions: they are what the code says to itself of a whole descriptor, its blocks, its root and its plan;
 -- that they give what protocol's give is proved (descriptor_agree).
-use Rattle.std.specs.Prelude.{ℕ, zero, suc, ◌+◌, Bool, false, List, [], ◌∷◌, ◌++◌, map, leb, ltb, eqb, length, get_or}
+use Rattle.std.specs.Prelude.{ℕ, zero, suc, ◌+◌, Bool, false, List, [], ◌∷◌, ◌++◌, map, leb, ltb, eqb, length, get_or, Option, Some, None}
 use Rattle.descriptor_fields.specs.Layouts.{known_tag, indexed, valued}
-use Rattle.descriptor_fields.specs.Fields.{Known, no_block, Element, id_at, index_in}
+use Rattle.descriptor_fields.specs.Fields.{Known, no_block, Element, id_at, index_in, format_number}
 use Rattle.descriptor_blocks.specs.Blocks.{Item, Reading, stop, next, block_from}
 use Rattle.descriptor_fields.specs.declared.Draft.{Draft}
 use Rattle.protocol.specs.Numbers.{pick}
@@ -73,13 +73,13 @@ block_of bs start tag x es is =
     record {
       start = start;
       tag = tag;
-      format = x.format;
+      format = format_number x.format;
       height = x.height;
       elements = es;
       items = is;
-      shape = node_of (summaries bs) tag x.format es;
+      shape = node_of (summaries bs) tag (format_number x.format) es;
       node = 2 + length (all_words bs);
-      words = words_of (summaries bs) tag x.format es;
+      words = words_of (summaries bs) tag (format_number x.format) es;
     }
 
 -- number and place of a refusal, or the blocks
@@ -123,8 +123,8 @@ pub data Description : Type 0 where
   without_type : Description
   described : List Block → ℕ → Description
 
--- the index of the block with an id, or how many there are
-abbrev pub index_of : List ℕ → List Block → ℕ → ℕ
+-- the index of the block with an id
+abbrev pub index_of : List ℕ → List Block → ℕ → Option ℕ
 index_of d bs i = index_in d (summaries bs) i
 
 -- the tag of the block with an index
@@ -134,9 +134,13 @@ tag_at (b ∷ bs) zero = b.tag
 tag_at (b ∷ bs) (suc k) = tag_at bs k
 
 -- 18 for a root that is missing or without values (R3.17)
+unfoldable pub root_at : List ℕ → List Block → Option ℕ → Description
+root_at d bs None = refused_by 18 (length d)
+root_at d bs (Some i) = pick (valued (tag_at bs i)) (described bs i) (refused_by 18 (length d))
+
 unfoldable pub rooted : List ℕ → ℕ → Blocks → Description
 rooted d i (faulty n p) = refused_by n p
-rooted d i (whole bs) = pick (valued (tag_at bs (index_of d bs i))) (described bs (index_of d bs i)) (refused_by 18 (length d))
+rooted d i (whole bs) = root_at d bs (index_of d bs i)
 
 -- first the size, then the root's id, then the blocks (R3.14, R3.17)
 unfoldable pub description_of : List ℕ → List ℕ → Description

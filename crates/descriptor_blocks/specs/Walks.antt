@@ -1,13 +1,11 @@
 -- Nobody has to believe these definitions: they say where a reading leads, as the code sees it: what it kept of the block, and the elements in
 -- their run of numbers.
-use Rattle.std.specs.Prelude.{ℕ, ◌+◌, ◌≤◌, List, [], ◌∷◌, leb}
+use Rattle.std.specs.Prelude.{ℕ, ◌+◌, ◌≤◌, List, [], ◌∷◌, leb, Result, Ok, Err}
 use Rattle.descriptor_fields.specs.Layouts.{ELEMENT}
 use Rattle.descriptor_fields.specs.Fields.{Element}
 use Rattle.descriptor_fields.specs.Arrays.{elements_of}
 use Rattle.descriptor_fields.specs.declared.Draft.{Draft}
 use Rattle.descriptor_blocks.specs.Blocks.{Reading, stop, next}
-use Rattle.descriptor_blocks.specs.declared.Part.{Part}
-use Rattle.descriptor_blocks.specs.declared.Part.TheVariants.{Fault, Next}
 use Rattle.protocol.specs.Numbers.{pick}
 
 -- how many elements a field adds, and fields
@@ -19,9 +17,9 @@ pushes [] = 0
 pushes (c ∷ cs) = push c + pushes cs
 
 -- a reading that goes on is inside the descriptor, with at most so many items to come and elements read
-unfoldable pub Inside : ℕ → ℕ → Part → Type 0
-Inside end n (Fault m) = Unit {0}
-Inside end n (Next x) = (x.at ≤ end) × (x.left ≤ 512) × (x.count ≤ n)
+unfoldable pub Inside : ℕ → ℕ → Result Draft ℕ → Type 0
+Inside end n (Err m) = Unit {0}
+Inside end n (Ok x) = (x.at ≤ end) × (x.left ≤ 512) × (x.count ≤ n)
 
 -- where a reading leads, but for the fields that were noted
 pub data Walk : Type 0 where
@@ -32,6 +30,6 @@ unfoldable pub led : Reading → Walk
 led (stop n) = stopped n
 led (next x es is) = moved x es
 
-unfoldable pub walk_of : Part → List ℕ → Walk
-walk_of (Fault n) a = stopped n
-walk_of (Next x) a = moved x (elements_of a x.count)
+unfoldable pub walk_of : Result Draft ℕ → List ℕ → Walk
+walk_of (Err n) a = stopped n
+walk_of (Ok x) a = moved x (elements_of a x.count)

@@ -1,78 +1,69 @@
 // A field of a block: whether it is complete (R3.5), its rule, and what is kept of it.
 ghost use Rattle.std.specs.Prelude.{◌≡◌, ◌+◌, ◌≤◌, ◌<◌, length};
-ghost use Rattle.descriptor_fields.specs.Fields as rule;
-ghost use Rattle.descriptor_fields.specs.Fields.{extent, kept, grown};
+ghost use Rattle.descriptor_fields.specs.Fields.{extent, fault, kept, grown};
 ghost use Rattle.descriptor_blocks.specs.Blocks as reading;
-ghost use Rattle.descriptor_fields.specs.Arrays.{Told, Roomy, known_of, elements_of};
+ghost use Rattle.descriptor_fields.specs.Arrays.{Roomy, elements_of};
+ghost use Rattle.descriptor_fields.specs.Earlier.{before};
 ghost use Rattle.descriptor_blocks.specs.Walks.{push, led, walk_of, Inside};
 ghost use Rattle.protocol.specs.Numbers.{at_least};
 
-use crate::Part;
-use descriptor_fields::{Draft, kinds, number};
+use descriptor_fields::earlier::Earlier;
+use descriptor_fields::{Draft, Field, kinds, number};
 use descriptor_names::{id, text};
+use forms::fault::Fault;
 
-// The rule of a field that is whole: 0, or the number of a refusal.
-fn fault(d: &[u8], known: &[u32], n: usize, tag: u32, code: u8, x: Draft, elements: &[u32]) -> u32
-    requires { (Told d.now known.now n) × (Roomy elements.now x.count) × (x.at + extent d.now code x.at ≤ length d.now) }
-    ensures { result ≡ rule.fault d.now (known_of d.now known.now n) tag code x (elements_of elements.now x.count) }
+// The rule of a field that is whole.
+fn check(earlier: Earlier, field: Field, elements: &[u32]) -> Result<(), Fault>
+    requires { (Roomy elements.now field.x.count) × (field.x.at + extent earlier.d.now field.code field.x.at ≤ length earlier.d.now) }
+    ensures { result
+        ≡ fault earlier.entry.d.now (before earlier.entry) field.tag field.code field.x (elements_of elements.now field.x.count) }
 {
+    let code = field.code;
+    let at = field.x.at;
     if code == kinds::ID {
-        return id::fault(d, known, n, x.at);
+        return id::check(earlier, at);
     }
     if code <= kinds::NAME {
-        return text::fault(d, elements, x.count, code, x.at);
+        return text::check(earlier.d, elements, field.x.count, code, at);
     }
-    let v = number::number_at(d, code, x.at);
+    let v = number::number_at(earlier.d, code, at);
     if code <= kinds::DIMENSIONS {
-        return number::fault(code, v);
+        return number::check(code, v);
     }
     if code <= kinds::COUNT {
-        return number::count_fault(tag, code, x, v);
+        return number::check_count(field, v);
     }
-    descriptor_references::fault(d, known, n, tag, code, x, v)
-}
-
-// The higher of a height so far and one more than an element's.
-fn raised(h: u32, other: u32) -> u32
-    requires { other ≤ 32 }
-    ensures { result ≡ at_least h (other + 1) }
-{
-    if h <= other + 1 {
-        return other + 1;
-    }
-    h
+    descriptor_references::check(earlier, field, v)
 }
 
 // What is kept after an element reference, and the element.
-fn keep_element(
-    d: &[u8],
-    known: &[u32],
-    n: usize,
-    tag: u32,
-    code: u8,
-    mut x: Draft,
-    elements: &mut [u32],
-) -> Draft
-    requires { (Told d.now known.now n) × (Roomy elements.old (x.count + 1)) × (17 ≤ code) × (x.at + 2 ≤ length d.now) }
-    ensures value { result ≡ kept d.now (known_of d.now known.now n) tag code x }
-    ensures elements { elements_of elements.new result.count ≡ grown d.now code x (elements_of elements.old x.count) }
+fn keep_element(earlier: Earlier, field: Field, elements: &mut [u32]) -> Draft
+    requires { (Roomy elements.old (field.x.count + 1)) × (17 ≤ field.code) × (field.x.at + 2 ≤ length earlier.d.now) }
+    ensures value { result ≡ kept earlier.entry.d.now (before earlier.entry) field.tag field.code field.x }
+    ensures elements { elements_of elements.new result.count ≡ grown earlier.entry.d.now field.code field.x (elements_of elements.old field.x.count) }
 {
-    let v = number::number_at(d, code, x.at);
+    let mut x = field.x;
+    let v = number::number_at(earlier.d, field.code, x.at);
     let k = 3 * x.count;
     elements[k] = x.name;
     elements[k + 1] = v;
     elements[k + 2] = x.card;
-    x.height = raised(x.height, descriptor_references::height_at(d, known, n, v));
+    x.height = x
+        .height
+        .max(descriptor_references::height_at(earlier, v) + 1);
     x.count += 1;
     x.at += 2;
     x
 }
 
 // What is kept after any other field.
-fn keep(d: &[u8], known: &[u32], n: usize, tag: u32, code: u8, mut x: Draft) -> Draft
-    requires { (Told d.now known.now n) × (code < 17) × (x.at + extent d.now code x.at ≤ length d.now) }
-    ensures { result ≡ kept d.now (known_of d.now known.now n) tag code x }
+fn keep(earlier: Earlier, field: Field) -> Draft
+    requires { (field.code < 17) × (field.x.at + extent earlier.d.now field.code field.x.at ≤ length earlier.d.now) }
+    ensures { result ≡ kept earlier.entry.d.now (before earlier.entry) field.tag field.code field.x }
 {
+    let d = earlier.d;
+    let code = field.code;
+    let mut x = field.x;
     let at = x.at;
     x.at = at + number::extent_of(d, code, at);
     match code {
@@ -83,11 +74,9 @@ fn keep(d: &[u8], known: &[u32], n: usize, tag: u32, code: u8, mut x: Draft) -> 
         kinds::ANCESTORS => x.left = number::number_at(d, code, at),
         kinds::COUNT => x.left = number::number_at(d, code, at),
         kinds::ANCESTOR => {
-            if descriptor_references::is_deciding(tag, x) {
+            if descriptor_references::is_deciding(field) {
                 x.format = descriptor_references::format_at(
-                    d,
-                    known,
-                    n,
+                    earlier,
                     number::number_at(d, code, at),
                 );
             }
@@ -98,29 +87,19 @@ fn keep(d: &[u8], known: &[u32], n: usize, tag: u32, code: u8, mut x: Draft) -> 
 }
 
 // A field.
-pub fn read(
-    d: &[u8],
-    known: &[u32],
-    n: usize,
-    tag: u32,
-    code: u8,
-    x: Draft,
-    elements: &mut [u32],
-) -> Part
-    requires { (Told d.now known.now n) × (Roomy elements.old (x.count + push code)) × (x.at ≤ length d.now) × (x.left ≤ 512) }
+pub fn read(earlier: Earlier, field: Field, elements: &mut [u32]) -> Result<Draft, Fault>
+    requires { (Roomy elements.old (field.x.count + push field.code)) × (field.x.at ≤ length earlier.d.now) × (field.x.left ≤ 512) }
     ensures elements_after { walk_of result elements.new
-        ≡ led (reading.field d.now (known_of d.now known.now n) tag code x (elements_of elements.old x.count)) }
-    ensures inside { Inside (length d.now) (x.count + push code) result }
+        ≡ led (reading.field earlier.entry.d.now (before earlier.entry) field.tag field.code field.x (elements_of elements.old field.x.count)) }
+    ensures inside { Inside (length earlier.entry.d.now) (field.x.count + push field.code) result }
 {
-    if d.len() < x.at + number::extent_of(d, code, x.at) {
-        return Part::Fault(constants::DESCRIPTOR_END);
+    let at = field.x.at;
+    if earlier.d.len() < at + number::extent_of(earlier.d, field.code, at) {
+        return Err(Fault::DESCRIPTOR_END);
     }
-    let no = fault(d, known, n, tag, code, x, elements);
-    if no != 0 {
-        return Part::Fault(no);
+    check(earlier, field, elements)?;
+    if kinds::ELEMENT <= field.code {
+        return Ok(keep_element(earlier, field, elements));
     }
-    if kinds::ELEMENT <= code {
-        return Part::Next(keep_element(d, known, n, tag, code, x, elements));
-    }
-    Part::Next(keep(d, known, n, tag, code, x))
+    Ok(keep(earlier, field))
 }

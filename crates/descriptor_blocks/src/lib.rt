@@ -3,12 +3,3 @@
 
 pub mod block;
 pub mod field;
-
-use descriptor_fields::Draft;
-
-// Where the reading of a block stands: the number of a refusal, or what is kept so far.
-#[derive(Clone, Copy)]
-pub enum Part {
-    Fault(u32),
-    Next(Draft),
-}

@@ -8,24 +8,25 @@ use native.Mathlib.Decide.{dec_lt}
 use native.Mathlib.Omega.{arith}
 use native.Mathlib.Nat.{zero-add}
 use lib.Dec.{eqb, ltb}
-use lib.ListN.{length, drop, set, length-map}
+use lib.ListN.{length, drop, set, get_or, length-map}
 use lib.Seq.{sets, sets-eq, set_comm}
 use borrow.Author.Tests.{lt-ltb, le-ltb, ltb-false, eq-eqb, ne_eqb}
 use Rattle.wire.proofs.Picks.{pick_yes, pick_no, pick_split}
 use Rattle.protocol.specs.Descriptors.{bare_form, DescribedType, describe}
 use Rattle.descriptor_fields.specs.Layouts.{valued}
-use Rattle.descriptor_fields.specs.Fields.{Known, id_at, index_in}
+use Rattle.descriptor_fields.specs.Fields.{Known, no_block, id_at, index_in}
 use Rattle.descriptor_blocks.specs.Descriptor.{node_at, Block, summary, summaries, all_words, Blocks, faulty, whole, blocks_of, index_of, tag_at}
-use Rattle.descriptor_blocks.specs.Descriptor.{refused_by, without_type, described, rooted, description_of, plan_words, Compiled, refused_plan, plan}
+use Rattle.descriptor_blocks.specs.Descriptor.{root_at, refused_by, without_type, described, rooted, Description, description_of, plan_words, Compiled, refused_plan, plan}
 use Rattle.descriptor_blocks.specs.Descriptor.{plan_of, roomed, compile_of}
-use Rattle.descriptor_fields.specs.Arrays.{known_of}
+use Rattle.descriptor_fields.specs.Arrays.{known_at, known_of}
+use Rattle.descriptor_fields.proofs.Known.{known_length, known_get}
 use Rattle.descriptor_scan.specs.Scan.{Kept, Scans}
 use Rattle.descriptor_compile.specs.Compile.{answer_of, Gives}
-use Rattle.descriptor_compile.specs.Checking.{checked_answer, Stored, Checks, refusal_of, has_node}
-use Rattle.descriptor_compile.specs.declared.Answer.{Answer}
-use Rattle.descriptor_compile.specs.declared.Answer.TheVariants.{Refused, Words}
-use Rattle.descriptor_scan.specs.declared.Scan.{Scan}
-use Rattle.descriptor_scan.specs.declared.Scan.TheVariants.{Refused as Stopped, Done}
+use Rattle.descriptor_compile.specs.Checking.{checked_answer, Stored, Checks, root_of, root_node}
+use Rattle.std.specs.Prelude.{Result, Ok, Err, Option, Some, None}
+use Rattle.forms.specs.declared.fault.Refusal.{Refusal}
+use Rattle.descriptor_scan.specs.declared.Scanned.{Scanned}
+use Rattle.descriptor_names.proofs.Earlier.{index_below}
 use Rattle.descriptor_agree.proofs.Whole.{refused_by_lem, planned_by}
 use Rattle.descriptor_nodes.proofs.Roots.{tag_same, tag_out}
 use Rattle.protocol.specs.Numbers.{pick}
@@ -44,7 +45,10 @@ front l ws a b = sym (set_first ws (set l 0 a) 1 2 b (omega arith) ∙ ap (λ (m
 
 -- ---- refusals
 
-refuses : (o : Compiled) (n p : ℕ) (l l' : List ℕ) → o ≡ refused_plan n p → Checks o (Refused n p) l l'
+abbrev refusal : ℕ → ℕ → Refusal
+refusal n p = record { fault = n; place = p }
+
+refuses : (o : Compiled) (n p : ℕ) (l l' : List ℕ) → o ≡ refused_plan n p → Checks o (Err (refusal n p)) l l'
 unfolding checked_answer Stored
 refuses o n p l l' e = rw e (record { answer = refl; words = tt })
 
@@ -56,75 +60,107 @@ pub record Finished (d : List ℕ) (t : Blocks) (n to : ℕ) (known l l' : List 
   pub kept : Kept d known n to bs
   pub words : l' ≡ sets l 2 (all_words bs)
 
-finished_in : (d : List ℕ) (t : Blocks) (n to : ℕ) (known l l' : List ℕ) → Scans d t (Done n to) known l l' → Finished d t n to known l l'
+finished_in : (d : List ℕ) (t : Blocks) (x : Scanned) (known l l' : List ℕ) → Scans d t (Ok x) known l l' → Finished d t x.count x.end known l l'
 unfolding Scans
-finished_in d (faulty m q) n to known l l' s = absurd s
-finished_in d (whole bs) n to known l l' s = record { bs = bs; is = refl; kept = s.0; words = s.1 }
+finished_in d (faulty m q) x known l l' s = absurd s
+finished_in d (whole bs) x known l l' s = record { bs = bs; is = refl; kept = s.0; words = s.1 }
 
-faulty_in : (d : List ℕ) (t : Blocks) (m q : ℕ) (known l l' : List ℕ) → Scans d t (Stopped m q) known l l' → t ≡ faulty m q
+faulty_in : (d : List ℕ) (t : Blocks) (r : Refusal) (known l l' : List ℕ) → Scans d t (Err r) known l l' → t ≡ faulty r.fault r.place
 unfolding Scans
-faulty_in d (faulty n p) m q known l l' s = ap₂ faulty (sym s.0) (sym s.1)
-faulty_in d (whole bs) m q known l l' s = absurd s
+faulty_in d (faulty n p) r known l l' s = ap₂ faulty (sym s.0) (sym s.1)
+faulty_in d (whole bs) r known l l' s = absurd s
 
-none_valued : valued 10 ≡ false
-unfolding valued pick
-none_valued = refl
+-- the node of the root, as the code looks for it
+pub root_missing : (d : List ℕ) (ks : List Known) (i : ℕ) → None ≡ index_in d ks i → None ≡ root_node d ks i
+unfolding root_of root_node
+root_missing d ks i e = ap (root_of ks) e
 
-has_same : (bs : List Block) (k : ℕ) → has_node (summaries bs) k ≡ valued (tag_at bs k)
-unfolding has_node
-has_same bs k =
-    let m : length (summaries bs) ≡ length bs = length-map bs summary in
-    elim (dec_lt k (length bs)) [
-      | yes l ↦ pick_yes _ _ _ (lt-ltb k (length (summaries bs)) (omega arith)) ∙ ap valued (sym (tag_same bs k l))
-      | no l ↦ pick_no _ _ _ (le-ltb k (length (summaries bs)) (omega arith)) ∙ sym (ap valued (tag_out bs k (omega arith)) ∙ none_valued)
-    ]
+module _ (d a : List ℕ) (n i k : ℕ) (e : Some k ≡ index_in d (known_of d a n) i) where
+  pub root_below : k < n
+  root_below = let h = index_below d i (known_of d a n) k (sym e) in omega (arith, known_length d a n)
 
-module _ (d : List ℕ) (i : ℕ) (s : Scan) (known l l' : List ℕ) (g : Scans d (blocks_of d) s known l l') where
-  pub blocks_refused : (m q : ℕ) → s ≡ Stopped m q → (r : Answer) → r ≡ refusal_of s → (k' : List ℕ) → Checks (plan_of (rooted d i (blocks_of d))) r l k'
-  unfolding plan_of rooted refusal_of
-  blocks_refused m q e r w k' =
-      rw (w ∙ ap refusal_of e)
-      (refuses (plan_of (rooted d i (blocks_of d))) m q l k' (ap (λ (t : Blocks). plan_of (rooted d i t)) (faulty_in d (blocks_of d) m q known l l' (rw e at g))))
+  root_is : root_node d (known_of d a n) i ≡ pick (valued (known_at d a k).tag) (Some (known_at d a k).node) None
+  unfolding root_of root_node node_at
+  root_is =
+      ap (root_of (known_of d a n)) (sym e)
+      ∙ ap (λ (b : Known). pick (valued b.tag) (Some b.node) None) (known_get d a n k root_below)
 
-  module _ (n to : ℕ) (e : s ≡ Done n to) where
-    pub ended : Finished d (blocks_of d) n to known l l'
-    ended = finished_in d (blocks_of d) n to known l l' (rw e at g)
+  module _ (t : ℕ) (p : t ≡ (known_at d a k).tag) (v : Bool) (q : v ≡ valued t) where
+    pub root_valued : v ≡ true → (w : ℕ) → w ≡ (known_at d a k).node → Some w ≡ root_node d (known_of d a n) i
+    root_valued h w r = ap Some r ∙ sym (root_is ∙ pick_yes _ _ _ (ap valued (sym p) ∙ sym q ∙ h))
 
-    module _ (k : ℕ) (w : k ≡ index_in d (known_of d known n) i) where
-      abbrev bs : List Block
-      bs = ended.bs
+    pub root_valueless : v ≡ false → None ≡ root_node d (known_of d a n) i
+    root_valueless h = sym (root_is ∙ pick_no _ _ _ (ap valued (sym p) ∙ sym q ∙ h))
 
-      index_is : index_of d bs i ≡ k
-      index_is = ap (λ (ks : List Known). index_in d ks i) (sym ended.kept.same) ∙ sym w
+-- what the node of the root says of the description: there is none, or the root is the block that has it
+abbrev pub RootSame : List ℕ → List Block → Description → Option ℕ → Type 0
+RootSame d bs x v =
+    ((v ≡ None) → x ≡ refused_by 18 (length d)) × ((w : ℕ) → v ≡ Some w → (k : ℕ) × (x ≡ described bs k) × (w ≡ node_at (summaries bs) k))
 
-      rooted_is : rooted d i (blocks_of d) ≡ pick (has_node (known_of d known n) k) (described bs k) (refused_by 18 (length d))
-      unfolding rooted
-      rooted_is =
-          ap (rooted d i) ended.is
-          ∙ ap (λ (j : ℕ). pick (valued (tag_at bs j)) (described bs j) (refused_by 18 (length d))) index_is
-          ∙ ap (λ (b : Bool). pick b (described bs k) (refused_by 18 (length d))) (sym (has_same bs k) ∙ ap (λ (ks : List Known). has_node ks k) (sym ended.kept.same))
+root_same : (d : List ℕ) (bs : List Block) (o : Option ℕ) → ((k : ℕ) → o ≡ Some k → k < length bs) → (v : Option ℕ) → v ≡ root_of (summaries bs) o
+    → RootSame d bs (root_at d bs o) v
+unfolding root_of root_at
+root_same d bs None h v e =
+    (λ z. refl, λ w z. let f = sym z ∙ e in let n : ◌≡◌ {A = ℕ} 0 1 = cc in absurd (omega arith))
+root_same d bs (Some k) h v e = go (valued (tag_at bs k)) refl
+  where
+    same : valued (get_or (summaries bs) k no_block).tag ≡ valued (tag_at bs k)
+    same = ap valued (sym (tag_same bs k (h k refl)))
 
-      pub blocks_rootless : has_node (known_of d known n) k ≡ false → Checks (plan_of (rooted d i (blocks_of d))) (Refused 18 (length d)) l l'
+    go : (t : Bool) → valued (tag_at bs k) ≡ t → RootSame d bs (pick (valued (tag_at bs k)) (described bs k) (refused_by 18 (length d))) v
+    go true q =
+        let f = e ∙ pick_yes _ _ _ (same ∙ q) in
+        (λ z. let n : ◌≡◌ {A = ℕ} 0 1 = cc in absurd (omega arith), λ w z. (k, pick_yes _ _ _ q, cc))
+    go false q =
+        let f = e ∙ pick_no _ _ _ (same ∙ q) in
+        (λ z. pick_no _ _ _ q, λ w z. let n : ◌≡◌ {A = ℕ} 0 1 = cc in absurd (omega arith))
+
+module _ (d : List ℕ) (i : ℕ) (known l l' : List ℕ) where
+  pub blocks_refused : (r : Refusal) → Scans d (blocks_of d) (Err r) known l l' → (k' : List ℕ) → Checks (plan_of (rooted d i (blocks_of d))) (Err r) l k'
+  unfolding plan_of rooted
+  blocks_refused r g k' =
+      refuses (plan_of (rooted d i (blocks_of d))) r.fault r.place l k' (ap (λ (t : Blocks). plan_of (rooted d i t)) (faulty_in d (blocks_of d) r known l l' g))
+
+  module _ (x : Scanned) (g : Scans d (blocks_of d) (Ok x) known l l') where
+    pub ended : Finished d (blocks_of d) x.count x.end known l l'
+    ended = finished_in d (blocks_of d) x known l l' g
+
+    abbrev bs : List Block
+    bs = ended.bs
+
+    rooted_is : rooted d i (blocks_of d) ≡ root_at d bs (index_of d bs i)
+    unfolding rooted
+    rooted_is = ap (rooted d i) ended.is
+
+    module _ (v : Option ℕ) (w : v ≡ root_node d (known_of d known x.count) i) where
+      same : RootSame d bs (root_at d bs (index_of d bs i)) v
+      unfolding root_node
+      same =
+          root_same d bs (index_of d bs i)
+          (λ k e. let h = index_below d i (summaries bs) k e in let m : length (summaries bs) ≡ length bs = length-map bs summary in omega arith)
+          v (w ∙ ap (λ (ks : List Known). root_node d ks i) ended.kept.same)
+
+      pub blocks_rootless : v ≡ None → Checks (plan_of (rooted d i (blocks_of d))) (Err (refusal 18 (length d))) l l'
       unfolding plan_of
-      blocks_rootless h = refuses (plan_of (rooted d i (blocks_of d))) 18 (length d) l l' (ap plan_of (rooted_is ∙ pick_no _ _ _ h))
+      blocks_rootless e = refuses (plan_of (rooted d i (blocks_of d))) 18 (length d) l l' (ap plan_of (rooted_is ∙ same.0 e))
 
-      pub blocks_planned : has_node (known_of d known n) k ≡ true → (v : ℕ) → v ≡ node_at (known_of d known n) k → (p : List ℕ) → p ≡ sets l' 0 (to ∷ v ∷ [])
-          → Checks (plan_of (rooted d i (blocks_of d))) (Words to) l p
+      pub blocks_planned : (f : ℕ) → v ≡ Some f → (p : List ℕ) → p ≡ sets l' 0 (x.end ∷ f ∷ []) → Checks (plan_of (rooted d i (blocks_of d))) (Ok x.end) l p
       unfolding plan_of plan_words checked_answer Stored
-      blocks_planned h v q p f =
-          let o : plan_of (rooted d i (blocks_of d)) ≡ plan (plan_words bs k) = ap plan_of (rooted_is ∙ pick_yes _ _ _ h) in
+      blocks_planned f e p q =
+          let s = same.1 f e in
+          let o : plan_of (rooted d i (blocks_of d)) ≡ plan (plan_words bs s.0) = ap plan_of (rooted_is ∙ s.1) in
           rw o
           (record {
-            answer = let m : to ≡ suc (suc (length (all_words bs))) = omega (arith, ended.kept.end) in ap Words m;
+            answer = let m : x.end ≡ suc (suc (length (all_words bs))) = omega (arith, ended.kept.end) in ap Ok m;
             words =
-                f ∙ ap (λ (m : List ℕ). sets m 0 (to ∷ v ∷ [])) ended.words ∙ front l (all_words bs) to v
-                ∙ ap₂ (λ (x y : ℕ). sets l 0 (x ∷ y ∷ all_words bs)) ended.kept.end (q ∙ ap (λ (ks : List Known). node_at ks k) ended.kept.same);
+                q ∙ ap (λ (m : List ℕ). sets m 0 (x.end ∷ f ∷ [])) ended.words ∙ front l (all_words bs) x.end f
+                ∙ ap₂ (λ (a b : ℕ). sets l 0 (a ∷ b ∷ all_words bs)) ended.kept.end s.2;
           })
 
 -- ---- the tests, in their order
 
 module _ (d root l l' : List ℕ) where
-  pub check_large : 65535 < length d → Checks (plan_of (description_of d root)) (Refused 17 0) l l'
+  pub check_large : 65535 < length d → Checks (plan_of (description_of d root)) (Err (refusal 17 0)) l l'
   unfolding description_of plan_of
   check_large h = refuses _ 17 0 l l' (ap plan_of (pick_yes _ _ _ (lt-ltb 65535 (length d) h)))
 
@@ -132,23 +168,23 @@ module _ (d root l l' : List ℕ) where
     small : ltb 65535 (length d) ≡ false
     small = le-ltb 65535 (length d) h
 
-    pub check_short : (length root ≡ 16 → ⊥) → Checks (plan_of (description_of d root)) (Refused 18 (length d)) l l'
+    pub check_short : (length root ≡ 16 → ⊥) → Checks (plan_of (description_of d root)) (Err (refusal 18 (length d))) l l'
     unfolding description_of plan_of
     check_short n = refuses _ 18 (length d) l l' (ap plan_of (pick_no _ _ _ small ∙ pick_no _ _ _ (ne_eqb _ _ n)))
 
     module _ (e : length root ≡ 16) where
-      pub check_rest : eqb (id_at root 0) 0 ≡ false → (r : Answer) → Checks (plan_of (rooted d (id_at root 0) (blocks_of d))) r l l' → Checks (plan_of (description_of d root)) r l l'
+      pub check_rest : eqb (id_at root 0) 0 ≡ false → (r : Result ℕ Refusal) → Checks (plan_of (rooted d (id_at root 0) (blocks_of d))) r l l' → Checks (plan_of (description_of d root)) r l l'
       unfolding description_of
       check_rest z r c =
           let o : description_of d root ≡ rooted d (id_at root 0) (blocks_of d) = pick_no _ _ _ small ∙ pick_yes _ _ _ (eq-eqb _ _ e) ∙ pick_no _ _ _ z in
           rw o c
 
       module _ (z : eqb (id_at root 0) 0 ≡ true) where
-        pub check_zero : (length d ≡ 0 → ⊥) → Checks (plan_of (description_of d root)) (Refused 18 (length d)) l l'
+        pub check_zero : (length d ≡ 0 → ⊥) → Checks (plan_of (description_of d root)) (Err (refusal 18 (length d))) l l'
         unfolding description_of plan_of
         check_zero n = refuses _ 18 (length d) l l' (ap plan_of (pick_no _ _ _ small ∙ pick_yes _ _ _ (eq-eqb _ _ e) ∙ pick_yes _ _ _ z ∙ pick_no _ _ _ (ne_eqb _ _ n)))
 
-        pub check_none : length d ≡ 0 → l' ≡ sets l 0 (2 ∷ 0 ∷ []) → Checks (plan_of (description_of d root)) (Words 2) l l'
+        pub check_none : length d ≡ 0 → l' ≡ sets l 0 (2 ∷ 0 ∷ []) → Checks (plan_of (description_of d root)) (Ok 2) l l'
         unfolding description_of plan_of checked_answer Stored
         check_none n w =
             let o : description_of d root ≡ without_type = pick_no _ _ _ small ∙ pick_yes _ _ _ (eq-eqb _ _ e) ∙ pick_yes _ _ _ z ∙ pick_yes _ _ _ (eq-eqb _ _ n) in
@@ -163,58 +199,59 @@ pub record Found (o : Compiled) (w : ℕ) (l l' : List ℕ) : Type 0 where
   pub count : w ≡ length words
   pub stored : l' ≡ sets l 0 words
 
-found_in : (o : Compiled) (w : ℕ) (l l' : List ℕ) → Words w ≡ checked_answer o → Stored o l l' → Found o w l l'
+found_in : (o : Compiled) (w : ℕ) (l l' : List ℕ) → Ok w ≡ checked_answer o → Stored o l l' → Found o w l l'
 unfolding checked_answer Stored
 found_in (refused_plan n p) w l l' e s = let z : ◌≡◌ {A = ℕ} 0 1 = cc in absurd (omega arith)
 found_in (plan ws) w l l' e s = record { words = ws; is = refl; count = cc; stored = s }
 
-refused_in : (o : Compiled) (n p : ℕ) → Refused n p ≡ checked_answer o → o ≡ refused_plan n p
+refused_in : (o : Compiled) (r : Refusal) → Err r ≡ checked_answer o → o ≡ refused_plan r.fault r.place
 unfolding checked_answer
-refused_in (refused_plan m q) n p e = cc
-refused_in (plan ws) n p e = let z : ◌≡◌ {A = ℕ} 0 1 = cc in absurd (omega arith)
+refused_in (refused_plan m q) r e = let f : r ≡ refusal m q = cc in rw f
+refused_in (plan ws) r e = let z : ◌≡◌ {A = ℕ} 0 1 = cc in absurd (omega arith)
 
-module _ (o : Compiled) (a : Answer) (l l' : List ℕ) (c : Checks o a l l') where
-  pub found : (w : ℕ) → a ≡ Words w → Found o w l l'
-  found w e = found_in o w l l' (sym e ∙ c.answer) c.words
+module _ (o : Compiled) (l l' : List ℕ) where
+  pub found : (w : ℕ) → Checks o (Ok w) l l' → Found o w l l'
+  found w c = found_in o w l l' c.answer c.words
 
-  pub turned_down : (n p : ℕ) → a ≡ Refused n p → o ≡ refused_plan n p
-  turned_down n p e = refused_in o n p (sym e ∙ c.answer)
+  pub turned_down : (r : Refusal) → Checks o (Err r) l l' → o ≡ refused_plan r.fault r.place
+  turned_down r c = refused_in o r c.answer
 
 -- ---- the call
 
-module _ (d root : List ℕ) (a : Answer) (k k' : List ℕ) (c : Checks (plan_of (description_of d root)) a k k') (l : List ℕ) where
-  pub gives_refused : (n q : ℕ) → a ≡ Refused n q → Gives (compile_by bare_form d root (length l)) a l l
+module _ (d root k k' l : List ℕ) where
+  pub gives_refused : (r : Refusal) → Checks (plan_of (description_of d root)) (Err r) k k' → Gives (compile_by bare_form d root (length l)) (Err r) l l
   unfolding compile_of roomed answer_of plan_after
-  gives_refused n q e =
-      let o = turned_down _ a k k' c n q e in
-      rw (refused_by_lem d root (length l) n q (rw o)) (record { answer = e; plan = refl })
+  gives_refused r c =
+      let o = turned_down _ k k' r c in
+      rw (refused_by_lem d root (length l) r.fault r.place (rw o)) (record { answer = refl; plan = refl })
 
-  module _ (w : ℕ) (e : a ≡ Words w) where
+  module _ (w : ℕ) (c : Checks (plan_of (description_of d root)) (Ok w) k k') where
     f : Found (plan_of (description_of d root)) w k k'
-    f = found _ a k k' c w e
+    f = found _ k k' w c
 
-    pub gives_full : length l < w → Gives (compile_by bare_form d root (length l)) (Refused 30 0) l l
+    pub gives_full : length l < w → Gives (compile_by bare_form d root (length l)) (Err (refusal 30 0)) l l
     unfolding compile_of roomed answer_of plan_after pick
     gives_full h =
         let h' : length l < length f.words = omega (arith, f.count) in
         rw (refused_by_lem d root (length l) 30 0 (rw (f.is, lt-ltb _ _ h'))) (record { answer = refl; plan = refl })
 
-    pub gives_planned : w ≤ length l → (a' : Answer) (l' : List ℕ) → Checks (plan_of (description_of d root)) a' l l' → Gives (compile_by bare_form d root (length l)) (Words w) l l'
-    unfolding compile_of roomed answer_of plan_after Stored pick
-    gives_planned h a' l' b =
+    pub gives_planned : w ≤ length l → (a : Result ℕ Refusal) (l' : List ℕ) → Checks (plan_of (description_of d root)) a l l' → Gives (compile_by bare_form d root (length l)) a l l'
+    unfolding compile_of roomed answer_of plan_after checked_answer Stored pick
+    gives_planned h a l' b =
         let h' : length f.words ≤ length l = omega (arith, f.count) in
         let g = rw f.is at b.words in
+        let r = rw f.is at b.answer in
         rw (planned_by d root (length l) f.words (rw (f.is, le-ltb _ _ h')))
         (record {
-          answer = ap Words f.count;
+          answer = r;
           plan = g ∙ sets-eq f.words l 0 (omega arith) ∙ ap (λ (n : ℕ). f.words ++ drop n l) (zero-add (length f.words));
         })
 
 -- what an answer says of the outcome
-pub refused_of : (o : Outcome (List ℕ)) (n p : ℕ) → Refused n p ≡ answer_of o → o ≡ refused n p
+pub refused_of : (o : Outcome (List ℕ)) (r : Refusal) → Err r ≡ answer_of o → o ≡ refused r.fault r.place
 unfolding answer_of
-refused_of (refused m q) n p e = let a : m ≡ n = cc in let b : q ≡ p = cc in rw (a, b)
-refused_of (accepted ws) n p e = let z : ◌≡◌ {A = ℕ} 0 1 = cc in absurd (omega arith)
+refused_of (refused m q) r e = let f : r ≡ refusal m q = cc in rw f
+refused_of (accepted ws) r e = let z : ◌≡◌ {A = ℕ} 0 1 = cc in absurd (omega arith)
 
 -- ---- its room
 

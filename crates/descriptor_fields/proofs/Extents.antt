@@ -1,13 +1,10 @@
 -- The sizes of fields.
 use mathlib.Core.Path.{◌≡◌, ◌∙◌}
 use mathlib.Core.List.{List}
-use Prim.Native.Nat.{ℕ, ◌+◌, ◌≤◌, ◌<◌}
+use Prim.Native.Nat.{ℕ, ◌≤◌, ◌<◌}
 use native.Mathlib.Omega.{arith}
-use lib.ListN.{length, get_or}
-use lib.Dec.{eqb, leb}
-use borrow.Author.Tests.{eq-eqb, ne_eqb, le-leb, lt-leb, leb-true}
-use Rattle.wire.proofs.Numbers.{be_below}
-use Rattle.wire.proofs.Picks.{pick_yes, pick_no, pick_case}
+use borrow.Author.Tests.{eq-eqb, ne_eqb, le-leb, lt-leb}
+use Rattle.wire.proofs.Picks.{pick_yes, pick_no}
 use Rattle.descriptor_fields.specs.Fields.{width_of, extent}
 
 pub extent_id : (d : List ℕ) (c at : ℕ) → c ≡ 1 → extent d c at ≡ 16
@@ -17,17 +14,6 @@ extent_id d c at e = pick_yes _ _ _ (eq-eqb _ _ e)
 pub extent_number : (d : List ℕ) (c at : ℕ) → 3 < c → extent d c at ≡ width_of c
 unfolding extent
 extent_number d c at h = pick_no _ _ _ (ne_eqb _ _ (λ (e : c ≡ 1). omega arith)) ∙ pick_no _ _ _ (lt-leb _ _ h)
-
--- no size is so large that a place and it are too much
-pub extent_most : (d : List ℕ) (c at : ℕ) → ((i : ℕ) → get_or d i 0 < 256) → extent d c at ≤ 4294967300
-unfolding extent width_of
-extent_most d c at byte =
-    let P : ℕ → Type 0 = λ n. n ≤ 4294967300 in
-    pick_case P (eqb c 1) _ _ (λ _. omega arith)
-    (λ _.
-    pick_case P (leb c 3) _ _
-    (λ _. pick_case P (leb (at + 4) (length d)) _ _ (λ e. let b = be_below d at 4 byte (leb-true _ _ e) in omega arith) (λ _. omega arith))
-    (λ _. pick_case P (leb c 7) _ _ (λ _. omega arith) (λ _. pick_case P (leb c 10) _ _ (λ _. omega arith) (λ _. omega arith))))
 
 pub width_one : (c : ℕ) → c ≤ 7 → width_of c ≡ 1
 unfolding width_of

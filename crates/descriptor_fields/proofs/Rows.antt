@@ -1,11 +1,10 @@
 -- The layouts of tags, and the code's runs of numbers for them.
 use mathlib.Core.Path.{◌≡◌, refl, ap, ◌∙◌}
-use mathlib.Core.List.{[]}
 use Prim.Native.Nat.{ℕ}
 use lib.Dec.{eqb}
 use borrow.Author.Tests.{ne_eqb}
 use Rattle.wire.proofs.Picks.{pick_case}
-use Rattle.descriptor_fields.specs.Layouts.{Layout, typed, layout, up_to_end, spelled, padded, encoded}
+use Rattle.descriptor_fields.specs.Layouts.{Layout, layout, up_to_end, spelled, padded, encoded}
 use Rattle.descriptor_fields.specs.declared.kinds.BlockFields.{BlockFields}
 use Rattle.protocol.specs.Numbers.{pick}
 
@@ -17,30 +16,6 @@ module _ (P : Layout → Type 0) (tag : ℕ) where
 
   pub either : (k : ℕ) (a b : Layout) → P a → P b → P (pick (eqb tag k) a b)
   either k a b p q = pick_case P (eqb tag k) a b (λ e. p) (λ e. q)
-
--- the layout of a tag that a match has an arm for
-pub matched : {tag k : ℕ} {r : BlockFields} → tag ≡ k → r ≡ encoded (layout k) → r ≡ encoded (layout tag)
-matched e f = rw e f
-
--- and of one that it leaves to its last arm
-pub unmatched : (tag : ℕ) → (tag ≡ 0 → ⊥) → (tag ≡ 1 → ⊥) → (tag ≡ 4 → ⊥) → (tag ≡ 5 → ⊥) → (tag ≡ 6 → ⊥) → (tag ≡ 7 → ⊥) → (tag ≡ 8 → ⊥)
-    → (tag ≡ 9 → ⊥) → (tag ≡ 10 → ⊥) → (tag ≡ 11 → ⊥) → (tag ≡ 13 → ⊥) → (tag ≡ 127 → ⊥) → typed [] [] ≡ layout tag
-unfolding layout pick
-unmatched tag n0 n1 n4 n5 n6 n7 n8 n9 n10 n11 n13 n127 =
-    rw (
-      ne_eqb tag 0 n0,
-      ne_eqb tag 1 n1,
-      ne_eqb tag 4 n4,
-      ne_eqb tag 5 n5,
-      ne_eqb tag 6 n6,
-      ne_eqb tag 7 n7,
-      ne_eqb tag 8 n8,
-      ne_eqb tag 9 n9,
-      ne_eqb tag 10 n10,
-      ne_eqb tag 11 n11,
-      ne_eqb tag 13 n13,
-      ne_eqb tag 127 n127,
-    )
 
 -- the runs of a layout name it
 record Spells (l : Layout) : Type 0 where

@@ -1,4 +1,6 @@
 // The kinds of fields, and the fields of each block: see Layouts. Numbers that rise with their class, so that a class is one test.
+#![tactic(auto, using(std::proofs::lemmas::Bool::Decides::nat_tests), unfolding(crate::specs::Layouts::padded, crate::specs::Layouts::layout, crate::specs::Layouts::known_tag, crate::specs::Layouts::valued, crate::specs::Layouts::object_type, protocol::specs::Numbers::pick))]
+
 ghost use Rattle.std.specs.Prelude.{◌≡◌};
 ghost use Rattle.descriptor_fields.specs.Layouts.{layout, encoded, typed_runs, simple_runs, known_tag, valued, object_type};
 
@@ -121,39 +123,31 @@ pub fn layout_of(tag: u32) -> BlockFields
 pub fn is_known(tag: u32) -> bool
     ensures { result ≡ known_tag tag }
 {
-    if tag <= constants::TAG_OUTPUT_SHAPE {
-        return true;
-    }
-    if tag < constants::TAG_SCALAR {
-        return false;
-    }
-    if tag <= constants::TAG_COMPOUND_TYPE {
-        return true;
-    }
-    if tag == constants::TAG_RECORD {
-        return true;
-    }
-    tag == constants::TAG_ANNOTATION
+    matches!(
+        tag,
+        constants::TAG_SET..=constants::TAG_OUTPUT_SHAPE
+            | constants::TAG_SCALAR..=constants::TAG_COMPOUND_TYPE
+            | constants::TAG_RECORD
+            | constants::TAG_ANNOTATION
+    )
 }
 
 // Whether a block has values (R3.2).
 pub fn has_values(tag: u32) -> bool
     ensures { result ≡ valued tag }
 {
-    match tag {
-        constants::TAG_OBJECT_TYPE => false,
-        constants::TAG_COMPOUND_TYPE => false,
-        constants::TAG_RECORD => false,
-        _ => true,
-    }
+    !matches!(
+        tag,
+        constants::TAG_OBJECT_TYPE | constants::TAG_COMPOUND_TYPE | constants::TAG_RECORD
+    )
 }
 
 // Whether a block is an object type or a compound type.
 pub fn is_object(tag: u32) -> bool
     ensures { result ≡ object_type tag }
 {
-    if tag == constants::TAG_OBJECT_TYPE {
-        return true;
-    }
-    tag == constants::TAG_COMPOUND_TYPE
+    matches!(
+        tag,
+        constants::TAG_OBJECT_TYPE | constants::TAG_COMPOUND_TYPE
+    )
 }

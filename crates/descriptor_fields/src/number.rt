@@ -1,9 +1,11 @@
 // Number fields: their sizes and their rules.
-ghost use Rattle.std.specs.Prelude.{◌≡◌, true, ◌+◌, ◌≤◌, ◌<◌, eqb, length};
-ghost use Rattle.descriptor_fields.specs.Fields.{width_of, number_at, extent, permits, number_fault, formatless, count_fault};
-ghost use Rattle.protocol.specs.Numbers.{pick};
+#![tactic(auto, using(std::proofs::lemmas::Bool::Decides::nat_tests, crate::proofs::Known::be_one), unfolding(crate::specs::Fields::width_of, crate::specs::Fields::number_at, crate::specs::Fields::extent, crate::specs::Fields::permits, crate::specs::Fields::number_fault, crate::specs::Fields::formatless, crate::specs::Fields::count_fault, protocol::specs::Numbers::pick))]
 
-use crate::{Draft, kinds};
+ghost use Rattle.std.specs.Prelude.{◌≡◌, ◌+◌, ◌≤◌, length};
+ghost use Rattle.descriptor_fields.specs.Fields.{width_of, number_at, extent, permits, number_fault, formatless, count_fault};
+
+use crate::{Field, kinds};
+use forms::fault::Fault;
 
 // The most items of a count, which is a number of a field.
 const MOST_ITEMS: u32 = constants::MOST_ITEMS as u32;
@@ -14,7 +16,7 @@ pub fn number_at(d: &[u8], code: u8, at: usize) -> u32
     ensures { result ≡ number_at d.now code at }
 {
     if code <= kinds::CARDINALITY {
-        return wire::be::join(0, 0, 0, d[at]);
+        return u32::from(d[at]);
     }
     if code <= kinds::BOUND {
         return wire::be::u32_at(d, at);
@@ -25,18 +27,20 @@ pub fn number_at(d: &[u8], code: u8, at: usize) -> u32
 // The bytes of a text, at least the four that say how many there are.
 fn text_extent(d: &[u8], at: usize) -> usize
     requires { at ≤ 65535 }
-    ensures { result ≡ extent d.now 2 at }
+    ensures value { result ≡ extent d.now 2 at }
+    ensures few { result ≤ 4294967299 }
 {
     if d.len() < at + 4 {
         return 4;
     }
-    4 + (wire::be::u32_at(d, at) as usize)
+    4 + wire::be::u32_at(d, at) as usize
 }
 
 // The bytes of a field.
 pub fn extent_of(d: &[u8], code: u8, at: usize) -> usize
     requires { at ≤ 65535 }
-    ensures { result ≡ extent d.now code at }
+    ensures value { result ≡ extent d.now code at }
+    ensures few { result ≤ 4294967299 }
 {
     if code == kinds::ID {
         return 16;
@@ -53,25 +57,13 @@ pub fn extent_of(d: &[u8], code: u8, at: usize) -> usize
     2
 }
 
-// Whether a number is one of the two operations of a compound type (R3.6).
-fn is_operation(v: u32) -> bool
-    ensures { result ≡ pick (eqb v 1) true (eqb v 2) }
-{
-    if v == 1 {
-        return true;
-    }
-    v == 2
-}
-
 // Whether a number is one that its field permits.
 fn is_permitted(code: u8, v: u32) -> bool
     ensures { result ≡ permits code v }
 {
-    if code <= kinds::FREE {
-        return v <= 1;
-    }
     match code {
-        kinds::OPERATION => is_operation(v),
+        0..=kinds::FREE => v <= 1,
+        kinds::OPERATION => v == 1 || v == 2,
         kinds::CARDINALITY => wire::words::is_cardinality(v),
         kinds::SHAPE_FLAGS => v < 8,
         kinds::INPUT_FLAGS => v == 0,
@@ -81,38 +73,31 @@ fn is_permitted(code: u8, v: u32) -> bool
 }
 
 // 12: a number that its field does not permit.
-pub fn fault(code: u8, v: u32) -> u32
+pub fn check(code: u8, v: u32) -> Result<(), Fault>
     ensures { result ≡ number_fault code v }
 {
     if is_permitted(code, v) {
-        return 0;
+        return Ok(());
     }
-    constants::BAD_CONTENT
+    Err(Fault::BAD_CONTENT)
 }
 
 // Whether the block is a scalar whose format is yet to come.
-pub fn is_formatless(tag: u32, x: Draft) -> bool
-    ensures { result ≡ formatless tag x }
+pub fn is_formatless(field: Field) -> bool
+    ensures { result ≡ formatless field.tag field.x }
 {
-    if tag == constants::TAG_SCALAR {
-        return x.format == crate::NO_FORMAT;
-    }
-    false
+    field.tag == constants::TAG_SCALAR && field.x.format.is_none()
 }
 
 // 17: more than 512 items. 12: no ancestor for a scalar whose own id is not known.
-pub fn count_fault(tag: u32, code: u8, x: Draft, v: u32) -> u32
-    ensures { result ≡ count_fault tag code x v }
+pub fn check_count(field: Field, v: u32) -> Result<(), Fault>
+    ensures { result ≡ count_fault field.tag field.code field.x v }
 {
     if MOST_ITEMS < v {
-        return constants::DESCRIPTOR_SIZE;
+        return Err(Fault::DESCRIPTOR_SIZE);
     }
-    if code == kinds::ANCESTORS {
-        if v == 0 {
-            if is_formatless(tag, x) {
-                return constants::BAD_CONTENT;
-            }
-        }
+    if field.code == kinds::ANCESTORS && v == 0 && is_formatless(field) {
+        return Err(Fault::BAD_CONTENT);
     }
-    0
+    Ok(())
 }

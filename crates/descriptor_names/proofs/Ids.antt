@@ -3,16 +3,18 @@ use mathlib.Core.Path.{◌≡◌, ap, sym, ◌∙◌}
 use mathlib.Core.Logic.{⊎_elim}
 use mathlib.Core.Bool.{false}
 use mathlib.Core.List.{List}
-use Prim.Native.Nat.{ℕ, zero, suc, ◌+◌, ◌-◌, ◌*◌, ◌^◌, ◌≤◌, ◌<◌}
+use Prim.Native.Nat.{ℕ, zero, suc, ◌+◌, ◌*◌, ◌^◌, ◌≤◌, ◌<◌}
 use native.Mathlib.Omega.{arith}
 use native.Mathlib.Nat.{add-zero, add-suc, pow-zero, pow-suc}
 use lib.Dec.{eqb, lit<}
 use lib.ListN.{length, take, drop, get_or}
-use borrow.Author.Tests.{eq-eqb, ne_eqb, lt-ltb, le-ltb}
+use borrow.Author.Tests.{eq-eqb, ne_eqb}
 use Rattle.wire.proofs.Numbers.{be_none, be_more, be_below}
-use Rattle.wire.proofs.Picks.{pick_yes, pick_no, same_or_not}
+use Rattle.wire.proofs.Picks.{same_or_not}
 use Rattle.descriptor_fields.specs.Fields.{id_at, format_of}
-use Rattle.protocol.specs.Numbers.{be}
+use Rattle.protocol.specs.Numbers.{pick, be}
+use Rattle.std.specs.Prelude.{None}
+use Rattle.std.proofs.lemmas.Bool.Decides.{nat_tests}
 
 -- a number of more bytes, over how many more
 be_split : (s : List ℕ) (at n m : ℕ) → at + n + m ≤ length s → be (take (n + m) (drop at s)) ≡ be (take n (drop at s)) * 256 ^ m + be (take m (drop (at + n) s))
@@ -78,28 +80,6 @@ module _ (s t : List ℕ) (a b : ℕ) (bs : (i : ℕ) → get_or s i 0 < 256) (b
 
 -- ---- the format of an id
 
-pub format_big : (i : ℕ) → 0x130 < i → format_of i ≡ 20
-unfolding format_of
-format_big i h =
-    let a : 0x100 ≤ i = omega arith in
-    let b : 0x113 ≤ i = omega arith in
-    pick_no _ _ _ (le-ltb _ _ a) ∙ pick_no _ _ _ (le-ltb _ _ b) ∙ pick_no _ _ _ (ne_eqb _ _ (λ (e : i ≡ 0x130). omega arith))
-
-module _ (i : ℕ) where
-  pub format_low : i < 0x100 → format_of i ≡ 20
-  unfolding format_of
-  format_low l = pick_yes _ _ _ (lt-ltb _ _ l)
-
-  module _ (h : 0x100 ≤ i) where
-    pub format_row : i < 0x113 → format_of i ≡ i - 0x100
-    unfolding format_of
-    format_row l = pick_no _ _ _ (le-ltb _ _ h) ∙ pick_yes _ _ _ (lt-ltb _ _ l)
-
-    module _ (g : 0x113 ≤ i) where
-      pub format_memory : i ≡ 0x130 → format_of i ≡ 19
-      unfolding format_of
-      format_memory e = pick_no _ _ _ (le-ltb _ _ h) ∙ pick_no _ _ _ (le-ltb _ _ g) ∙ pick_yes _ _ _ (eq-eqb _ _ e)
-
-      pub format_none : (i ≡ 0x130 → ⊥) → format_of i ≡ 20
-      unfolding format_of
-      format_none n = pick_no _ _ _ (le-ltb _ _ h) ∙ pick_no _ _ _ (le-ltb _ _ g) ∙ pick_no _ _ _ (ne_eqb _ _ n)
+pub format_big : (i : ℕ) → 0x130 < i → format_of i ≡ None
+unfolding format_of pick
+format_big i h = grind (arith, nat_tests)

@@ -1,9 +1,11 @@
 -- The content of texts, and runs of bytes that are the same.
-use mathlib.Core.Path.{◌≡◌, refl, ap, sym, ◌∙◌}
+use mathlib.Core.Path.{◌≡◌, refl, ap, sym}
 use mathlib.Core.Bool.{Bool, true, false, ◌&&◌}
 use mathlib.Core.List.{List, [], ◌∷◌}
 use Prim.Native.Nat.{ℕ, zero, suc, ◌+◌, ◌-◌, ◌≤◌, ◌<◌}
 use native.Mathlib.Omega.{arith}
+use Rattle.std.specs.Prelude.{min}
+use Rattle.std.proofs.lemmas.List.{take_min}
 use native.Mathlib.Numerals.{add-one}
 use lib.Dec.{eqb}
 use lib.ListN.{length, take, drop, get_or, length-drop, drop_of_length-le}
@@ -17,18 +19,13 @@ module _ (d : List ℕ) (at : ℕ) where
   unfolding text_at
   text_none h = rw (drop_of_length-le d {i = at + 4} (omega arith)) (sym (take-nil (be (take 4 (drop at d)))))
 
-  -- what is there of a text that is not whole
-  pub text_rest : (size : ℕ) → at + 4 ≤ length d → size ≡ be (take 4 (drop at d)) → length d - (at + 4) < size → take (length d - (at + 4)) (drop (at + 4) d) ≡ text_at d at
+  -- as much of it as is there
+  pub text_cut : (size m : ℕ) → size ≡ be (take 4 (drop at d)) → m ≡ min size (length (take (length d - (at + 4)) (drop (at + 4) d)))
+      → take m (take (length d - (at + 4)) (drop (at + 4) d)) ≡ text_at d at
   unfolding text_at
-  text_rest size h e l =
+  text_cut size m e f =
       let n : length (drop (at + 4) d) ≡ length d - (at + 4) = length-drop (at + 4) d in
-      take_all (length d - (at + 4)) (drop (at + 4) d) (omega arith) ∙ sym (take_all (be (take 4 (drop at d))) (drop (at + 4) d) (omega arith))
-
-  pub text_whole : (size : ℕ) → size ≡ be (take 4 (drop at d)) → take (at + 4 + size - (at + 4)) (drop (at + 4) d) ≡ text_at d at
-  unfolding text_at
-  text_whole size e =
-      let n : at + 4 + size - (at + 4) ≡ be (take 4 (drop at d)) = omega arith in
-      ap (λ (k : ℕ). take k (drop (at + 4) d)) n
+      rw (f, take_min size (take (length d - (at + 4)) (drop (at + 4) d)), take_all (length d - (at + 4)) (drop (at + 4) d) (omega arith), e)
 
 -- ---- runs of bytes
 

@@ -1,10 +1,13 @@
 // Texts, and the names of elements.
+#![tactic(auto, using(std::proofs::lemmas::Bool::Decides::nat_tests), unfolding(descriptor_fields::specs::Fields::text_fault, protocol::specs::Numbers::pick))]
+
 ghost use Rattle.std.specs.Prelude.{◌≡◌, ◌+◌, ◌*◌, ◌^◌, ◌≤◌, ◌<◌, length};
 ghost use Rattle.descriptor_fields.specs.Fields.{text_at, named, text_fault};
 ghost use Rattle.descriptor_fields.specs.Arrays.{elements_of};
 ghost use Rattle.protocol.specs.Numbers.{same_bytes};
 
 use descriptor_fields::kinds;
+use forms::fault::Fault;
 use wire::words::wide;
 
 // The content of the text at a place; of one that is not whole, what is there.
@@ -15,16 +18,13 @@ pub fn content(d: &[u8], at: usize) -> &[u8]
     if d.len() < at + 4 {
         return &d[0..0];
     }
-    let from = at + 4;
+    let rest = &d[at + 4..];
     let size = wire::be::u32_at(d, at) as usize;
-    if d.len() - from < size {
-        return &d[from..];
-    }
-    let end = from + size;
-    &d[from..end]
+    &rest[..size.min(rest.len())]
 }
 
-// Whether two runs of bytes are the same. The loop has no early end, so that it becomes one over vectors.
+// Whether two runs of bytes are the same.
+// Kept for speed: the loop has no early end, so that it becomes one over vectors.
 fn same_bytes(a: &[u8], b: &[u8]) -> bool
     ensures { result ≡ same_bytes a.now b.now }
 {
@@ -32,10 +32,8 @@ fn same_bytes(a: &[u8], b: &[u8]) -> bool
         return false;
     }
     let mut same = true;
-    let mut i: usize = 0;
-    while i < a.len() {
+    for i in 0..a.len() {
         same = same & (a[i] == b[i]);
-        i += 1;
     }
     same
 }
@@ -49,10 +47,8 @@ fn same_name(a: &[u8], b: &[u8]) -> bool
     if n != b.len() {
         return false;
     }
-    if 0 < n {
-        if a[n - 1] != b[n - 1] {
-            return false;
-        }
+    if 0 < n && a[n - 1] != b[n - 1] {
+        return false;
     }
     same_bytes(a, b)
 }
@@ -63,30 +59,24 @@ fn is_named(d: &[u8], elements: &[u32], n: usize, at: usize) -> bool
     ensures { result ≡ named d.now (elements_of elements.now n) at }
 {
     let name = content(d, at);
-    let mut i: usize = 0;
-    while i < n {
-        let other = content(d, wide(elements[3 * i]));
-        if same_name(other, name) {
+    for i in 0..n {
+        if same_name(content(d, wide(elements[3 * i])), name) {
             return true;
         }
-        i += 1;
     }
     false
 }
 
 // 12: a text that is not well formed. 16: a name that an element before it has.
-pub fn fault(d: &[u8], elements: &[u32], n: usize, code: u8, at: usize) -> u32
+pub fn check(d: &[u8], elements: &[u32], n: usize, code: u8, at: usize) -> Result<(), Fault>
     requires { (length d.now ≤ 65535) × (at ≤ length d.now) × (n ≤ 512) × (3 * n ≤ length elements.now) }
     ensures { result ≡ text_fault d.now (elements_of elements.now n) code at }
 {
-    let text = content(d, at);
-    if !wire::text::is_utf8(text) {
-        return constants::BAD_CONTENT;
+    if !wire::text::is_utf8(content(d, at)) {
+        return Err(Fault::BAD_CONTENT);
     }
-    if code == kinds::NAME {
-        if is_named(d, elements, n, at) {
-            return constants::NAME_TWICE;
-        }
+    if code == kinds::NAME && is_named(d, elements, n, at) {
+        return Err(Fault::NAME_TWICE);
     }
-    0
+    Ok(())
 }

@@ -19,7 +19,7 @@ use Rattle.descriptor_fields.specs.Arrays.{tab, known_at, known_of, element_at, 
 use Rattle.descriptor_fields.proofs.Tabs.{tab_length, tab_get}
 use Rattle.descriptor_fields.proofs.Known.{known_get, known_beyond}
 use Rattle.descriptor_blocks.proofs.Elements.{no_element}
-use Rattle.descriptor_nodes.specs.Nodes.{Puts, single_kind, single_words, many_words}
+use Rattle.descriptor_nodes.specs.Nodes.{Puts, single_kind, single_words, many_kind, many_words}
 use Rattle.protocol.specs.Numbers.{pick}
 use Rattle.protocol.specs.Nodes.{row, arrays, tuple, object, sparse, rename}
 use Rattle.protocol.specs.Compiling.{ref_cards, node_as_words}
@@ -217,7 +217,7 @@ module _ (known : List Known) (tag : ℕ) where
     -- an object or a tuple
     words_many : valued tag ≡ true → (tag ≡ 3 → ⊥) → (tag ≡ 7 → ⊥) → ((tag ≡ 0) ⊎ ((tag ≡ 6) ⊎ (tag ≡ 9)) → ⊥)
         → words_of known tag format es ≡ many_words known tag es
-    unfolding words_of node_of rename node_as_words many_words pick
+    unfolding words_of node_of rename node_as_words many_words many_kind pick
     words_many v n3 n7 single =
         rw (
           v,
@@ -237,7 +237,7 @@ module _ (known : List Known) (tag : ℕ) where
 
         go : (s t : Bool)
             → node_as_words (rename (node_at known) (pick s (object (refs es) (cards es)) (pick t (sparse (refs es) (cards es)) (tuple (refs es)))))
-            ≡ pick s (5 ∷ length es ∷ ref_cards rs (cards es)) (pick t (6 ∷ length es ∷ ref_cards rs (cards es)) (4 ∷ length es ∷ rs))
+            ≡ pick s 5 (pick t 6 4) ∷ length es ∷ pick (eqb (pick s 5 (pick t 6 4)) 4) rs (ref_cards rs (cards es))
         go true t = ap (λ (n : ℕ). 5 ∷ n ∷ ref_cards rs (cards es)) count
         go false true = ap (λ (n : ℕ). 6 ∷ n ∷ ref_cards rs (cards es)) count
         go false false = ap (λ (n : ℕ). 4 ∷ n ∷ rs) count
@@ -268,27 +268,19 @@ module _ (known : List Known) (tag : ℕ) where
     sized : (k : ℕ) (ws : List ℕ) → k ∷ length (elements_of a n) ∷ ws ≡ k ∷ n ∷ ws
     sized k ws = ap (λ (m : ℕ). k ∷ m ∷ ws) (tab_length (element_at a) n)
 
-    paired : (ws : List ℕ) (k : ℕ) → ws ≡ k ∷ length (elements_of a n) ∷ pairs_to (node_at known) a n → l₁ ≡ sets l to (k ∷ n ∷ []) → l₂ ≡ sets l₁ (to + 2) (pairs_to (node_at known) a n)
-        → Puts ws to (to + 2 + 2 * n) l l₂
-    paired ws k e p q =
-        headed ws (pairs_to (node_at known) a n) l l₁ l₂ to (to + 2 + 2 * n) k n (e ∙ sized k (pairs_to (node_at known) a n)) p q
-        (omega (arith, pairs_count (node_at known) a n))
-
-    pub put_object : tag ≡ 1 → l₁ ≡ sets l to (5 ∷ n ∷ []) → l₂ ≡ sets l₁ (to + 2) (pairs_to (node_at known) a n)
-        → Puts (many_words known tag (elements_of a n)) to (to + 2 + 2 * n) l l₂
-    unfolding many_words
-    put_object e p q = paired _ 5 (pick_yes _ _ _ (eq-eqb _ _ e)) p q
-
-    module _ (not-object : tag ≡ 1 → ⊥) where
-      pub put_sparse : tag ≡ 8 → l₁ ≡ sets l to (6 ∷ n ∷ []) → l₂ ≡ sets l₁ (to + 2) (pairs_to (node_at known) a n)
-          → Puts (many_words known tag (elements_of a n)) to (to + 2 + 2 * n) l l₂
+    module _ (k : ℕ) (kind : k ≡ many_kind tag) (p : l₁ ≡ sets l to (k ∷ n ∷ [])) where
+      pub put_tuple : k ≡ 4 → l₂ ≡ sets l₁ (to + 2) (refs_to (node_at known) a n) → Puts (many_words known tag (elements_of a n)) to (to + 2 + n) l l₂
       unfolding many_words
-      put_sparse e p q = paired _ 6 (pick_no _ _ _ (ne_eqb _ _ not-object) ∙ pick_yes _ _ _ (eq-eqb _ _ e)) p q
+      put_tuple e q =
+          headed _ (refs_to (node_at known) a n) l l₁ l₂ to (to + 2 + n) k n
+          (ap (λ (j : ℕ). j ∷ length (elements_of a n) ∷ pick (eqb j 4) (refs_to (node_at known) a n) (pairs_to (node_at known) a n)) (sym kind)
+          ∙ sized k _ ∙ ap (λ (ws : List ℕ). k ∷ n ∷ ws) (pick_yes _ _ _ (eq-eqb _ _ e)))
+          p q (omega (arith, refs_length (node_at known) a n))
 
-      pub put_tuple : (tag ≡ 8 → ⊥) → l₁ ≡ sets l to (4 ∷ n ∷ []) → l₂ ≡ sets l₁ (to + 2) (refs_to (node_at known) a n)
-          → Puts (many_words known tag (elements_of a n)) to (to + 2 + n) l l₂
+      pub put_object : (k ≡ 4 → ⊥) → l₂ ≡ sets l₁ (to + 2) (pairs_to (node_at known) a n) → Puts (many_words known tag (elements_of a n)) to (to + 2 + 2 * n) l l₂
       unfolding many_words
-      put_tuple e p q =
-          headed _ (refs_to (node_at known) a n) l l₁ l₂ to (to + 2 + n) 4 n
-          (pick_no _ _ _ (ne_eqb _ _ not-object) ∙ pick_no _ _ _ (ne_eqb _ _ e) ∙ sized 4 (refs_to (node_at known) a n)) p q
-          (omega (arith, refs_length (node_at known) a n))
+      put_object e q =
+          headed _ (pairs_to (node_at known) a n) l l₁ l₂ to (to + 2 + 2 * n) k n
+          (ap (λ (j : ℕ). j ∷ length (elements_of a n) ∷ pick (eqb j 4) (refs_to (node_at known) a n) (pairs_to (node_at known) a n)) (sym kind)
+          ∙ sized k _ ∙ ap (λ (ws : List ℕ). k ∷ n ∷ ws) (pick_no _ _ _ (ne_eqb _ _ e)))
+          p q (omega (arith, pairs_count (node_at known) a n))

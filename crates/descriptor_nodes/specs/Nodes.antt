@@ -19,8 +19,11 @@ single_kind known tag r =
 unfoldable pub single_words : List Known → ℕ → ℕ → List ℕ
 single_words known tag r = single_kind known tag r ∷ node_at known r ∷ []
 
--- an object or a tuple
+-- an object or a tuple: its kind, the number of its elements, and their references, of an object with their cardinalities
+unfoldable pub many_kind : ℕ → ℕ
+many_kind tag = pick (eqb tag 1) 5 (pick (eqb tag 8) 6 4)
+
 unfoldable pub many_words : List Known → ℕ → List Element → List ℕ
 many_words known tag es =
-    pick (eqb tag 1) (5 ∷ length es ∷ ref_cards (map (node_at known) (refs es)) (cards es))
-    (pick (eqb tag 8) (6 ∷ length es ∷ ref_cards (map (node_at known) (refs es)) (cards es)) (4 ∷ length es ∷ map (node_at known) (refs es)))
+    many_kind tag ∷ length es
+    ∷ pick (eqb (many_kind tag) 4) (map (node_at known) (refs es)) (ref_cards (map (node_at known) (refs es)) (cards es))

@@ -13,15 +13,15 @@ use borrow.Author.Tests.{eq-eqb, ne_eqb, le-leb, lt-leb, leb-false}
 use Rattle.wire.proofs.Stores.{sets_append}
 use Rattle.wire.proofs.Picks.{pick_yes, pick_no, pick_split, pick_case}
 use Rattle.descriptor_fields.specs.Layouts.{known_tag, indexed, valued}
-use Rattle.descriptor_fields.specs.Fields.{Known, no_block, Element}
+use Rattle.descriptor_fields.specs.Fields.{Known, no_block, Element, fine, format_number}
 use Rattle.descriptor_blocks.specs.Blocks.{Item, Reading, stop, next, block_from}
 use Rattle.descriptor_blocks.specs.Descriptor.{refs, cards, only_ref, node_of, node_at, Block, summary, summaries, all_words}
 use Rattle.descriptor_blocks.specs.Descriptor.{words_of, block_of, faulty, extended, full, onward, blocks_from, blocks_of}
 use Rattle.descriptor_fields.specs.Arrays.{tab, Told, known_of, known_at, element_at, elements_of}
 use Rattle.descriptor_blocks.specs.Walks.{stopped, moved, led, walk_of, Inside}
 use Rattle.descriptor_fields.specs.declared.Draft.{Draft}
-use Rattle.descriptor_blocks.specs.declared.Part.{Part}
-use Rattle.descriptor_blocks.specs.declared.Part.TheVariants.{Fault, Next}
+use Rattle.std.specs.Prelude.{Result, Ok, Err}
+use Rattle.forms.specs.declared.fault.Refusal.{Refusal}
 use Rattle.descriptor_fields.proofs.Tabs.{tab_length}
 use Rattle.descriptor_blocks.proofs.Sound.{block_sound, height_most}
 use Rattle.descriptor_blocks.proofs.Progress.{block_past}
@@ -30,8 +30,7 @@ use Rattle.descriptor_blocks.proofs.IdFirst.{id_whole}
 use Rattle.descriptor_blocks.proofs.Loops.{is_inside}
 use Rattle.descriptor_nodes.specs.Nodes.{Puts}
 use Rattle.descriptor_nodes.proofs.NodeWords.{pairs_length}
-use Rattle.descriptor_scan.specs.Scan.{fault_of, tag_fault, Kept, Adds, Scans}
-use Rattle.descriptor_scan.specs.declared.Scan.TheVariants.{Refused, Done}
+use Rattle.descriptor_scan.specs.Scan.{tag_check, Kept, Adds, Scans}
 use Rattle.protocol.specs.Numbers.{pick}
 use Rattle.protocol.specs.Nodes.{Node, leaf, enum, row, arrays, tuple, object, sparse, range, rename}
 use Rattle.protocol.specs.Compiling.{ref_cards, node_as_words}
@@ -50,13 +49,13 @@ came_from (next y fs js) x es e =
     let b : es ≡ fs = cc in
     (js, cc)
 
-pub came : (p : Part) (a : List ℕ) (r : Reading) → walk_of p a ≡ led r → (x : Draft) → p ≡ Next x → Came r x a
+pub came : (p : Result Draft ℕ) (a : List ℕ) (r : Reading) → walk_of p a ≡ led r → (x : Draft) → p ≡ Ok x → Came r x a
 unfolding walk_of
-came p a r e x q = let f = came_from r x (elements_of a x.count) (ap (λ (t : Part). walk_of t a) (sym q) ∙ e) in record { items = f.0; is = f.1 }
+came p a r e x q = let f = came_from r x (elements_of a x.count) (ap (λ (t : Result Draft ℕ). walk_of t a) (sym q) ∙ e) in record { items = f.0; is = f.1 }
 
-pub went_wrong : (p : Part) (a : List ℕ) (r : Reading) → walk_of p a ≡ led r → (n : ℕ) → p ≡ Fault n → r ≡ stop n
+pub went_wrong : (p : Result Draft ℕ) (a : List ℕ) (r : Reading) → walk_of p a ≡ led r → (n : ℕ) → p ≡ Err n → r ≡ stop n
 unfolding walk_of led
-went_wrong p a r e n q = go r (ap (λ (t : Part). walk_of t a) (sym q) ∙ e)
+went_wrong p a r e n q = go r (ap (λ (t : Result Draft ℕ). walk_of t a) (sym q) ∙ e)
   where
     go : (t : Reading) → stopped n ≡ led t → t ≡ stop n
     go (stop m) f = cc
@@ -133,7 +132,7 @@ words_most known tag f es =
     (λ _. pick_case P (eqb tag 9) _ _ (λ _. few_range ρ es (only_ref es)) (λ _. few_tuple ρ es))))))))
     (λ _. omega arith)
 
-pub read_inside : (p : Part) (x : Draft) (end : ℕ) → p ≡ Next x → Inside end 512 p → x.count ≤ 512
+pub read_inside : (p : Result Draft ℕ) (x : Draft) (end : ℕ) → p ≡ Ok x → Inside end 512 p → x.count ≤ 512
 unfolding Inside
 read_inside p x end q i = let f = is_inside p x end 512 q i in f.2
 
@@ -141,7 +140,7 @@ read_inside p x end q i = let f = is_inside p x end 512 q i in f.2
 
 pub adds : (d known known' plan plan' : List ℕ) (n at to r : ℕ) (x : Draft) (es : List Element) {tag : ℕ} → tag ≡ get_or d at 0 → Told d known' (n + 1)
     → known_of d known' (n + 1) ≡ known_of d known n ++ (record { start = at; tag = get_or d at 0; height = x.height; node = to } ∷ [])
-    → Puts (words_of (known_of d known n) tag x.format es) to r plan plan' → Adds d n at x es to r known known' plan plan'
+    → Puts (words_of (known_of d known n) tag (format_number x.format) es) to r plan plan' → Adds d n at x es to r known known' plan plan'
 adds d known known' plan plan' n at to r x es t told same puts = record { told = told; same = same; puts = rw t at puts }
 
 -- ---- the loop
@@ -180,7 +179,7 @@ module _ (d plan₀ known plan : List ℕ) (n at to : ℕ) (g : Scanning d plan�
   many : n ≡ length bs
   many = sym (tab_length (known_at d known) n) ∙ ap length g.kept.same ∙ length-map bs summary
 
-  pub scanning_end : length d ≤ at → Scans d (blocks_of d) (Done n to) known plan₀ plan
+  pub scanning_end : length d ≤ at → Scans d (blocks_of d) (Ok (record { count = n; end = to })) known plan₀ plan
   unfolding blocks_from Scans
   scanning_end h = rw (g.same ∙ pick_yes _ _ _ (le-leb _ _ h)) (g.kept, g.words)
 
@@ -198,43 +197,51 @@ module _ (d plan₀ known plan : List ℕ) (n at to : ℕ) (g : Scanning d plan�
     unfolding full
     full_is = rw (← many) refl
 
-    pub scanning_tag : (m : ℕ) → m ≡ tag_fault tag n → (m ≡ 0 → ⊥) → Scans d (blocks_of d) (Refused m at) known plan₀ plan
-    unfolding tag_fault Scans
-    scanning_tag m e z = go (known_tag tag) refl (full bs tag) refl
+    pub scanning_tag : (m : ℕ) → Err m ≡ tag_check tag n → Scans d (blocks_of d) (Err (record { fault = m; place = at })) known plan₀ plan
+    unfolding tag_check Scans
+    scanning_tag m e = go (known_tag tag) refl (full bs tag) refl
       where
-        go : (k : Bool) → known_tag tag ≡ k → (f : Bool) → full bs tag ≡ f → Scans d (blocks_of d) (Refused m at) known plan₀ plan
-        go false a f b = rw (tagged ∙ pick_no _ _ _ a) (e ∙ pick_no _ _ _ a, refl)
-        go true a true b = rw (tagged ∙ pick_yes _ _ _ a ∙ pick_yes _ _ _ b) (e ∙ pick_yes _ _ _ a ∙ pick_yes _ _ _ (sym full_is ∙ b), refl)
-        go true a false b = absurd (z (e ∙ pick_yes _ _ _ a ∙ pick_no _ _ _ (sym full_is ∙ b)))
+        go : (k : Bool) → known_tag tag ≡ k → (f : Bool) → full bs tag ≡ f → Scans d (blocks_of d) (Err (record { fault = m; place = at })) known plan₀ plan
+        go false a f b =
+            let g = e ∙ pick_no _ _ _ a in
+            rw (tagged ∙ pick_no _ _ _ a) (let h : m ≡ 11 = cc in (h, refl))
+        go true a true b =
+            let g = e ∙ pick_yes _ _ _ a ∙ pick_yes _ _ _ (sym full_is ∙ b) in
+            rw (tagged ∙ pick_yes _ _ _ a ∙ pick_yes _ _ _ b) (let h : m ≡ 17 = cc in (h, refl))
+        go true a false b =
+            let g = e ∙ pick_yes _ _ _ a ∙ pick_no _ _ _ (sym full_is ∙ b) in
+            let z : ◌≡◌ {A = ℕ} 0 1 = cc in absurd (omega arith)
 
-    module _ (f : tag_fault tag n ≡ 0) where
-      fine : (known_tag tag ≡ true) × (pick (indexed tag) (leb 1024 n) false ≡ false)
-      unfolding tag_fault
-      fine =
-          ⊎_elim
-          (λ p. (p.0, ⊎_elim (λ q. let z : 17 ≡ 0 = q.1 in absurd (omega arith)) (λ q. q.0) (pick_split _ _ _ _ p.1)))
-          (λ p. let z : 11 ≡ 0 = p.1 in absurd (omega arith))
-          (pick_split (known_tag tag) _ _ _ f)
+    module _ (f : fine ≡ tag_check tag n) where
+      passed : (known_tag tag ≡ true) × (pick (indexed tag) (leb 1024 n) false ≡ false)
+      unfolding tag_check
+      passed = go (known_tag tag) refl (pick (indexed tag) (leb 1024 n) false) refl
+        where
+          go : (k : Bool) → known_tag tag ≡ k → (b : Bool) → pick (indexed tag) (leb 1024 n) false ≡ b
+              → (known_tag tag ≡ true) × (pick (indexed tag) (leb 1024 n) false ≡ false)
+          go false a b e = let g = f ∙ pick_no _ _ _ a in let z : ◌≡◌ {A = ℕ} 0 1 = cc in absurd (omega arith)
+          go true a true e = let g = f ∙ pick_yes _ _ _ a ∙ pick_yes _ _ _ e in let z : ◌≡◌ {A = ℕ} 0 1 = cc in absurd (omega arith)
+          go true a false e = (a, e)
 
       read_on : blocks_of d ≡ onward at (block_from d (summaries bs) tag (at + 1)) (λ x es is. blocks_from d (length d) x.at (extended bs at tag x es is))
-      read_on = tagged ∙ pick_yes _ _ _ fine.0 ∙ pick_no _ _ _ (full_is ∙ fine.1)
+      read_on = tagged ∙ pick_yes _ _ _ passed.0 ∙ pick_no _ _ _ (full_is ∙ passed.1)
 
-      module _ (p : Part) (a : List ℕ) (e : walk_of p a ≡ led (block_from d (known_of d known n) tag (at + 1))) where
+      module _ (p : Result Draft ℕ) (a : List ℕ) (e : walk_of p a ≡ led (block_from d (known_of d known n) tag (at + 1))) where
         reading : walk_of p a ≡ led (block_from d (summaries bs) tag (at + 1))
         reading = rw g.kept.same at e
 
-        pub scanning_halt : (m : ℕ) → p ≡ Fault m → (k : ℕ) → k ≡ fault_of p → Scans d (blocks_of d) (Refused k at) known plan₀ plan
-        unfolding Scans onward fault_of
-        scanning_halt m q k w =
+        pub scanning_halt : (m : ℕ) → p ≡ Err m → Scans d (blocks_of d) (Err (record { fault = m; place = at })) known plan₀ plan
+        unfolding Scans onward
+        scanning_halt m q =
             rw (read_on ∙ ap (λ (r : Reading). onward at r (λ x es is. blocks_from d (length d) x.at (extended bs at tag x es is))) (went_wrong p a _ reading m q))
-            (w ∙ ap fault_of q, refl)
+            (refl, refl)
 
-        module _ (x : Draft) (q : p ≡ Next x) where
+        module _ (x : Draft) (q : p ≡ Ok x) where
           got : Came (block_from d (summaries bs) tag (at + 1)) x a
           got = came p a (block_from d (summaries bs) tag (at + 1)) reading x q
 
           past : (at + 1 < x.at) × (x.at ≤ length d)
-          past = block_past d (summaries bs) tag fine.0 (at + 1) (omega arith) x (elements_of a x.count) got.items got.is
+          past = block_past d (summaries bs) tag passed.0 (at + 1) (omega arith) x (elements_of a x.count) got.items got.is
 
           pub scanning_past : at < x.at
           scanning_past = omega (arith, past.0)
@@ -267,19 +274,19 @@ module _ (d plan₀ known plan : List ℕ) (n at to : ℕ) (g : Scanning d plan�
             counted = pick_no _ _ _ (ne_eqb _ _ s)
 
             pub scanning_few : n < 1024
-            scanning_few = leb-false _ _ (sym (pick_yes _ _ _ counted) ∙ fine.1)
+            scanning_few = leb-false _ _ (sym (pick_yes _ _ _ counted) ∙ passed.1)
 
             pub scanning_id : at + 17 ≤ length d
             scanning_id = let w = id_whole d (summaries bs) tag (at + 1) s x (elements_of a x.count) got.items got.is in omega arith
 
             pub scanning_height : x.height ≤ 32
-            scanning_height = height_most (summaries bs) tag x (elements_of a x.count) (block_sound d (summaries bs) tag (at + 1) fine.0 x (elements_of a x.count) got.items got.is)
+            scanning_height = height_most (summaries bs) tag x (elements_of a x.count) (block_sound d (summaries bs) tag (at + 1) passed.0 x (elements_of a x.count) got.items got.is)
 
             module _ (known' plan' : List ℕ) (r : ℕ) (w : Adds d n at x (elements_of a x.count) to r known known' plan plan') (c : x.count ≤ 512) where
               abbrev b : Block
               b = block_of bs at tag x (elements_of a x.count) got.items
 
-              words_is : words_of (known_of d known n) (get_or d at 0) x.format (elements_of a x.count) ≡ b.words
+              words_is : words_of (known_of d known n) (get_or d at 0) (format_number x.format) (elements_of a x.count) ≡ b.words
               unfolding block_of
               words_is = rw (← t, g.kept.same) refl
 
@@ -307,7 +314,7 @@ module _ (d plan₀ known plan : List ℕ) (n at to : ℕ) (g : Scanning d plan�
                           told = w.told;
                           same = w.same ∙ ap₂ (λ (ks : List Known) (k : Known). ks ++ (k ∷ [])) g.kept.same last ∙ sym (summaries_snoc bs b);
                           end = omega (arith, ends, g.kept.end, total);
-                          most = omega (arith, ends, g.kept.most, words_most (summaries bs) tag x.format (elements_of a x.count), tab_length (element_at a) x.count);
+                          most = omega (arith, ends, g.kept.most, words_most (summaries bs) tag (format_number x.format) (elements_of a x.count), tab_length (element_at a) x.count);
                         };
                     words =
                         w.puts.words ∙ ap₂ (λ (l ws : List ℕ). sets l to ws) g.words words_is

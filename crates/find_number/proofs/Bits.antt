@@ -1,6 +1,6 @@
 -- The laws of an element's bits.
 use mathlib.Core.Path.{◌≡◌, refl, ap, sym, ◌∙◌}
-use mathlib.Core.Bool.{true, false, not, cond}
+use mathlib.Core.Bool.{Bool, true, false, not, cond}
 use mathlib.Core.List.{List, [], ◌∷◌}
 use mathlib.Core.Logic.{inl, inr, ⊎_elim}
 use Prim.Native.Nat.{ℕ, zero, suc, ◌+◌, ◌-◌, ◌*◌, ◌^◌, ◌%◌, ◌<◌, ◌≤◌}
@@ -10,12 +10,16 @@ use lib.ListN.{length, take, drop, get_or}
 use lib.Seq.{take_all}
 use lib.Ieee.{Format, binary32, binary64, ones, hid, top, of_bits, to_bits, nan_bits}
 use lib.Ieee.Bits.{of_bits-fits, to_bits-of_bits, nan_bits_is, nan_bits_above}
-use borrow.Author.Tests.{le-ltb, lt-ltb, eqb-true, ltb-true, ne_eqb}
+use borrow.Author.Tests.{le-ltb, lt-ltb, eqb-true, ltb-true, ltb-false, ne_eqb}
+use Rattle.std.specs.Prelude.{Result, Ok, Err}
+use mir.Syntax.{w16, w32, w64}
+use mir.Val.{to_z, of_z}
+use Rattle.forms.specs.declared.fault.Refusal.{Refusal}
 use Rattle.plan_nodes.proofs.Looks.{look_leaf}
 use Rattle.wire.proofs.Picks.{clash, pick_yes, pick_no, pick_case, pick_split, both}
 use Rattle.find_number.specs.Number.{Width, shown, Plain, Proper, Gives}
 use Rattle.find_number.specs.declared.Number.{Number}
-use Rattle.find_number.specs.declared.Number.TheVariants.{Refused, Integer, Truth, Single, Double}
+use Rattle.find_number.specs.declared.Number.TheVariants.{Integer, Truth, Single, Double}
 use Rattle.protocol.specs.Numbers.{pick, be, be_from}
 use Rattle.protocol.specs.Nodes.{Node}
 use Rattle.protocol.specs.Plans.{look}
@@ -41,11 +45,11 @@ module _ (f : Format) (n : ℕ) (plain : n % top f ≤ ones f * hid f) where
 pub pattern_nan : (f : Format) (n : ℕ) → ones f * hid f < n % top f → T (nan_bits f n)
 pattern_nan f n above = rw (nan_bits_above f n, lt-ltb (ones f * hid f) (n % top f) above) tt
 
-pub gives_single : (n : ℕ) → n % 2147483648 ≤ 2139095040 → n < 2 ^ 32 → Gives (numbered 6 n) (Single (of_bits binary32 n))
+pub gives_single : (n : ℕ) → n % 2147483648 ≤ 2139095040 → n < 2 ^ 32 → Gives (numbered 6 n) (Ok (Single (of_bits binary32 n)))
 unfolding shown Proper
 gives_single n p h = record { is = ap (numbered 6) (float_bits binary32 n p (omega arith)); proper = float_plain binary32 n p }
 
-pub gives_double : (n : ℕ) → n % 9223372036854775808 ≤ 9218868437227405312 → n < 2 ^ 64 → Gives (numbered 7 n) (Double (of_bits binary64 n))
+pub gives_double : (n : ℕ) → n % 9223372036854775808 ≤ 9218868437227405312 → n < 2 ^ 64 → Gives (numbered 7 n) (Ok (Double (of_bits binary64 n)))
 unfolding shown Proper
 gives_double n p h = record { is = ap (numbered 7) (float_bits binary64 n p (omega arith)); proper = float_plain binary64 n p }
 
@@ -59,6 +63,26 @@ module _ (w n h : ℕ) (e : 256 ^ w ≡ 2 * h) where
   pub extend_high : h ≤ n → n + (256 ^ 8 - 256 ^ w) ≡ extended w n
   unfolding extended
   extend_high l = sym (pick_no _ _ _ (le-ltb (2 * n) (256 ^ w) (rw e (omega arith))))
+
+  -- the sign, by whether it is set
+  extend_by : (z : ℕ) → (n < h → z ≡ n) → (h ≤ n → z ≡ n + (256 ^ 8 - 256 ^ w)) → z ≡ extended w n
+  extend_by z low high = go (ltb n h) refl
+    where
+      go : (b : Bool) → ltb n h ≡ b → z ≡ extended w n
+      go true t = let l = ltb-true n h t in low l ∙ extend_low l
+      go false t = let l = ltb-false n h t in high l ∙ extend_high l
+
+pub extend_two : (n : ℕ) → n < 2 ^ 16 → of_z w64 (to_z w16 n) ≡ extended 2 n
+extend_two n l =
+    extend_by 2 n 32768 refl _
+    (λ (x : n < 32768). rw (lt-ltb n 32768 x))
+    (λ (x : 32768 ≤ n). rw (le-ltb n 32768 x) (omega arith))
+
+pub extend_four : (n : ℕ) → n < 2 ^ 32 → of_z w64 (to_z w32 n) ≡ extended 4 n
+extend_four n l =
+    extend_by 4 n 2147483648 refl _
+    (λ (x : n < 2147483648). rw (lt-ltb n 2147483648 x))
+    (λ (x : 2147483648 ≤ n). rw (le-ltb n 2147483648 x) (omega arith))
 
 -- 8 bytes are their own
 pub extend_whole : (n : ℕ) → n ≡ extended 8 n
@@ -113,6 +137,9 @@ module _ (f : ℕ) (b : List ℕ) (good : scalar f b ≡ true) where
 
 -- ---- what is answered
 
+abbrev no_number : Refusal
+no_number = record { fault = 37; place = 0 }
+
 -- the whole of some bytes
 whole_be : (n : ℕ) (b : List ℕ) → length b ≡ n → be (take n (drop 0 b)) ≡ be b
 whole_be n b e = ap be (take_all n b (omega (arith, e)))
@@ -130,38 +157,38 @@ zero_or_one (suc zero) l = refl
 zero_or_one (suc (suc n)) l = absurd (omega arith)
 
 module _ (f : ℕ) (b : List ℕ) where
-  pub gives_integer : integral f ≡ true → (m n : ℕ) → m ≡ be (take (length b) (drop 0 b)) → n ≡ extended (length b) m → Gives (of_format f b) (Integer f n)
+  pub gives_integer : integral f ≡ true → (m n : ℕ) → m ≡ be (take (length b) (drop 0 b)) → n ≡ extended (length b) m → Gives (of_format f b) (Ok (Integer f n))
   unfolding of_format shown Proper
   gives_integer i m n em en = record { is = rw (i, en, em, whole_be (length b) b refl) (sym (pick_yes _ _ _ refl)); proper = i }
 
   -- a float's bits are all of its bytes
-  pub gives_bits : (h n m : ℕ) (r : Number) → Gives (numbered h m) r → m ≡ be (take n (drop 0 b)) → length b ≡ n
-      → f ≡ h → integral h ≡ false → plain_bits h ≡ true → Gives (of_format f b) r
+  pub gives_bits : (h n m : ℕ) (r : Number) → Gives (numbered h m) (Ok r) → m ≡ be (take n (drop 0 b)) → length b ≡ n
+      → f ≡ h → integral h ≡ false → plain_bits h ≡ true → Gives (of_format f b) (Ok r)
   unfolding of_format pick
   gives_bits h n m r g em e x i q = rw (x, i, q, ← whole_be n b e, ← em) g
 
-  pub gives_truth : f ≡ 9 → length b ≡ 1 → be b < 2 → Gives (of_format f b) (Truth (eqb (get_or b 0 0) 1))
+  pub gives_truth : f ≡ 9 → length b ≡ 1 → be b < 2 → Gives (of_format f b) (Ok (Truth (eqb (get_or b 0 0) 1)))
   unfolding of_format integral plain_bits pick shown Proper
   gives_truth x e l =
       let o = one_be b e in
       record { is = rw (x, o) (ap (numbered 9) (zero_or_one (get_or b 0 0) (rw o at l))); proper = tt }
 
-  pub gives_none : integral f ≡ false → (f ≡ 6 → ⊥) → (f ≡ 7 → ⊥) → (f ≡ 9 → ⊥) → Gives (of_format f b) (Refused 37 0)
+  pub gives_none : integral f ≡ false → (f ≡ 6 → ⊥) → (f ≡ 7 → ⊥) → (f ≡ 9 → ⊥) → Gives (of_format f b) (Err no_number)
   unfolding of_format plain_bits pick shown Proper
   gives_none i x y z = record { is = rw (i, ne_eqb f 6 x, ne_eqb f 7 y, ne_eqb f 9 z); proper = tt }
 
 -- ---- of a node that was found
 
 module _ (p : List ℕ) (k : ℕ) (b : List ℕ) where
-  pub gives_leaf : get_or p k 0 ≡ 1 → (f : ℕ) → f ≡ get_or p (k + 1) 0 → (r : Number) → Gives (of_format f b) r → Gives (of_node (look p k) b) r
+  pub gives_leaf : get_or p k 0 ≡ 1 → (f : ℕ) → f ≡ get_or p (k + 1) 0 → (r : Result Number Refusal) → Gives (of_format f b) r → Gives (of_node (look p k) b) r
   unfolding of_node
   gives_leaf e f ef r g = rw (look_leaf p k e, ← ef) g
 
   -- a node of any other kind has no number
-  pub gives_other : (get_or p k 0 ≡ 1 → ⊥) → Gives (of_node (look p k) b) (Refused 37 0)
+  pub gives_other : (get_or p k 0 ≡ 1 → ⊥) → Gives (of_node (look p k) b) (Err no_number)
   unfolding look of_node shown Proper
   gives_other n =
-      let P : Node → Type 0 = λ v. Gives (of_node v b) (Refused 37 0) in
+      let P : Node → Type 0 = λ v. Gives (of_node v b) (Err no_number) in
       rw (ne_eqb (get_or p k 0) 1 n)
       (pick_case P false _ _ (λ e. clash e)
       (λ _. pick_case P _ _ _ (λ _. none_of _ refl)
@@ -171,7 +198,7 @@ module _ (p : List ℕ) (k : ℕ) (b : List ℕ) where
       (λ _. pick_case P _ _ _ (λ _. none_of _ refl)
       (λ _. pick_case P _ _ _ (λ _. none_of _ refl) (λ _. none_of _ refl))))))))
     where
-      none_of : (x : Numbered) → unnumbered 37 0 ≡ x → Gives x (Refused 37 0)
+      none_of : (x : Numbered) → unnumbered 37 0 ≡ x → Gives x (Err no_number)
       none_of x e = record { is = e; proper = tt }
 
 -- an integer has at most eight bytes

@@ -1,7 +1,7 @@
 -- The laws of the call: what a check says of the value, and where its path then leads.
-use mathlib.Core.Path.{◌≡◌, refl, ap, ◌∙◌}
+use mathlib.Core.Path.{◌≡◌, refl, sym}
 use mathlib.Core.Bool.{Bool, true, false}
-use mathlib.Core.List.{List, []}
+use mathlib.Core.List.{List}
 use Prim.Native.Nat.{ℕ, ◌^◌, ◌<◌, ◌≤◌}
 use native.Mathlib.Omega.{arith}
 use lib.Dec.{eqb, ltb}
@@ -10,10 +10,9 @@ use borrow.Author.Tests.{ltb-false}
 use Rattle.value_laws.proofs.Parts.{stands_self}
 use Rattle.plan_nodes.proofs.Nodes.{at_root}
 use Rattle.run_plan.specs.Run.{Checks}
-use Rattle.run_plan.specs.declared.Answer.{Answer}
-use Rattle.run_plan.specs.declared.Answer.TheVariants.{Refused, Listed}
+use Rattle.std.specs.Prelude.{Result, Ok, Err}
+use Rattle.forms.specs.declared.fault.Refusal.{Refusal}
 use Rattle.run_plan.proofs.Runs.{found, turned_down}
-use Rattle.find_path.specs.Find.{refused_no, refused_place, part_in, number_in, place_in, node_in, start_in, Finds}
 use Rattle.find_path.specs.Descent.{descend}
 use Rattle.find_path.proofs.Paths.{follow_nowhere, Accepts, Led, leads}
 use Rattle.protocol.specs.Numbers.{pick}
@@ -23,7 +22,7 @@ use Rattle.protocol.specs.Answers.{refused, accepted}
 use Rattle.protocol.specs.Plans.{look, without_type, plan_formed}
 use Rattle.plan_nodes.specs.Readers.{At}
 use Rattle.protocol.specs.Running.{nothing_in, value_by, checked, admitted}
-use Rattle.protocol.specs.Finding.{top_of, follow, found_at, found_in, find_of}
+use Rattle.protocol.specs.Finding.{top_of, follow, unfound, found_at, found_in, find_of}
 
 -- what it takes for a value to be accepted
 pub record Passed (p s : List ℕ) (f : Forest) : Type 0 where
@@ -64,15 +63,12 @@ module _ (p s : List ℕ) (f : Forest) (e : checked p s ≡ accepted f) where
     pub led : (path : List ℕ) → Led p s (follow path (top_of f)) (descend (look p) path r 0 s)
     led path = leads p s (passed p s f e).few path r a 0 0 s f (omega arith) (stands_self s) root_listed
 
-module _ (p s : List ℕ) (a : Answer) (k k' : List ℕ) (c : Checks (length s) (checked p s) a k k') where
-  pub finds_refused : (path : List ℕ) (n q : ℕ) → a ≡ Refused n q → (m place : ℕ) → m ≡ refused_no a → place ≡ refused_place a
-      → Finds (find_of p s path) [] m place 0 0
-  unfolding refused_no refused_place find_of found_in part_in number_in place_in node_in start_in
-  finds_refused path n q e m place em ep =
-      rw (turned_down _ _ a k k' c n q e)
-      (record { part_is = refl; no_is = em ∙ ap refused_no e; place_is = ep ∙ ap refused_place e; node_is = refl; start_is = refl })
+module _ (p s : List ℕ) (a : Result ℕ Refusal) (k k' : List ℕ) (c : Checks (length s) (checked p s) a k k') where
+  pub finds_refused : (path : List ℕ) (r : Refusal) → a ≡ Err r → unfound r.fault r.place ≡ find_of p s path
+  unfolding find_of found_in
+  finds_refused path r e = rw (turned_down _ _ a k k' c r e)
 
-  module _ (w : ℕ) (e : a ≡ Listed w) where
+  module _ (w : ℕ) (e : a ≡ Ok w) where
     abbrev pub forest : Forest
     forest = (found _ _ a k k' c w e).forest
 
@@ -82,16 +78,14 @@ module _ (p s : List ℕ) (a : Answer) (k k' : List ℕ) (c : Checks (length s) 
     pub sound : Passed p s forest
     sound = passed p s forest is_accepted
 
-    pub finds_nothing : (path : List ℕ) → without_type p ≡ true → Finds (find_of p s path) [] 35 0 0 0
-    unfolding find_of found_in found_at top_of part_in number_in place_in node_in start_in
-    finds_nothing path n =
-        rw (is_accepted, nothing_listed p s forest is_accepted n, follow_nowhere path)
-        (record { part_is = refl; no_is = refl; place_is = refl; node_is = refl; start_is = refl })
+    pub finds_nothing : (path : List ℕ) → without_type p ≡ true → unfound 35 0 ≡ find_of p s path
+    unfolding find_of found_in found_at top_of
+    finds_nothing path n = rw (is_accepted, nothing_listed p s forest is_accepted n, follow_nowhere path)
 
     module _ (n : without_type p ≡ false) (r : ℕ) (er : r ≡ get_or p 1 0) (at-r : At p r) where
-      pub finds_down : (path b : List ℕ) (m place node start : ℕ) → Finds (descend (look p) path r 0 s) b m place node start → Finds (find_of p s path) b m place node start
+      pub finds_down : (path : List ℕ) → descend (look p) path r 0 s ≡ find_of p s path
       unfolding find_of found_in
-      finds_down path b m place node start x = rw (is_accepted, (led p s forest is_accepted n r er at-r path).found_is) x
+      finds_down path = rw is_accepted (sym (led p s forest is_accepted n r er at-r path).found_is)
 
 -- ---- what is found is an accepted value of a node
 

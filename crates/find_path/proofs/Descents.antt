@@ -1,78 +1,73 @@
 -- The laws of a descent by a path, one word of the path at a time.
-use mathlib.Core.Path.{◌≡◌, refl, ◌∙◌}
+use mathlib.Core.Path.{◌≡◌, refl, ap, ◌∙◌}
 use mathlib.Core.List.{List, [], ◌∷◌}
-use mathlib.Core.Logic.{⊎_elim}
 use mathlib.Core.Option.{some}
-use Prim.Native.Nat.{ℕ, suc, ◌+◌, ◌-◌, ◌<◌}
+use Prim.Native.Nat.{ℕ, suc, ◌+◌, ◌-◌, ◌<◌, ◌≤◌}
 use native.Mathlib.Omega.{arith}
 use native.Mathlib.Nat.{add-sub_cancel_left}
-use denote.Enum.Declared.{tag_of}
-use types.Run.{OneOf}
-use borrow.Author.Tests.{ne_eqb}
-use lib.ListN.{length, take, drop, get_or, length-drop}
-use lib.Seq.{take_all}
+use lib.ListN.{length, take, drop, get_or, length-drop, drop_of_length-le}
+use lib.Seq.{drop-cons, take_all}
 use Rattle.forms.specs.declared.Head.{Head}
-use Rattle.forms.specs.declared.Head.TheVariants.{Present, Absent, Fault}
-use Rattle.forms.specs.contracts.Head.{the_type}
-use Rattle.find_path.specs.Find.{part_in, number_in, place_in, node_in, start_in, Finds}
-use Rattle.find_path.specs.Descent.{child_head, missing, lost_at, Rest, in_part, on_head, descend}
-use Rattle.protocol.specs.Numbers.{pick}
+use Rattle.forms.specs.declared.Head.TheVariants.{Present, Absent}
+use Rattle.std.specs.Prelude.{Result, Ok, Err}
+use Rattle.find_path.specs.Descent.{child_head, missing, in_part, on_head, descend}
 use Rattle.protocol.specs.Nodes.{Node, ref_at}
-use Rattle.protocol.specs.Finding.{unfound, found}
+use Rattle.protocol.specs.Finding.{Found, unfound, found}
 
-module _ (look : ℕ → Node) (k base : ℕ) (s : List ℕ) where
-  pub descend_here : (path : List ℕ) → length path ≡ 0 → found k base s ≡ descend look path k base s
+missing_last : (path : List ℕ) → length path ≡ 0 → unfound 36 0 ≡ missing path
+unfolding missing
+missing_last [] e = refl
+missing_last (i ∷ path) e = absurd (omega arith)
+
+missing_past : (path : List ℕ) → (length path ≡ 0 → ⊥) → unfound 35 0 ≡ missing path
+unfolding missing
+missing_past [] e = absurd (e refl)
+missing_past (i ∷ path) e = refl
+
+-- with i words behind, from a value of the node k
+module _ (look : ℕ → Node) (k base : ℕ) (s path : List ℕ) (i : ℕ) where
+  abbrev Leads : Found → Type 0
+  Leads x = x ≡ descend look (drop i path) k base s
+
+  pub descend_here : length path ≤ i → Leads (found k base s)
   unfolding descend
-  descend_here [] e = refl
-  descend_here (i ∷ path) e = absurd (omega arith)
+  descend_here e = rw (drop_of_length-le path e)
 
-  -- an element that is not there, by the number of words left
-  lost_is : (rest : Rest) (path : List ℕ) (n : ℕ) → n ≡ suc (length path) → (h : Head) → OneOf (1 ∷ 2 ∷ []) (tag_of the_type h)
-      → unfound (lost_at h n) 0 ≡ on_head rest (missing path) (look k) base s h
-  unfolding lost_at on_head missing pick
-  lost_is rest path n e (Fault m) q = refl
-  lost_is rest [] n e (Absent i start) q = rw e
-  lost_is rest (j ∷ path) n e (Absent i start) q = rw (ne_eqb n 1 (λ (z : n ≡ 1). absurd (omega (arith, e, z))))
-  lost_is rest path n e (Present i start size) q =
-      ⊎_elim (λ (z : ◌≡◌ {A = ℕ} 0 1). absurd (omega arith)) (λ (z : ◌≡◌ {A = ℕ} 0 2). absurd (omega arith)) q
+  module _ (l : i < length path) where
+    abbrev rest : List ℕ
+    rest = drop (i + 1) path
 
-  module _ (h : Head) where
-    pub descend_lost : (path : List ℕ) → (length path ≡ 0 → ⊥) → h ≡ child_head (look k) s (get_or path 0 0) → OneOf (1 ∷ 2 ∷ []) (tag_of the_type h)
-        → unfound (lost_at h (length path)) 0 ≡ descend look path k base s
+    descend_on : (r : Result Head ℕ) → r ≡ child_head (look k) s (get_or path i 0) → Leads (on_head (descend look rest) (missing rest) (look k) base s r)
     unfolding descend
-    descend_lost [] n e q = absurd (n refl)
-    descend_lost (w ∷ path) n e q = lost_is (descend look path) path (length (w ∷ path)) refl h q ∙ rw e
+    descend_on r e =
+        let n : suc i ≡ i + 1 = omega arith in
+        let d : drop i path ≡ get_or path i 0 ∷ rest = drop-cons path i 0 l ∙ ap (λ (m : ℕ). get_or path i 0 ∷ drop m path) n in
+        rw (d, ← e)
 
-    pub descend_below : (path : List ℕ) → (length path ≡ 0 → ⊥) → h ≡ child_head (look k) s (get_or path 0 0)
-        → (i start size c : ℕ) → h ≡ Present i start size → ref_at (look k) i ≡ some c
-        → descend look (drop 1 path) c (base + start) (take (start + size - start) (drop start s)) ≡ descend look path k base s
-    unfolding descend on_head in_part
-    descend_below [] n e i start size c p r = absurd (n refl)
-    descend_below (w ∷ path) n e i start size c p r = rw (← e, p, r, add-sub_cancel_left)
+    pub descend_refused : (n : ℕ) → Err n ≡ child_head (look k) s (get_or path i 0) → Leads (unfound 35 0)
+    unfolding on_head
+    descend_refused n e = descend_on (Err n) e
 
--- the rest of a path, as a part of it
-rest_is : (path : List ℕ) → take (length path - 1) (drop 1 path) ≡ drop 1 path
+    module _ (h : Head) (eh : Ok h ≡ child_head (look k) s (get_or path i 0)) where
+      descend_absent : (j start : ℕ) → h ≡ Absent j start → Leads (missing rest)
+      unfolding on_head
+      descend_absent j start e = rw e at (descend_on (Ok h) eh)
+
+      pub descend_last : (j start : ℕ) → h ≡ Absent j start → i + 1 ≡ length path → Leads (unfound 36 0)
+      descend_last j start e n = missing_last rest (simp length-drop (omega (arith, n))) ∙ descend_absent j start e
+
+      pub descend_past : (j start : ℕ) → h ≡ Absent j start → (i + 1 ≡ length path → ⊥) → Leads (unfound 35 0)
+      descend_past j start e n = missing_past rest (simp length-drop (omega (arith, n, l))) ∙ descend_absent j start e
+
+      pub descend_below : (j start size c : ℕ) → h ≡ Present j start size → ref_at (look k) j ≡ some c
+          → Leads (descend look rest c (base + start) (take (start + size - start) (drop start s)))
+      unfolding on_head in_part
+      descend_below j start size c e r = rw add-sub_cancel_left (rw (e, r) at (descend_on (Ok h) eh))
+
+-- ---- the rest of a path, less its first word
+
+pub rest_is : (path : List ℕ) → take (length path - 1) (drop 1 path) ≡ drop 1 path
 rest_is path = take_all (length path - 1) (drop 1 path) (simp length-drop (omega arith))
 
-pub rest_falls : (path : List ℕ) (t : ℕ) → length path ≡ t → (length path ≡ 0 → ⊥) → length (take (length path - 1) (drop 1 path)) < t
+pub rest_falls : (path : List ℕ) (t : ℕ) → length path ≡ t → 0 < length path → length (take (length path - 1) (drop 1 path)) < t
 rest_falls path t e n = let h : length (take (length path - 1) (drop 1 path)) ≡ length path - 1 = rw (rest_is path) (simp length-drop refl) in omega (arith, h, e, n)
-
--- ---- what is answered
-
-module _ (look : ℕ → Node) (k base : ℕ) (s path : List ℕ) where
-  pub finds_here : length path ≡ 0 → Finds (descend look path k base s) s 0 0 k base
-  unfolding part_in number_in place_in node_in start_in
-  finds_here e = rw (← descend_here look k base s path e) (record { part_is = refl; no_is = refl; place_is = refl; node_is = refl; start_is = refl })
-
-  module _ (full : length path ≡ 0 → ⊥) (h : Head) (eh : h ≡ child_head (look k) s (get_or path 0 0)) where
-    pub finds_lost : OneOf (1 ∷ 2 ∷ []) (tag_of the_type h) → (n : ℕ) → n ≡ lost_at h (length path) → Finds (descend look path k base s) [] n 0 0 0
-    unfolding part_in number_in place_in node_in start_in
-    finds_lost q n e =
-        rw (← descend_lost look k base s h path full eh q, e)
-        (record { part_is = refl; no_is = refl; place_is = refl; node_is = refl; start_is = refl })
-
-    pub finds_below : (i start size c : ℕ) → h ≡ Present i start size → ref_at (look k) i ≡ some c → (b : List ℕ) (m place node at : ℕ)
-        → Finds (descend look (take (length path - 1) (drop 1 path)) c (base + start) (take (start + size - start) (drop start s))) b m place node at
-        → Finds (descend look path k base s) b m place node at
-    finds_below i start size c e r b m place node at f =
-        rw (← descend_below look k base s h path full eh i start size c e r, ← rest_is path) f

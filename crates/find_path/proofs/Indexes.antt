@@ -13,15 +13,15 @@ use borrow.Author.Tests.{eqb-true, ne_eqb}
 use Rattle.wire.proofs.Picks.{clash, pick_case, same_or_not}
 use Rattle.value_heads.specs.Bounds.{Indexed, Fresh}
 use Rattle.forms.specs.declared.Head.{Head}
-use Rattle.forms.specs.declared.Head.TheVariants.{Present, Absent, Fault}
+use Rattle.forms.specs.declared.Head.TheVariants.{Present, Absent}
+use Rattle.std.specs.Prelude.{Result, Ok, Err, IfOk}
 use Rattle.forms.specs.declared.Opening.{Opening}
-use Rattle.forms.specs.declared.Opening.TheVariants.{Elements, Wrong}
 use Rattle.value_heads.proofs.Bounds.{plain_index, object_index, envelope_index, sparse_index_below}
 use Rattle.plan_nodes.proofs.Looks.{look_sparse}
 use Rattle.plan_nodes.proofs.Nodes.{at_ref, at_root}
 use Rattle.value_parts.proofs.Members.{few_cards, step_is}
-use Rattle.find_path.proofs.Paths.{Owns, owns, member_listed, then_listed, done_listed, under_listed}
 use Rattle.find_path.proofs.Calls.{passed, nothing_listed, root_listed}
+use Rattle.find_path.proofs.Paths.{Owns, owns, member_listed, then_listed, done_listed, under_listed}
 use Rattle.protocol.specs.Numbers.{pick}
 use Rattle.protocol.specs.Constants.{ABSENT}
 use Rattle.protocol.specs.Heads.{index_of, end_of}
@@ -50,14 +50,14 @@ before_others : (e : Entry) (below g next f : Forest) → f ≡ append g next �
 unfolding append
 before_others e below g next f x y = rw (x, y)
 
-abbrev NoFault : Head → Type 0
-NoFault h = (m : ℕ) → h ≡ Fault m → ⊥
+abbrev NoFault : Result Head ℕ → Type 0
+NoFault h = (m : ℕ) → h ≡ Err m → ⊥
 
 -- ---- the elements of a container
 
 module _ (rule : Rule) (own : Owns rule) (ref : ℕ → Option ℕ) (base : ℕ) (s : List ℕ) where
   -- the first element and the rest
-  record Split (h : Head) (o : ValueOutcome) (f : Forest) : Type 0 where
+  record Split (h : Result Head ℕ) (o : ValueOutcome) (f : Forest) : Type 0 where
     entry : Entry
     below : Forest
     next : Forest
@@ -67,7 +67,7 @@ module _ (rule : Rule) (own : Owns rule) (ref : ℕ → Option ℕ) (base : ℕ)
     first_is : element_outcome rule ref base s h ≡ accepted (tree entry below empty)
     rest_is : o ≡ accepted next
 
-  split : (h : Head) (o : ValueOutcome) (f : Forest) → then (element_outcome rule ref base s h) o ≡ accepted f → Split h o f
+  split : (h : Result Head ℕ) (o : ValueOutcome) (f : Forest) → then (element_outcome rule ref base s h) o ≡ accepted f → Split h o f
   split h o f e =
       let t = then_listed rule own ref base s (element_outcome rule ref base s h) o f e in
       let m = member_listed rule own ref base s h t.0 t.2 in
@@ -84,11 +84,11 @@ module _ (rule : Rule) (own : Owns rule) (ref : ℕ → Option ℕ) (base : ℕ)
 
   -- of a state some indexes are used: no element has one of them, and its own is used from then on
   module _ {S : Type 0} (form : Form S) (Good : S → Type 0) (Used : S → ℕ → Type 0)
-      (good : (st : S) (h : Head) → Good st → Good (form.next st h))
+      (good : (st : S) (h : Result Head ℕ) → Good st → Good (form.next st h))
       (fresh : (st : S) (at : ℕ) → NoFault (form.head st at) → Used st (index_of (form.head st at)) → ⊥)
       (marks : (st : S) (at : ℕ) → Good st → NoFault (form.head st at) → Used (form.next st (form.head st at)) (index_of (form.head st at)))
-      (keeps : (st : S) (h : Head) (j : ℕ) → Used st j → Used (form.next st h) j)
-      (inner : (h : Head) (g : Forest) → element_outcome rule ref base s h ≡ accepted g → Distinct g) where
+      (keeps : (st : S) (h : Result Head ℕ) (j : ℕ) → Used st j → Used (form.next st h) j)
+      (inner : (h : Result Head ℕ) (g : Forest) → element_outcome rule ref base s h ≡ accepted g → Distinct g) where
     unused : (n : ℕ) (st : S) (at : ℕ) (f : Forest) → elements form rule ref base s n st at ≡ accepted f → (j : ℕ) → Used st j → sibling j f ≡ nowhere
     unfolding elements container_end sibling
     unused zero st at f e j u = rw (done_listed rule own ref base s _ _ f e)
@@ -114,7 +114,7 @@ module _ (rule : Rule) (own : Owns rule) (ref : ℕ → Option ℕ) (base : ℕ)
 
 -- ---- rows: the indexes below the next one are used
 
-row_indexed : (v : Node) (s : List ℕ) (i at : ℕ) → Indexed i (row_head v s i at)
+row_indexed : (v : Node) (s : List ℕ) (i at : ℕ) → IfOk (row_head v s i at) (Indexed i)
 unfolding row_head Indexed
 row_indexed (leaf f) s i at = tt
 row_indexed enum s i at = tt
@@ -125,11 +125,11 @@ row_indexed (object refs cards) s i at = object_index s _ i at
 row_indexed (sparse refs cards) s i at = tt
 row_indexed (range r) s i at = plain_index s 0 i at
 
-index_is : (i : ℕ) (h : Head) → Indexed i h → NoFault h → index_of h ≡ i
+index_is : (i : ℕ) (h : Result Head ℕ) → IfOk h (Indexed i) → NoFault h → index_of h ≡ i
 unfolding Indexed index_of
-index_is i (Present j start size) e n = e
-index_is i (Absent j start) e n = e
-index_is i (Fault m) e n = absurd (n m refl)
+index_is i (Ok (Present j start size)) e n = e
+index_is i (Ok (Absent j start)) e n = e
+index_is i (Err m) e n = absurd (n m refl)
 
 -- ---- sparse objects: the marked ones are used
 
@@ -140,11 +140,11 @@ store_keeps (x ∷ l) zero (suc j) e = e
 store_keeps (x ∷ l) (suc i) zero e = e
 store_keeps (x ∷ l) (suc i) (suc j) e = store_keeps l i j e
 
-index_fresh : (n : ℕ) (marks : List Bool) (h : Head) → Fresh n marks h → NoFault h → (index_of h < n) × (get_or marks (index_of h) false ≡ false)
+index_fresh : (n : ℕ) (marks : List Bool) (h : Result Head ℕ) → IfOk h (Fresh n marks) → NoFault h → (index_of h < n) × (get_or marks (index_of h) false ≡ false)
 unfolding Fresh index_of
-index_fresh n marks (Present i start size) f q = f
-index_fresh n marks (Absent i start) f q = f
-index_fresh n marks (Fault m) f q = absurd (q m refl)
+index_fresh n marks (Ok (Present i start size)) f q = f
+index_fresh n marks (Ok (Absent i start)) f q = f
+index_fresh n marks (Err m) f q = absurd (q m refl)
 
 -- ---- a value
 
@@ -160,21 +160,21 @@ module _ (v : Node) (few : (refs cards : List ℕ) → v ≡ sparse refs cards �
   present_distinct none i r start b g e = let z : ◌≡◌ {A = ℕ} 0 1 = cc in absurd (omega arith)
   present_distinct (some k) i r start b g e = inner i k i start b g r e
 
-  member_distinct : (base : ℕ) (s : List ℕ) (h : Head) (g : Forest) → element_outcome rule (ref_at v) base s h ≡ accepted g → Distinct g
+  member_distinct : (base : ℕ) (s : List ℕ) (h : Result Head ℕ) (g : Forest) → element_outcome rule (ref_at v) base s h ≡ accepted g → Distinct g
   unfolding element_outcome
-  member_distinct base s (Fault n) g e = let z : ◌≡◌ {A = ℕ} 0 1 = cc in absurd (omega arith)
-  member_distinct base s (Absent i start) g e = absent_distinct (ref_at v i) i (base + start) g e
-  member_distinct base s (Present i start size) g e = present_distinct (ref_at v i) i refl (base + start) _ g e
+  member_distinct base s (Err n) g e = let z : ◌≡◌ {A = ℕ} 0 1 = cc in absurd (omega arith)
+  member_distinct base s (Ok (Absent i start)) g e = absent_distinct (ref_at v i) i (base + start) g e
+  member_distinct base s (Ok (Present i start size)) g e = present_distinct (ref_at v i) i refl (base + start) _ g e
 
   leaf_distinct : (good : Bool) (k i base : ℕ) (s : List ℕ) (f : Forest) → leaf_rule good k i base s ≡ accepted f → Distinct f
   unfolding leaf_rule pick Distinct
   leaf_distinct true k i base s f e = one_distinct (entry_of k i base (length s)) empty f (cc) tt
   leaf_distinct false k i base s f e = let z : ◌≡◌ {A = ℕ} 0 1 = cc in absurd (omega arith)
 
-  row_distinct : (o : Opening) (k i base : ℕ) (s : List ℕ) (f : Forest) → row_rule v rule o k i base s ≡ accepted f → Distinct f
+  row_distinct : (o : Result Opening ℕ) (k i base : ℕ) (s : List ℕ) (f : Forest) → row_rule v rule o k i base s ≡ accepted f → Distinct f
   unfolding row_rule
-  row_distinct (Wrong n) k i base s f e = let z : ◌≡◌ {A = ℕ} 0 1 = cc in absurd (omega arith)
-  row_distinct (Elements n first at) k i base s f e =
+  row_distinct (Err n) k i base s f e = let z : ◌≡◌ {A = ℕ} 0 1 = cc in absurd (omega arith)
+  row_distinct (Ok c) k i base s f e =
       let u = under_listed _ _ f e in
       one_distinct _ u.0 f u.2
       (elements_distinct rule own (ref_at v) base s (row_form v s) (λ j. Unit {0}) (λ j m. m < j)
@@ -182,13 +182,13 @@ module _ (v : Node) (few : (refs cards : List ℕ) → v ≡ sparse refs cards �
       (λ j b q (l : index_of (row_head v s j b) < j). omega (arith, index_is j _ (row_indexed v s j b) q))
       (λ j b g q. omega (arith, index_is j _ (row_indexed v s j b) q))
       (λ j h m (l : m < j). omega arith)
-      (member_distinct base s) n first at tt u.0 u.1)
+      (member_distinct base s) c.count c.first c.at tt u.0 u.1)
 
-  sparse_distinct : (refs cards : List ℕ) → v ≡ sparse refs cards → (o : Opening) (k i base : ℕ) (s : List ℕ) (f : Forest)
+  sparse_distinct : (refs cards : List ℕ) → v ≡ sparse refs cards → (o : Result Opening ℕ) (k i base : ℕ) (s : List ℕ) (f : Forest)
       → sparse_rule refs cards rule o k i base s ≡ accepted f → Distinct f
   unfolding sparse_rule
-  sparse_distinct refs cards ev (Wrong n) k i base s f e = let z : ◌≡◌ {A = ℕ} 0 1 = cc in absurd (omega arith)
-  sparse_distinct refs cards ev (Elements n first at) k i base s f e =
+  sparse_distinct refs cards ev (Err n) k i base s f e = let z : ◌≡◌ {A = ℕ} 0 1 = cc in absurd (omega arith)
+  sparse_distinct refs cards ev (Ok c) k i base s f e =
       let u = under_listed _ _ f e in
       one_distinct _ u.0 f u.2
       (elements_distinct rule own (ref_at (sparse refs cards)) base s (sparse_form cards s) (λ marks. length marks ≡ 512) (λ marks j. get_or marks j false ≡ true)
@@ -196,7 +196,7 @@ module _ (v : Node) (few : (refs cards : List ℕ) → v ≡ sparse refs cards �
       (λ marks b q t. clash (sym (index_fresh _ marks _ (sparse_index_below s cards marks b) q).1 ∙ t))
       (λ marks b g q. get_or-set_same marks _ true false (omega (arith, g, few refs cards ev, (index_fresh _ marks _ (sparse_index_below s cards marks b) q).0)))
       (λ marks h j t. store_keeps marks (index_of h) j t)
-      (rw ev at (member_distinct base s)) n no_marks at refl u.0 u.1)
+      (rw ev at (member_distinct base s)) c.count no_marks c.at refl u.0 u.1)
 
   by_node_lem : (w : Node) → v ≡ w → (k i base : ℕ) (s : List ℕ) (f : Forest) → by_node w rule k i base s ≡ accepted f → Distinct f
   unfolding by_node

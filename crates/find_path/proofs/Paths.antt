@@ -9,11 +9,10 @@ use native.Mathlib.Omega.{arith}
 use lib.Dec.{eqb, leb, ltb}
 use lib.ListN.{length, take, drop, get_or, length-take, length-drop}
 use borrow.Author.Tests.{eq-eqb, ne_eqb}
-use Rattle.forms.specs.declared.Index.TheVariants.{Known, Bad}
 use Rattle.forms.specs.declared.Head.{Head}
-use Rattle.forms.specs.declared.Head.TheVariants.{Present, Absent, Fault}
+use Rattle.forms.specs.declared.Head.TheVariants.{Present, Absent}
+use Rattle.std.specs.Prelude.{Result, Ok, Err}
 use Rattle.forms.specs.declared.Opening.{Opening}
-use Rattle.forms.specs.declared.Opening.TheVariants.{Elements, Wrong}
 use Rattle.value_laws.proofs.Parts.{Stands, stands_whole, stands_part}
 use Rattle.plan_nodes.proofs.Nodes.{at_ref}
 use Rattle.value_parts.specs.Walk.{IsRow}
@@ -51,15 +50,15 @@ unfolding leaf_rule pick
 leaf_own true k i base s f h = record { below = empty; is = cc }
 leaf_own false k i base s f h = let z : ◌≡◌ {A = ℕ} 0 1 = cc in absurd (omega arith)
 
-row_own : (v : Node) (rule : Rule) (o : Opening) (k i base : ℕ) (s : List ℕ) (f : Forest) → row_rule v rule o k i base s ≡ accepted f → Own (entry_of k i base (length s)) f
+row_own : (v : Node) (rule : Rule) (o : Result Opening ℕ) (k i base : ℕ) (s : List ℕ) (f : Forest) → row_rule v rule o k i base s ≡ accepted f → Own (entry_of k i base (length s)) f
 unfolding row_rule
-row_own v rule (Wrong n) k i base s f h = let z : ◌≡◌ {A = ℕ} 0 1 = cc in absurd (omega arith)
-row_own v rule (Elements n first at) k i base s f h = under_own _ _ f h
+row_own v rule (Err n) k i base s f h = let z : ◌≡◌ {A = ℕ} 0 1 = cc in absurd (omega arith)
+row_own v rule (Ok c) k i base s f h = under_own _ _ f h
 
-sparse_own : (refs cards : List ℕ) (rule : Rule) (o : Opening) (k i base : ℕ) (s : List ℕ) (f : Forest) → sparse_rule refs cards rule o k i base s ≡ accepted f → Own (entry_of k i base (length s)) f
+sparse_own : (refs cards : List ℕ) (rule : Rule) (o : Result Opening ℕ) (k i base : ℕ) (s : List ℕ) (f : Forest) → sparse_rule refs cards rule o k i base s ≡ accepted f → Own (entry_of k i base (length s)) f
 unfolding sparse_rule
-sparse_own refs cards rule (Wrong n) k i base s f h = let z : ◌≡◌ {A = ℕ} 0 1 = cc in absurd (omega arith)
-sparse_own refs cards rule (Elements n first at) k i base s f h = under_own _ _ f h
+sparse_own refs cards rule (Err n) k i base s f h = let z : ◌≡◌ {A = ℕ} 0 1 = cc in absurd (omega arith)
+sparse_own refs cards rule (Ok c) k i base s f h = under_own _ _ f h
 
 node_own : (v : Node) (rule : Rule) → Owns (by_node v rule)
 unfolding by_node
@@ -84,19 +83,19 @@ owns look = value_own look _
 -- ---- the sibling that a search finds
 
 -- what a search for the index w ends with, among siblings f: none, or a member that lists the sibling
-Sought : (rule : Rule) (ref : ℕ → Option ℕ) (base : ℕ) (s : List ℕ) → ℕ → Forest → Head → Type 0
+Sought : (rule : Rule) (ref : ℕ → Option ℕ) (base : ℕ) (s : List ℕ) → ℕ → Forest → Result Head ℕ → Type 0
 Sought rule ref base s w f h =
-    ((h ≡ Fault 35) × (sibling w f ≡ nowhere)) ⊎ ((g : Forest) × (element_outcome rule ref base s h ≡ accepted g) × (sibling w f ≡ top_of g))
+    ((h ≡ Err 35) × (sibling w f ≡ nowhere)) ⊎ ((g : Forest) × (element_outcome rule ref base s h ≡ accepted g) × (sibling w f ≡ top_of g))
 
 module _ (rule : Rule) (own : Owns rule) (ref : ℕ → Option ℕ) (base : ℕ) (s : List ℕ) where
   -- a member that is listed is one tree with its head's index
-  pub record Member (h : Head) (g : Forest) : Type 0 where
+  pub record Member (h : Result Head ℕ) (g : Forest) : Type 0 where
     pub entry : Entry
     pub inner : Forest
     pub is : g ≡ tree entry inner empty
     pub index_is : entry.index ≡ index_of h
     pub ends_is : (w : ℕ) → ends w h ≡ eqb (index_of h) w
-    pub no_fault : (n : ℕ) → h ≡ Fault n → ⊥
+    pub no_fault : (n : ℕ) → h ≡ Err n → ⊥
 
   absent_listed : (o : Option ℕ) (i start : ℕ) (g : Forest) → absent o i start ≡ accepted g → (e : Entry) × (g ≡ tree e empty empty) × (e.index ≡ i)
   unfolding absent
@@ -108,13 +107,13 @@ module _ (rule : Rule) (own : Owns rule) (ref : ℕ → Option ℕ) (base : ℕ)
   present_listed none i start b g e = let z : ◌≡◌ {A = ℕ} 0 1 = cc in absurd (omega arith)
   present_listed (some k) i start b g e = let w = own k i start b g e in (entry_of k i start (length b), w.below, w.is, refl)
 
-  pub member_listed : (h : Head) (g : Forest) → element_outcome rule ref base s h ≡ accepted g → Member h g
+  pub member_listed : (h : Result Head ℕ) (g : Forest) → element_outcome rule ref base s h ≡ accepted g → Member h g
   unfolding element_outcome index_of ends
-  member_listed (Fault n) g e = let z : ◌≡◌ {A = ℕ} 0 1 = cc in absurd (omega arith)
-  member_listed (Absent i start) g e =
+  member_listed (Err n) g e = let z : ◌≡◌ {A = ℕ} 0 1 = cc in absurd (omega arith)
+  member_listed (Ok (Absent i start)) g e =
       let w = absent_listed (ref i) i (base + start) g e in
       record { entry = w.0; inner = empty; is = w.1; index_is = w.2; ends_is = λ w. refl; no_fault = λ n x. let z : ◌≡◌ {A = ℕ} 0 1 = cc in absurd (omega arith) }
-  member_listed (Present i start size) g e =
+  member_listed (Ok (Present i start size)) g e =
       let w = present_listed (ref i) i (base + start) _ g e in
       record { entry = w.0; inner = w.1; is = w.2; index_is = w.3; ends_is = λ w. refl; no_fault = λ n x. let z : ◌≡◌ {A = ℕ} 0 1 = cc in absurd (omega arith) }
 
@@ -132,7 +131,7 @@ module _ (rule : Rule) (own : Owns rule) (ref : ℕ → Option ℕ) (base : ℕ)
   done_listed false b f x = let z : ◌≡◌ {A = ℕ} 0 1 = cc in absurd (omega arith)
 
   -- the index is that of the first member, or it is sought among the rest
-  module _ (v : Node) (w i at : ℕ) (h : Head) (eh : h ≡ head_at v s i at) (g g' f : Forest) (m : Member h g) (ef : f ≡ append g g') where
+  module _ (v : Node) (w i at : ℕ) (h : Result Head ℕ) (eh : h ≡ head_at v s i at) (g g' f : Forest) (m : Member h g) (ef : f ≡ append g g') where
     first_is : f ≡ tree m.entry m.inner g'
     unfolding append
     first_is = rw (ef, m.is)
@@ -168,8 +167,8 @@ module _ (rule : Rule) (own : Owns rule) (ref : ℕ → Option ℕ) (base : ℕ)
             (⊎_elim (λ x. inl (x.0, sibling_later e ∙ x.1)) (λ x. inr (x.0, x.1, sibling_later e ∙ x.2)) rest)
 
   module _ {S : Type 0} (form : Form S) (v : Node) (Rel : S → ℕ → Type 0)
-      (same : (st : S) (i at : ℕ) → Rel st i → ((m : ℕ) → form.head st at ≡ Fault m → ⊥) → form.head st at ≡ head_at v s i at)
-      (goes : (st : S) (i : ℕ) (h : Head) → Rel st i → Rel (form.next st h) (i + 1)) where
+      (same : (st : S) (i at : ℕ) → Rel st i → ((m : ℕ) → form.head st at ≡ Err m → ⊥) → form.head st at ≡ head_at v s i at)
+      (goes : (st : S) (i : ℕ) (h : Result Head ℕ) → Rel st i → Rel (form.next st h) (i + 1)) where
     sought : (n : ℕ) (st : S) (i at : ℕ) → Rel st i → (f : Forest) → elements form rule ref base s n st at ≡ accepted f → (w : ℕ) → Sought rule ref base s w f (seek v s w n i at)
     unfolding elements container_end seek sibling Sought
     sought zero st i at r f e w = inl (refl, rw (done_listed _ _ f e))
@@ -195,24 +194,24 @@ under_listed e (accepted g) f h = (g, refl, cc)
 
 -- an index that was not marked is read the same without the marks
 unmarked : (s cards : List ℕ) (at : ℕ) (a b c : Bool) (w : ℕ)
-    → ((m : ℕ) → sparse_rest s cards at (pick a (Bad 20) (pick b (Bad 25) (pick c (Bad 26) (Known w)))) ≡ Fault m → ⊥)
-    → sparse_rest s cards at (pick a (Bad 20) (pick b (Bad 25) (pick c (Bad 26) (Known w)))) ≡ sparse_rest s cards at (pick a (Bad 20) (pick b (Bad 25) (Known w)))
+    → ((m : ℕ) → sparse_rest s cards at (pick a (Err 20) (pick b (Err 25) (pick c (Err 26) (Ok w)))) ≡ Err m → ⊥)
+    → sparse_rest s cards at (pick a (Err 20) (pick b (Err 25) (pick c (Err 26) (Ok w)))) ≡ sparse_rest s cards at (pick a (Err 20) (pick b (Err 25) (Ok w)))
 unfolding pick sparse_rest
 unmarked s cards at true b c w n = refl
 unmarked s cards at false true c w n = refl
 unmarked s cards at false false true w n = absurd (n 26 refl)
 unmarked s cards at false false false w n = refl
 
-same_unmarked : (s cards : List ℕ) (marks : List Bool) (at : ℕ) → ((m : ℕ) → sparse_head s cards marks at ≡ Fault m → ⊥) → sparse_head s cards marks at ≡ sparse_head s cards [] at
+same_unmarked : (s cards : List ℕ) (marks : List Bool) (at : ℕ) → ((m : ℕ) → sparse_head s cards marks at ≡ Err m → ⊥) → sparse_head s cards marks at ≡ sparse_head s cards [] at
 unfolding sparse_head sparse_index pick
 same_unmarked s cards marks at n =
     unmarked s cards at (ltb (length s - at) 8) (leb (length cards) (word s at)) (get_or marks (word s at) false) (word s at) n
 
 module _ (rule : Rule) (own : Owns rule) (k i base : ℕ) (s : List ℕ) (f : Forest) where
-  row_inner : (v : Node) → IsRow v → (o : Opening) → opening_of v s ≡ o → row_rule v rule o k i base s ≡ accepted f → Inner rule v base s (entry_of k i base (length s)) f
+  row_inner : (v : Node) → IsRow v → (o : Result Opening ℕ) → opening_of v s ≡ o → row_rule v rule o k i base s ≡ accepted f → Inner rule v base s (entry_of k i base (length s)) f
   unfolding row_rule child_head seek_in
-  row_inner v x (Wrong n) eo h = let z : ◌≡◌ {A = ℕ} 0 1 = cc in absurd (omega arith)
-  row_inner v x (Elements n first at) eo h =
+  row_inner v x (Err n) eo h = let z : ◌≡◌ {A = ℕ} 0 1 = cc in absurd (omega arith)
+  row_inner v x (Ok c) eo h =
       let u = under_listed _ _ f h in
       record {
         below = u.0;
@@ -220,14 +219,14 @@ module _ (rule : Rule) (own : Owns rule) (k i base : ℕ) (s : List ℕ) (f : Fo
         sought_in = λ w.
             rw eo
             (sought rule own (ref_at v) base s (row_form v s) v (λ a b. a ≡ b)
-            (λ st j b r q. rw r (row_head_at v s j b x)) (λ st j g r. ap (λ (m : ℕ). m + 1) r) n first first at refl u.0 u.1 w);
+            (λ st j b r q. rw r (row_head_at v s j b x)) (λ st j g r. ap (λ (m : ℕ). m + 1) r) c.count c.first c.first c.at refl u.0 u.1 w);
       }
 
-  sparse_inner : (refs cards : List ℕ) (o : Opening) → opening_of (sparse refs cards) s ≡ o → sparse_rule refs cards rule o k i base s ≡ accepted f
+  sparse_inner : (refs cards : List ℕ) (o : Result Opening ℕ) → opening_of (sparse refs cards) s ≡ o → sparse_rule refs cards rule o k i base s ≡ accepted f
       → Inner rule (sparse refs cards) base s (entry_of k i base (length s)) f
   unfolding sparse_rule child_head seek_in head_at
-  sparse_inner refs cards (Wrong n) eo h = let z : ◌≡◌ {A = ℕ} 0 1 = cc in absurd (omega arith)
-  sparse_inner refs cards (Elements n first at) eo h =
+  sparse_inner refs cards (Err n) eo h = let z : ◌≡◌ {A = ℕ} 0 1 = cc in absurd (omega arith)
+  sparse_inner refs cards (Ok c) eo h =
       let u = under_listed _ _ f h in
       record {
         below = u.0;
@@ -235,10 +234,10 @@ module _ (rule : Rule) (own : Owns rule) (k i base : ℕ) (s : List ℕ) (f : Fo
         sought_in = λ w.
             rw eo
             (sought rule own (ref_at (sparse refs cards)) base s (sparse_form cards s) (sparse refs cards) (λ a b. Unit {0})
-            (λ marks j b r q. same_unmarked s cards marks b q) (λ marks j g r. tt) n no_marks first at tt u.0 u.1 w);
+            (λ marks j b r q. same_unmarked s cards marks b q) (λ marks j g r. tt) c.count no_marks c.first c.at tt u.0 u.1 w);
       }
 
-  leaf_inner : (v : Node) → opening_of v s ≡ Wrong 33 → (good : Bool) → leaf_rule good k i base s ≡ accepted f → Inner rule v base s (entry_of k i base (length s)) f
+  leaf_inner : (v : Node) → opening_of v s ≡ Err 33 → (good : Bool) → leaf_rule good k i base s ≡ accepted f → Inner rule v base s (entry_of k i base (length s)) f
   unfolding leaf_rule pick child_head seek_in Sought sibling
   leaf_inner v x true h = record { below = empty; is = cc; sought_in = λ w. rw x (inl (refl, refl)) }
   leaf_inner v x false h = let z : ◌≡◌ {A = ℕ} 0 1 = cc in absurd (omega arith)
@@ -313,12 +312,12 @@ module _ (p t : List ℕ) (few : length t ≤ 65535) where
     present_leads (some c) i start size r l g e =
         leads c (at_ref p k i c a r).0 i (base + start) (take size (drop start s)) g (simp (length-take, length-drop) (omega arith)) (stands_part t base s st start size l) e
 
-    member_leads : (w : ℕ) (h : Head) → h ≡ child_head (look p k) s w → (g : Forest) → element_outcome rule (ref_at (look p k)) base s h ≡ accepted g
+    member_leads : (w : ℕ) (h : Result Head ℕ) → h ≡ child_head (look p k) s w → (g : Forest) → element_outcome rule (ref_at (look p k)) base s h ≡ accepted g
         → Led p t (follow path (top_of g)) (on_head (descend (look p) path) (missing path) (look p k) base s h)
     unfolding element_outcome on_head
-    member_leads w (Fault n) eh g e = let z : ◌≡◌ {A = ℕ} 0 1 = cc in absurd (omega arith)
-    member_leads w (Absent i start) eh g e = absent_leads (ref_at (look p k) i) i (base + start) g e
-    member_leads w (Present i start size) eh g e =
+    member_leads w (Err n) eh g e = let z : ◌≡◌ {A = ℕ} 0 1 = cc in absurd (omega arith)
+    member_leads w (Ok (Absent i start)) eh g e = absent_leads (ref_at (look p k) i) i (base + start) g e
+    member_leads w (Ok (Present i start size)) eh g e =
         present_leads (ref_at (look p k) i) i start size refl (child_in p k a s w _ eh i start size refl).inside g e
 
     step_leads : (w : ℕ) (f : Forest) → Sought rule (ref_at (look p k)) base s w f (child_head (look p k) s w)

@@ -4,116 +4,62 @@
 pub mod child;
 
 ghost use Rattle.std.specs.Prelude.{◌≡◌, ◌+◌, ◌≤◌, length};
-ghost use Rattle.find_path.specs.Find.{refused_no, refused_place, Finds};
-ghost use Rattle.find_path.specs.Descent.{descend, lost_at};
+ghost use Rattle.find_path.specs.Find.{outcome};
+ghost use Rattle.find_path.specs.Descent.{descend};
 ghost use Rattle.protocol.specs.Plans.{look};
 ghost use Rattle.plan_nodes.specs.Readers.{At};
 ghost use Rattle.protocol.specs.Finding.{find_of};
 
 use forms::Head;
+use forms::fault::{Fault, Refusal};
 
-// The number of a path that leads to no present element: it ends at an absent one, or it names none.
-fn lost_number(head: Head, length: usize) -> u32
-    ensures { result ≡ lost_at head length }
-{
-    let Head::Absent { index: _, start: _ } = head else {
-        return constants::NO_ENTRY;
-    };
-    if length == 1 {
-        return constants::ABSENT_ELEMENT;
-    }
-    constants::NO_ENTRY
+// An element that is found: its bytes, as a part of the value that was lent (R7.3); the node that they are a value of; and where they start in
+// the value.
+#[derive(Clone, Copy)]
+pub struct Found<'v> {
+    pub part: &'v [u8],
+    pub node: u32,
+    pub start: u32,
 }
 
-// What the path leads to from a value of a node; places count from `base`.
+// What the path leads to from a value of a node, which starts at `base` in the top value: its first word names an element, and the rest of the
+// path, which is shorter, leads on from there (R7.2).
 fn down<'v>(
     plan: &[u32],
     node: usize,
     base: usize,
     part: &'v [u8],
     path: &[u32],
-    no: &mut u32,
-    to: &mut u32,
-    start: &mut u32,
-) -> &'v [u8]
+) -> Result<Found<'v>, Refusal>
     requires { (At plan.now node) × (base + length part.now ≤ 65535) }
-    ensures { Finds (descend (look plan.now) path.now node base part.now) result.now no.new 0 to.new start.new }
+    ensures { outcome result ≡ descend (look plan.now) path.now node base part.now }
 {
-    if path.len() == 0 {
-        *no = 0;
-        *to = node as u32;
-        *start = base as u32;
-        return part;
+    if path.is_empty() {
+        return Ok(Found {
+            part,
+            node: node as u32,
+            start: base as u32,
+        });
     }
-    let head = child::child_head(plan, node, part, path[0] as usize);
-    let Head::Present {
-        index,
-        start: from,
-        size,
-    } = head
-    else {
-        *no = lost_number(head, path.len());
-        *to = 0;
-        *start = 0;
-        return &part[0..0];
-    };
-    let child = plan_nodes::node::ref_of(plan, node, index);
-    let end = from + size;
-    let place = base + from;
-    let bytes = &part[from..end];
     let rest = &path[1..];
-    down(plan, child, place, bytes, rest, no, to, start)
-}
-
-// The number of a run's refusal, or 0.
-fn refused_no(answer: run_plan::Answer) -> u32
-    ensures { result ≡ refused_no answer }
-{
-    let run_plan::Answer::Refused { no, place: _ } = answer else {
-        return 0;
-    };
-    no
-}
-
-// Its place.
-fn refused_place(answer: run_plan::Answer) -> u32
-    ensures { result ≡ refused_place answer }
-{
-    let run_plan::Answer::Refused { no: _, place } = answer else {
-        return 0;
-    };
-    place
-}
-
-// The element that a path leads to, as a part of the value; its node and start, or number and place of a refusal, go out through the
-// last four.
-pub fn find<'v>(
-    plan: &[u32],
-    value: &'v [u8],
-    path: &[u32],
-    no: &mut u32,
-    place: &mut u32,
-    node: &mut u32,
-    start: &mut u32,
-) -> &'v [u8]
-    ensures { Finds (find_of plan.now value.now path.now) result.now no.new place.new node.new start.new }
-{
-    let mut none = [0u32; 0];
-    let answer = run_plan::check(plan, value, &mut none);
-    let run_plan::Answer::Listed { words: _ } = answer else {
-        *no = refused_no(answer);
-        *place = refused_place(answer);
-        *node = 0;
-        *start = 0;
-        return &value[0..0];
-    };
-    *place = 0;
-    if plan_check::no_type(plan) {
-        *no = constants::NO_ENTRY;
-        *node = 0;
-        *start = 0;
-        return &value[0..0];
+    match child::child_head(plan, node, part, path[0] as usize) {
+        Ok(Head::Present { index, start, size }) => {
+            let child = plan_nodes::node::ref_of(plan, node, index);
+            down(plan, child, base + start, &part[start..start + size], rest)
+        }
+        // R7.5: the path ends at an absent element; R7.4: it goes on from one, or it names none.
+        Ok(Head::Absent { .. }) if rest.is_empty() => Err(Fault::ABSENT_ELEMENT.at(0)),
+        _ => Err(Fault::NO_ENTRY.at(0)),
     }
-    let root = plan_nodes::node::root_of(plan);
-    down(plan, root, 0, value, path, no, node, start)
+}
+
+// The element that a path leads to, as a part of the value.
+pub fn find<'v>(plan: &[u32], value: &'v [u8], path: &[u32]) -> Result<Found<'v>, Refusal>
+    ensures { outcome result ≡ find_of plan.now value.now path.now }
+{
+    run_plan::check(plan, value, &mut [])?;
+    if plan_check::no_type(plan) {
+        return Err(Fault::NO_ENTRY.at(0));
+    }
+    down(plan, plan_nodes::node::root_of(plan), 0, value, path)
 }

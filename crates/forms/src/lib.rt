@@ -1,29 +1,26 @@
 // The enums and structs that the code and the definitions share, and the methods that make an intake's states and answers.
 #![tactic(auto)]
 
+pub mod fault;
+
 ghost use Rattle.std.specs.Prelude.{◌≡◌};
 
-// What stands at a position of a message: a field that runs past the end, one whose content is not permitted, or its content.
+// The content of a message's field: where it starts, and how many bytes it has.
 #[derive(Clone, Copy)]
-pub enum FieldRead {
-    Short,
-    Barred,
-    At { start: usize, len: usize },
+pub struct Span {
+    pub start: usize,
+    pub len: usize,
 }
 
-// A container's head: how many elements follow, the index of the first and where it stands; or the number of a refusal.
+// A container's head: how many elements follow, the index of the first and where it stands.
 #[derive(Clone, Copy)]
-pub enum Opening {
-    Elements {
-        count: usize,
-        first: usize,
-        at: usize,
-    },
-    Wrong(u32),
+pub struct Opening {
+    pub count: usize,
+    pub first: usize,
+    pub at: usize,
 }
 
-// An element's head: its index, where its bytes start and how many they are; its index and the place past its head where it is absent;
-// or the number of a refusal.
+// An element's head: its index, where its bytes start and how many they are; or, where it is absent, its index and the place past its head.
 #[derive(Clone, Copy)]
 pub enum Head {
     Present {
@@ -35,14 +32,6 @@ pub enum Head {
         index: usize,
         start: usize,
     },
-    Fault(u32),
-}
-
-// A sparse element's index: one that is known and new, or the number of a refusal.
-#[derive(Clone, Copy)]
-pub enum Index {
-    Known(usize),
-    Bad(u32),
 }
 
 // What a C call answers: a refusal's number and place, or two results.
@@ -55,6 +44,20 @@ pub struct Answer {
     pub second: u32,
 }
 
+impl Answer {
+    // No refusal, with two results (R9.8).
+    pub fn success(first: u32, second: u32) -> Answer
+        ensures { result ≡ record { number = 0; place = 0; first = first; second = second } }
+    {
+        Answer {
+            number: 0,
+            place: 0,
+            first,
+            second,
+        }
+    }
+}
+
 // What the C call for the number of an element answers: a refusal's number and place, or its format and its bits.
 #[repr(C)]
 #[derive(Clone, Copy)]
@@ -65,12 +68,11 @@ pub struct Number {
     pub bits: u64,
 }
 
-// What the bytes at hand of an intake come to, before a message is judged (R10.3): so many are lacking; the number of a refusal, whose place is
-// 0; or a message of so many bytes is whole.
+// What the bytes at hand of an intake come to, before a message is judged and where nothing is refused (R10.3): so many are lacking, or a
+// message of so many bytes is whole.
 #[derive(Clone, Copy)]
 pub enum AtHand {
     Lacking(usize),
-    Unfit(u32),
     Whole(usize),
 }
 

@@ -18,7 +18,8 @@ use Rattle.protocol.specs.Intake.{at_hand, StreamEnd, unfinished, broken_off, St
 use Rattle.protocol.specs.Intake.{judged_delivery, take_by, take_of, Conversation, hand_on, hand_in, hand_all, conversation}
 use Rattle.protocol.specs.Intake.{all_bytes, end_state, end_held, ComesTo}
 use Rattle.forms.specs.declared.AtHand.{AtHand}
-use Rattle.forms.specs.declared.AtHand.TheVariants.{Lacking, Unfit, Whole}
+use Rattle.forms.specs.declared.AtHand.TheVariants.{Lacking, Whole}
+use Rattle.std.specs.Prelude.{Result, Ok, Err}
 
 -- ---- the room
 
@@ -39,7 +40,7 @@ module _ (side room : ℕ) where
     pub held : take (length h) c.room ≡ h
     pub size : length c.room ≡ room
     pub lacks : ℕ
-    pub waiting : at_hand room h ≡ Lacking lacks
+    pub waiting : at_hand room h ≡ Ok (Lacking lacks)
 
   module _ (c : Conversation) (h d : List ℕ) (w : Waits c h) where
     pub call_is : take_of c.intake d c.room ≡ take_by (holding room side (length h)) h d c.room (at_hand room (h ++ d))
@@ -50,7 +51,7 @@ module _ (side room : ℕ) where
     stays x l = over_length x c.room (omega (arith, w.size)) ∙ w.size
 
     -- a message ends in the delivery, and not in what was held
-    takes_some : (n : ℕ) → at_hand room (h ++ d) ≡ Whole n → length h < n
+    takes_some : (n : ℕ) → at_hand room (h ++ d) ≡ Ok (Whole n) → length h < n
     takes_some n e =
         elim (dec_lt (length h) n) [
           | yes l ↦ l
@@ -69,7 +70,7 @@ module _ (side room : ℕ) where
 
     module _ (again : Conversation → List ℕ → Conversation) where
       came_lacking : (k : ℕ) → Missing room (h ++ d) k
-          → Stands (hand_on c again d (take_by (holding room side (length h)) h d c.room (Lacking k))) (after c.given (stream_by side (h ++ d) (stream_of side room) (Lacking k)))
+          → Stands (hand_on c again d (take_by (holding room side (length h)) h d c.room (Ok (Lacking k)))) (after c.given (stream_by side (h ++ d) (stream_of side room) (Ok (Lacking k))))
       unfolding hand_on take_by stream_by end_state end_held pick
       came_lacking k t =
           record {
@@ -79,7 +80,7 @@ module _ (side room : ℕ) where
           }
 
       came_unfit : (n : ℕ)
-          → Stands (hand_on c again d (take_by (holding room side (length h)) h d c.room (Unfit n))) (after c.given (stream_by side (h ++ d) (stream_of side room) (Unfit n)))
+          → Stands (hand_on c again d (take_by (holding room side (length h)) h d c.room (Err n))) (after c.given (stream_by side (h ++ d) (stream_of side room) (Err n)))
       unfolding hand_on take_by stream_by end_state end_held pick
       came_unfit n =
           record { comes = record { messages_are = sym (append-nil c.given); state_is = refl; held_are = refl }; size = w.size }
@@ -135,12 +136,12 @@ module _ (side room : ℕ) where
   came_by : (c : Conversation) (h d : List ℕ) → Waits c h → (again : Conversation → List ℕ → Conversation)
       → ((b : Conversation) (n : ℕ) → Waits b [] → length h < n → n ≤ length (h ++ d)
       → Stands (again b (drop (n - length h) d)) (after b.given (stream_of side room (drop (n - length h) d))))
-      → (a : AtHand) → at_hand room (h ++ d) ≡ a → Told room (h ++ d) a
+      → (a : Result AtHand ℕ) → at_hand room (h ++ d) ≡ a → Told room (h ++ d) a
       → Stands (hand_on c again d (take_by (holding room side (length h)) h d c.room a)) (after c.given (stream_by side (h ++ d) (stream_of side room) a))
   unfolding take_by stream_by
-  came_by c h d w again f (Lacking k) e t = came_lacking c h d w again k t
-  came_by c h d w again f (Unfit n) e t = came_unfit c h d w again n
-  came_by c h d w again f (Whole n) e t =
+  came_by c h d w again f (Ok (Lacking k)) e t = came_lacking c h d w again k t
+  came_by c h d w again f (Err n) e t = came_unfit c h d w again n
+  came_by c h d w again f (Ok (Whole n)) e t =
       let some = takes_some c h d w n e in
       let after-it = f (given c h d w again n t) n (given_waits c h d w again n t) some t.inside in
       rw (left c h d w n (omega (arith, some)))

@@ -2,7 +2,7 @@
 use mathlib.Core.Path.{◌≡◌, refl, ap, sym}
 use mathlib.Core.List.{List}
 use mathlib.Core.Logic.{◌⊎◌, inl, inr, ⊎_elim}
-use Prim.Native.Nat.{ℕ, zero, suc, ◌+◌, ◌-◌, ◌≤◌}
+use Prim.Native.Nat.{ℕ, zero, suc, ◌+◌, ◌≤◌}
 use native.Mathlib.Omega.{arith}
 use lib.ListN.{length, take, drop, get_or, length-drop}
 use lib.Seq.{length-take-le}
@@ -15,7 +15,8 @@ use Rattle.protocol.specs.Numbers.{pick, be}
 use Rattle.protocol.specs.Messages.{layout_of, MessageRead, unread, read, body_whole, message_head, message_by, message_of}
 use Rattle.protocol.specs.Intake.{at_hand, StreamEnd, unfinished, broken_off, Stream, with_message, stream_by, stream_of}
 use Rattle.forms.specs.declared.AtHand.{AtHand}
-use Rattle.forms.specs.declared.AtHand.TheVariants.{Lacking, Unfit, Whole}
+use Rattle.forms.specs.declared.AtHand.TheVariants.{Lacking, Whole}
+use Rattle.std.specs.Prelude.{Result, Ok, Err}
 
 -- ---- a whole message, judged
 
@@ -43,7 +44,7 @@ abbrev pub Refusal : ℕ → Type 0
 Refusal n = ((2 ≤ n) × (n ≤ 6)) ⊎ (n ≡ 32)
 
 abbrev pub Ends : ℕ → StreamEnd → Type 0
-Ends room (unfinished s) = (k : ℕ) × (at_hand room s ≡ Lacking k)
+Ends room (unfinished s) = (k : ℕ) × (at_hand room s ≡ Ok (Lacking k))
 Ends room (broken_off n p) = Refusal n
 
 pub unfit_refusal : (n : ℕ) → (n ≡ 2) ⊎ (n ≡ 32) → Refusal n
@@ -62,12 +63,12 @@ module _ (side room : ℕ) where
   ends_read m (unread n p) x j h = judged_refusal n j
   ends_read m (read u ws) x j h = h
 
-  ends_by : (s : List ℕ) (a : AtHand) → at_hand room s ≡ a → Told room s a → ((n : ℕ) → 5 ≤ n → n ≤ length s → Ends room (stream_of side room (drop n s)).end)
+  ends_by : (s : List ℕ) (a : Result AtHand ℕ) → at_hand room s ≡ a → Told room s a → ((n : ℕ) → 5 ≤ n → n ≤ length s → Ends room (stream_of side room (drop n s)).end)
       → Ends room (stream_by side s (stream_of side room) a).end
   unfolding stream_by
-  ends_by s (Lacking k) e t h = (k, e)
-  ends_by s (Unfit n) e t h = unfit_refusal n t
-  ends_by s (Whole n) e t h =
+  ends_by s (Ok (Lacking k)) e t h = (k, e)
+  ends_by s (Err n) e t h = unfit_refusal n t
+  ends_by s (Ok (Whole n)) e t h =
       ends_read (take n s) (message_of side (take n s)) (stream_of side room (drop n s)) (whole_judged side room s n t) (h n t.low t.inside)
 
   ends_in : (f : ℕ) (s : List ℕ) → length s ≤ f → Ends room (stream_of side room s).end

@@ -1,15 +1,17 @@
 -- What the bytes at hand come to stays so when more bytes come, unless some were lacking.
 use mathlib.Core.Path.{◌≡◌, refl, ap, sym, ◌∙◌}
 use mathlib.Core.List.{List, ◌++◌}
+use mathlib.Core.Logic.{inl, inr}
 use Prim.Native.Nat.{ℕ, ◌+◌, ◌-◌, ◌<◌, ◌≤◌}
 use native.Mathlib.Omega.{arith}
 use native.Mathlib.Decide.{dec_lt}
 use lib.ListN.{length, take, drop, length-append, length-drop}
 use lib.Seq.{take-append-le, drop-append-le}
-use Rattle.message_intake.proofs.Hands.{Ready, told, hand_none, hand_no_head, hand_short, hand_small, hand_large, hand_unfit, hand_lacking, hand_whole}
+use Rattle.message_intake.proofs.Hands.{Ready, told, whole_of, hand_none, hand_no_head, hand_short, hand_length, hand_unfit, hand_lacking, hand_whole}
 use Rattle.protocol.specs.Numbers.{be}
 use Rattle.protocol.specs.Intake.{at_hand}
 use Rattle.forms.specs.declared.AtHand.TheVariants.{Lacking, Whole}
+use Rattle.std.specs.Prelude.{Ok}
 
 module _ (room : ℕ) (b d : List ℕ) where
   grown : length b ≤ length (b ++ d)
@@ -26,7 +28,7 @@ module _ (room : ℕ) (b d : List ℕ) where
     long : 5 ≤ length (b ++ d)
     long = omega (arith, grown)
 
-    settled_size : 4 ≤ be (take 4 (drop 1 b)) → be (take 4 (drop 1 b)) ≤ 65535 → ((k : ℕ) → at_hand room b ≡ Lacking k → ⊥) → at_hand room (b ++ d) ≡ at_hand room b
+    settled_size : 4 ≤ be (take 4 (drop 1 b)) → be (take 4 (drop 1 b)) ≤ 65535 → ((k : ℕ) → at_hand room b ≡ Ok (Lacking k) → ⊥) → at_hand room (b ++ d) ≡ at_hand room b
     settled_size j k sure =
         let m = be (take 4 (drop 1 b)) in
         let f = same_field h in
@@ -43,21 +45,21 @@ module _ (room : ℕ) (b d : List ℕ) where
               ]
         ]
 
-    settled_head : ((k : ℕ) → at_hand room b ≡ Lacking k → ⊥) → at_hand room (b ++ d) ≡ at_hand room b
+    settled_head : ((k : ℕ) → at_hand room b ≡ Ok (Lacking k) → ⊥) → at_hand room (b ++ d) ≡ at_hand room b
     settled_head sure =
         let m = be (take 4 (drop 1 b)) in
         let f = same_field h in
         elim (dec_lt m 4) [
-          | yes j ↦ hand_small room (b ++ d) g long m f j ∙ sym (hand_small room b g h m refl j)
+          | yes j ↦ hand_length room (b ++ d) g long m f (inl j) ∙ sym (hand_length room b g h m refl (inl j))
           | no j ↦
               let j' : 4 ≤ m = omega arith in
               elim (dec_lt 65535 m) [
-                | yes k ↦ hand_large room (b ++ d) g long m f j' k ∙ sym (hand_large room b g h m refl j' k)
+                | yes k ↦ hand_length room (b ++ d) g long m f (inr (j', k)) ∙ sym (hand_length room b g h m refl (inr (j', k)))
                 | no k ↦ let k' : m ≤ 65535 = omega arith in settled_size j' k' sure
               ]
         ]
 
-  settled_some : 0 < length b → ((k : ℕ) → at_hand room b ≡ Lacking k → ⊥) → at_hand room (b ++ d) ≡ at_hand room b
+  settled_some : 0 < length b → ((k : ℕ) → at_hand room b ≡ Ok (Lacking k) → ⊥) → at_hand room (b ++ d) ≡ at_hand room b
   settled_some s sure =
       let s' : 0 < length (b ++ d) = omega (arith, grown) in
       elim (dec_lt room 5) [
@@ -71,7 +73,7 @@ module _ (room : ℕ) (b d : List ℕ) where
       ]
 
   -- what lacks nothing is settled
-  pub settled : ((k : ℕ) → at_hand room b ≡ Lacking k → ⊥) → at_hand room (b ++ d) ≡ at_hand room b
+  pub settled : ((k : ℕ) → at_hand room b ≡ Ok (Lacking k) → ⊥) → at_hand room (b ++ d) ≡ at_hand room b
   settled sure =
       elim (dec_lt 0 (length b)) [
         | yes s ↦ settled_some s sure
@@ -79,10 +81,10 @@ module _ (room : ℕ) (b d : List ℕ) where
       ]
 
   -- a message that is whole with more bytes was whole before, if it ends in the bytes before
-  pub whole_before : (n : ℕ) → at_hand room (b ++ d) ≡ Whole n → n ≤ length b → at_hand room b ≡ Whole n
+  pub whole_before : (n : ℕ) → at_hand room (b ++ d) ≡ Ok (Whole n) → n ≤ length b → at_hand room b ≡ Ok (Whole n)
   whole_before n e q =
       let r : Ready room (b ++ d) n = rw e at (told room (b ++ d)) in
       let h : 5 ≤ length b = omega (arith, r.low) in
       let z : be (take 4 (drop 1 b)) + 1 ≡ n = ap (λ (x : ℕ). x + 1) (same_field h) ∙ sym r.size in
       hand_whole room b (omega (arith, r.low, r.fits)) h (be (take 4 (drop 1 b))) refl (omega (arith, r.low)) (omega (arith, r.high)) (omega (arith, r.fits)) (omega arith)
-      ∙ ap Whole z
+      ∙ ap whole_of z

@@ -10,7 +10,7 @@ use borrow.Author.Tests.{le-ltb}
 use Rattle.message_read.proofs.Whole.{whole, roomy}
 use Rattle.message_laws.proofs.Covers.{part_take}
 use Rattle.message_laws.proofs.Again.{used}
-use Rattle.message_intake.proofs.Hands.{Ready, Told, told, hand_whole}
+use Rattle.message_intake.proofs.Hands.{Ready, Told, told, whole_of, hand_whole}
 use Rattle.intake_laws.proofs.Ends.{head_whole}
 use Rattle.intake_laws.proofs.Refusals.{other_room, again, by_hand}
 use Rattle.protocol.specs.Numbers.{pick, be}
@@ -19,7 +19,8 @@ use Rattle.protocol.specs.Messages.{MessageRead, unread, read, body_whole, messa
 use Rattle.protocol.specs.Intake.{at_hand, intake_start, Taken, taken_delivery, judged_delivery, take_by, take_of}
 use Rattle.forms.specs.declared.Intake.{Intake}
 use Rattle.forms.specs.declared.AtHand.{AtHand}
-use Rattle.forms.specs.declared.AtHand.TheVariants.{Lacking, Unfit, Whole}
+use Rattle.forms.specs.declared.AtHand.TheVariants.{Lacking, Whole}
+use Rattle.std.specs.Prelude.{Result, Ok, Err}
 
 -- what is read, is read in a list of just that room
 pub roomed : (side : ℕ) (s : List ℕ) (u : ℕ) (ws : List ℕ) → message_of side s ≡ read u ws → message_call side s (length ws) ≡ read u ws
@@ -48,11 +49,11 @@ module _ (i : Intake) (src h l : List ℕ) where
       let q : u ≡ n = omega (arith, used_of i.side (take n (h ++ src)) u ws e, p, r.size) in
       (ws, rw f (e ∙ ap (λ (k : ℕ). read k ws) q))
 
-  given_by : (a : AtHand) → Told (length l) (h ++ src) a → Given i.side (take_by i h src l a)
+  given_by : (a : Result AtHand ℕ) → Told (length l) (h ++ src) a → Given i.side (take_by i h src l a)
   unfolding take_by
-  given_by (Lacking k) t z = absurd (z refl)
-  given_by (Unfit n) t z = absurd (z refl)
-  given_by (Whole n) t z = given_read n t (message_of i.side (take n (h ++ src))) refl z
+  given_by (Ok (Lacking k)) t z = absurd (z refl)
+  given_by (Err n) t z = absurd (z refl)
+  given_by (Ok (Whole n)) t z = given_read n t (message_of i.side (take n (h ++ src))) refl z
 
 pub given : (i : Intake) (src l : List ℕ) → Given i.side (take_of i src l)
 given i src l =
@@ -93,8 +94,8 @@ read_of side s u ws l e h =
     let m = be (take 4 (drop 1 s)) in
     let w = whole side s u ws e in
     let z : u ≡ m + 1 = used_of side s u ws e in
-    let f : at_hand (length l) s ≡ Whole u =
-    hand_whole (length l) s (omega (arith, w.low)) w.long m refl w.low w.high (omega arith) w.fits ∙ ap Whole (sym z) in
+    let f : at_hand (length l) s ≡ Ok (Whole u) =
+    hand_whole (length l) s (omega (arith, w.low)) w.long m refl w.low w.high (omega arith) w.fits ∙ ap whole_of (sym z) in
     let r : Ready (length l) s u = rw f at (told (length l) s) in
     let none : u - 0 ≡ u = omega arith in
     by_hand (intake_start side (length l)) s l refl refl ∙ rw (f, alone (length l) s u r side, e, none)

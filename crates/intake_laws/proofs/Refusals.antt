@@ -1,7 +1,7 @@
 -- For every state: a refusal stays until a reset (R10.5), and another room changes nothing (R10.6).
 use mathlib.Core.Path.{◌≡◌, refl, ◌∙◌}
 use mathlib.Core.List.{List, ◌++◌}
-use Prim.Native.Nat.{ℕ, ◌+◌, ◌-◌}
+use Prim.Native.Nat.{ℕ, ◌-◌}
 use native.Mathlib.Omega.{arith}
 use native.Mathlib.Decide.{ℕ_discrete}
 use lib.ListN.{length, take}
@@ -15,7 +15,8 @@ use Rattle.protocol.specs.Messages.{MessageRead, unread, read, message_of}
 use Rattle.protocol.specs.Intake.{at_hand, intake_ended, Taken, judged_delivery, take_by, unchanged, take_of}
 use Rattle.forms.specs.declared.Intake.{Intake}
 use Rattle.forms.specs.declared.AtHand.{AtHand}
-use Rattle.forms.specs.declared.AtHand.TheVariants.{Lacking, Unfit, Whole}
+use Rattle.forms.specs.declared.AtHand.TheVariants.{Lacking, Whole}
+use Rattle.std.specs.Prelude.{Result, Ok, Err}
 
 pub other_room : (i : Intake) (src l : List ℕ) → (length l ≡ i.room → ⊥) → take_of i src l ≡ unchanged i 32 0 l
 unfolding take_of pick
@@ -44,11 +45,11 @@ module _ (i : Intake) (src' : List ℕ) where
     stays_read n s (unread m p) z = again (intake_ended i m p) src' (over (take n (h ++ src)) l) s z
     stays_read n s (read u ws) z = absurd (z refl)
 
-    stays_by : (a : AtHand) → Told (length l) (h ++ src) a → Stays (take_by i h src l a)
+    stays_by : (a : Result AtHand ℕ) → Told (length l) (h ++ src) a → Stays (take_by i h src l a)
     unfolding take_by
-    stays_by (Lacking k) t z = absurd (z refl)
-    stays_by (Unfit n) t z = again (intake_ended i n 0) src' l e z
-    stays_by (Whole n) t z =
+    stays_by (Ok (Lacking k)) t z = absurd (z refl)
+    stays_by (Err n) t z = again (intake_ended i n 0) src' l e z
+    stays_by (Ok (Whole n)) t z =
         let s : length (take n (h ++ src)) ≡ n = length-take-le n (h ++ src) t.inside in
         stays_read n (over_length (take n (h ++ src)) l (omega (arith, s, t.fits)) ∙ e) (message_of i.side (take n (h ++ src))) z
 

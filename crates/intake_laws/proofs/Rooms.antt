@@ -1,5 +1,5 @@
 -- For every state: an intake's room keeps its length, and what is behind the bytes held or the message given (R10.7).
-use mathlib.Core.Path.{◌≡◌, refl, ap, sym, ◌∙◌}
+use mathlib.Core.Path.{◌≡◌, refl, ap, ◌∙◌}
 use mathlib.Core.List.{List, ◌++◌}
 use Prim.Native.Nat.{ℕ, ◌+◌, ◌-◌}
 use native.Mathlib.Omega.{arith}
@@ -16,7 +16,8 @@ use Rattle.protocol.specs.Messages.{MessageRead, unread, read, message_of}
 use Rattle.protocol.specs.Intake.{at_hand, Taken, judged_delivery, take_by, take_of}
 use Rattle.forms.specs.declared.Intake.{Intake}
 use Rattle.forms.specs.declared.AtHand.{AtHand}
-use Rattle.forms.specs.declared.AtHand.TheVariants.{Lacking, Unfit, Whole}
+use Rattle.forms.specs.declared.AtHand.TheVariants.{Lacking, Whole}
+use Rattle.std.specs.Prelude.{Result, Ok, Err}
 
 pub record Kept (l : List ℕ) (t : Taken) : Type 0 where
   pub long : length t.room ≡ length l
@@ -35,13 +36,13 @@ module _ (i : Intake) (h src l : List ℕ) where
       let z : 0 + n ≡ n = omega arith in
       record { long = e; behind = λ _. rw z (front_put (take n (h ++ src)) l n s) }
 
-  kept_by : (a : AtHand) → Told (length l) (h ++ src) a → Kept l (take_by i h src l a)
+  kept_by : (a : Result AtHand ℕ) → Told (length l) (h ++ src) a → Kept l (take_by i h src l a)
   unfolding take_by
-  kept_by (Lacking k) t =
+  kept_by (Ok (Lacking k)) t =
       let z : length (h ++ src) + 0 ≡ length (h ++ src) = omega arith in
       record { long = over_length (h ++ src) l t.fits; behind = λ _. rw z (front_put (h ++ src) l (length (h ++ src)) refl) }
-  kept_by (Unfit n) t = record { long = refl; behind = λ _. refl }
-  kept_by (Whole n) t =
+  kept_by (Err n) t = record { long = refl; behind = λ _. refl }
+  kept_by (Ok (Whole n)) t =
       let s : length (take n (h ++ src)) ≡ n = length-take-le n (h ++ src) t.inside in
       kept_read n s (over_length (take n (h ++ src)) l (omega (arith, s, t.fits))) (message_of i.side (take n (h ++ src)))
       (whole_judged i.side (length l) (h ++ src) n t)

@@ -1,7 +1,7 @@
 -- What holds of an intake's states: what a start, calls and resets lead to, and what is then answered (R10.2, R10.4).
 use mathlib.Core.Path.{◌≡◌, refl, ap, ◌∙◌}
 use mathlib.Core.List.{List, [], ◌++◌}
-use Prim.Native.Nat.{ℕ, ◌+◌, ◌-◌}
+use Prim.Native.Nat.{ℕ, ◌-◌}
 use native.Mathlib.Omega.{arith}
 use lib.ListN.{length, take, drop}
 use lib.Seq.{take-append_seam, length-take-le}
@@ -17,14 +17,15 @@ use Rattle.protocol.specs.Intake.{at_hand, holding, intake_start, intake_reset, 
 use Rattle.forms.specs.declared.Intake.{Intake}
 use Rattle.forms.specs.declared.Delivery.{Delivery}
 use Rattle.forms.specs.declared.AtHand.{AtHand}
-use Rattle.forms.specs.declared.AtHand.TheVariants.{Lacking, Unfit, Whole}
+use Rattle.forms.specs.declared.AtHand.TheVariants.{Lacking, Whole}
+use Rattle.std.specs.Prelude.{Result, Ok, Err}
 
 module _ (side room : ℕ) where
   -- ---- a state that was reached
 
   -- bytes wait in the room, and some are lacking; or a refusal ended the intake
   pub data State (i : Intake) (l : List ℕ) : Type 0 where
-    waits : (h : List ℕ) (k : ℕ) → i ≡ holding room side (length h) → take (length h) l ≡ h → at_hand room h ≡ Lacking k → State i l
+    waits : (h : List ℕ) (k : ℕ) → i ≡ holding room side (length h) → take (length h) l ≡ h → at_hand room h ≡ Ok (Lacking k) → State i l
     over_with : (n p : ℕ) → i ≡ record { room = room; side = side; held = 0; number = n; place = p } → Refusal n → State i l
 
   -- what is answered with it: what is lacking to the bytes held, which are in the room, or a refusal
@@ -63,17 +64,17 @@ module _ (side room : ℕ) where
           size = s;
         }
 
-    called_by : (a : AtHand) → at_hand room (h ++ src) ≡ a → Told room (h ++ src) a → Called (take_by (holding room side (length h)) h src l a)
+    called_by : (a : Result AtHand ℕ) → at_hand room (h ++ src) ≡ a → Told room (h ++ src) a → Called (take_by (holding room side (length h)) h src l a)
     unfolding take_by
-    called_by (Lacking k) q t =
+    called_by (Ok (Lacking k)) q t =
         let f : take (length (h ++ src)) (over (h ++ src) l) ≡ h ++ src = take-append_seam (h ++ src) (drop (length (h ++ src)) l) in
         record {
           state = waits (h ++ src) k refl f q;
           answers = record { held = ap length f; number = refl; place = refl; lacking = λ _. rw f t; refusal = λ z. absurd (z refl) };
           size = over_length (h ++ src) l (omega (arith, t.fits)) ∙ e;
         }
-    called_by (Unfit n) q t = refuses n 0 l (unfit_refusal n t) e
-    called_by (Whole n) q t =
+    called_by (Err n) q t = refuses n 0 l (unfit_refusal n t) e
+    called_by (Ok (Whole n)) q t =
         let s : length (take n (h ++ src)) ≡ n = length-take-le n (h ++ src) t.inside in
         called_read n (over_length (take n (h ++ src)) l (omega (arith, s, t.fits)) ∙ e) (message_of side (take n (h ++ src)))
         (whole_judged side room (h ++ src) n t)

@@ -1,7 +1,7 @@
 -- Reading the bytes of a side message after message: the steps are enough, and more bytes at the end go on where the reading ended.
 use mathlib.Core.Path.{◌≡◌, refl, ap, sym, ◌∙◌}
 use mathlib.Core.List.{List, [], ◌∷◌, ◌++◌}
-use Prim.Native.Nat.{ℕ, zero, suc, ◌+◌, ◌-◌, ◌≤◌}
+use Prim.Native.Nat.{ℕ, zero, suc, ◌≤◌}
 use native.Mathlib.Omega.{arith}
 use lib.ListN.{length, take, drop, length-drop}
 use lib.Seq.{take-append-le, drop-append-le}
@@ -10,7 +10,8 @@ use Rattle.intake_laws.proofs.Longer.{settled}
 use Rattle.protocol.specs.Messages.{MessageRead, unread, read, message_of}
 use Rattle.protocol.specs.Intake.{at_hand, StreamEnd, unfinished, broken_off, Stream, no_message, with_message, stream_by, stream_in, stream_of}
 use Rattle.forms.specs.declared.AtHand.{AtHand}
-use Rattle.forms.specs.declared.AtHand.TheVariants.{Lacking, Unfit, Whole}
+use Rattle.forms.specs.declared.AtHand.TheVariants.{Lacking, Whole}
+use Rattle.std.specs.Prelude.{Result, Ok, Err}
 
 -- messages before a reading
 abbrev pub after : List (List ℕ) → Stream → Stream
@@ -29,12 +30,12 @@ onward_more next d m ms (broken_off n p) = refl
 module _ (side room : ℕ) where
   -- ---- as many steps as there are bytes, or more, come to the same
 
-  fuel_by : (s : List ℕ) (f g : List ℕ → Stream) → ((n : ℕ) → 5 ≤ n → n ≤ length s → f (drop n s) ≡ g (drop n s)) → (a : AtHand) → Told room s a
+  fuel_by : (s : List ℕ) (f g : List ℕ → Stream) → ((n : ℕ) → 5 ≤ n → n ≤ length s → f (drop n s) ≡ g (drop n s)) → (a : Result AtHand ℕ) → Told room s a
       → stream_by side s f a ≡ stream_by side s g a
   unfolding stream_by
-  fuel_by s f g h (Lacking k) t = refl
-  fuel_by s f g h (Unfit n) t = refl
-  fuel_by s f g h (Whole n) t = ap (with_message (take n s) (message_of side (take n s))) (h n t.low t.inside)
+  fuel_by s f g h (Ok (Lacking k)) t = refl
+  fuel_by s f g h (Err n) t = refl
+  fuel_by s f g h (Ok (Whole n)) t = ap (with_message (take n s) (message_of side (take n s))) (h n t.low t.inside)
 
   fuel_none : (f : ℕ) (s : List ℕ) → length s ≤ 0 → stream_in side room f s ≡ no_message (unfinished s)
   unfolding stream_in stream_by at_hand
@@ -76,18 +77,18 @@ module _ (side room : ℕ) where
   more_read m d (read u ws) x = onward_more (stream_of side room) d m x.messages x.end
 
   module _ (b d : List ℕ) where
-    more_by : (a : AtHand) → at_hand room b ≡ a → Told room b a
+    more_by : (a : Result AtHand ℕ) → at_hand room b ≡ a → Told room b a
         → ((n : ℕ) → 5 ≤ n → n ≤ length b
         → stream_of side room (drop n b ++ d) ≡ onward (stream_of side room) d (stream_of side room (drop n b)).messages (stream_of side room (drop n b)).end)
         → stream_of side room (b ++ d)
         ≡ onward (stream_of side room) d (stream_by side b (stream_of side room) a).messages (stream_by side b (stream_of side room) a).end
     unfolding stream_by onward
-    more_by (Lacking k) e t h = refl
-    more_by (Unfit n) e t h =
-        let f : at_hand room (b ++ d) ≡ Unfit n = settled room b d (λ k q. let z : ◌≡◌ {A = ℕ} 0 1 = cc in omega arith) ∙ e in
+    more_by (Ok (Lacking k)) e t h = refl
+    more_by (Err n) e t h =
+        let f : at_hand room (b ++ d) ≡ Err n = settled room b d (λ k q. let z : ◌≡◌ {A = ℕ} 0 1 = cc in omega arith) ∙ e in
         step (b ++ d) ∙ rw f
-    more_by (Whole n) e t h =
-        let f : at_hand room (b ++ d) ≡ Whole n = settled room b d (λ k q. let z : ◌≡◌ {A = ℕ} 0 1 = cc in omega arith) ∙ e in
+    more_by (Ok (Whole n)) e t h =
+        let f : at_hand room (b ++ d) ≡ Ok (Whole n) = settled room b d (λ k q. let z : ◌≡◌ {A = ℕ} 0 1 = cc in omega arith) ∙ e in
         let i : n ≤ length b = t.inside in
         step (b ++ d)
         ∙ rw (f, take-append-le n b d i, drop-append-le n b d i, h n t.low i)

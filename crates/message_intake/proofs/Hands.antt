@@ -15,7 +15,8 @@ use Rattle.protocol.specs.Numbers.{pick, be}
 use Rattle.protocol.specs.Messages.{MessageHead, bad_length, body_short, body_whole, message_head}
 use Rattle.protocol.specs.Intake.{roomed_head, at_hand}
 use Rattle.forms.specs.declared.AtHand.{AtHand}
-use Rattle.forms.specs.declared.AtHand.TheVariants.{Lacking, Unfit, Whole}
+use Rattle.forms.specs.declared.AtHand.TheVariants.{Lacking, Whole}
+use Rattle.std.specs.Prelude.{Result, Ok, Err}
 
 -- ---- the bytes at hand, held ones and then the source's
 
@@ -33,13 +34,13 @@ field_is s a b c d h p q r t = rw (p, q, r, t) (sym (be_four s 1 h))
 -- ---- what they come to
 
 -- no bytes (row 1)
-pub hand_none : (room : ℕ) (s : List ℕ) → length s ≡ 0 → at_hand room s ≡ Lacking 5
+pub hand_none : (room : ℕ) (s : List ℕ) → length s ≡ 0 → at_hand room s ≡ Ok (Lacking 5)
 unfolding at_hand
 hand_none room [] h = refl
 hand_none room (b ∷ s) h = absurd (omega arith)
 
 -- a room that holds no head (row 2)
-pub hand_no_head : (room : ℕ) (s : List ℕ) → 0 < length s → room < 5 → at_hand room s ≡ Unfit 32
+pub hand_no_head : (room : ℕ) (s : List ℕ) → 0 < length s → room < 5 → at_hand room s ≡ Err 32
 unfolding at_hand pick
 hand_no_head room [] h g = absurd (omega arith)
 hand_no_head room (b ∷ s) h g = rw (lt-ltb room 5 g)
@@ -51,14 +52,14 @@ hand_some room [] h g = absurd (omega arith)
 hand_some room (b ∷ s) h g = rw (le-ltb room 5 g)
 
 -- a message that is larger than the room, whole or not
-unfit : (room n k : ℕ) (b : Bool) → room < n → roomed_head room (pick b (body_short n k) (body_whole n)) ≡ Unfit 32
+unfit : (room n k : ℕ) (b : Bool) → room < n → roomed_head room (pick b (body_short n k) (body_whole n)) ≡ Err 32
 unfolding roomed_head pick
 unfit room n k true r = rw (lt-ltb room n r)
 unfit room n k false r = rw (lt-ltb room n r)
 
 module _ (room : ℕ) (s : List ℕ) (g : 5 ≤ room) where
   -- row 3
-  pub hand_short : 0 < length s → length s < 5 → at_hand room s ≡ Lacking (5 - length s)
+  pub hand_short : 0 < length s → length s < 5 → at_hand room s ≡ Ok (Lacking (5 - length s))
   unfolding roomed_head message_head pick
   hand_short h k = hand_some room s h g ∙ rw (lt-ltb (length s) 5 k)
 
@@ -67,27 +68,24 @@ module _ (room : ℕ) (s : List ℕ) (g : 5 ≤ room) where
     some = omega arith
 
     -- row 4
-    pub hand_small : n < 4 → at_hand room s ≡ Unfit 2
+    pub hand_length : (n < 4) ⊎ ((4 ≤ n) × (65535 < n)) → at_hand room s ≡ Err 2
     unfolding roomed_head message_head pick
-    hand_small k = hand_some room s some g ∙ rw (← e, le-ltb (length s) 5 h, lt-ltb n 4 k)
-
-    pub hand_large : 4 ≤ n → 65535 < n → at_hand room s ≡ Unfit 2
-    unfolding roomed_head message_head pick
-    hand_large j k = hand_some room s some g ∙ rw (← e, le-ltb (length s) 5 h, le-ltb n 4 j, lt-ltb 65535 n k)
+    hand_length (inl k) = hand_some room s some g ∙ rw (← e, le-ltb (length s) 5 h, lt-ltb n 4 k)
+    hand_length (inr (j, k)) = hand_some room s some g ∙ rw (← e, le-ltb (length s) 5 h, le-ltb n 4 j, lt-ltb 65535 n k)
 
     module _ (j : 4 ≤ n) (k : n ≤ 65535) where
       -- rows 5 and 6
-      pub hand_unfit : room < n + 1 → at_hand room s ≡ Unfit 32
+      pub hand_unfit : room < n + 1 → at_hand room s ≡ Err 32
       unfolding message_head pick
       hand_unfit r =
           hand_some room s some g
           ∙ rw (← e, le-ltb (length s) 5 h, le-ltb n 4 j, le-ltb 65535 n k) (unfit room (n + 1) (n + 1 - length s) (ltb (length s) (n + 1)) r)
 
-      pub hand_lacking : n + 1 ≤ room → length s < n + 1 → at_hand room s ≡ Lacking (n + 1 - length s)
+      pub hand_lacking : n + 1 ≤ room → length s < n + 1 → at_hand room s ≡ Ok (Lacking (n + 1 - length s))
       unfolding roomed_head message_head pick
       hand_lacking r q = hand_some room s some g ∙ rw (← e, le-ltb (length s) 5 h, le-ltb n 4 j, le-ltb 65535 n k, lt-ltb (length s) (n + 1) q, le-ltb room (n + 1) r)
 
-      pub hand_whole : n + 1 ≤ room → n + 1 ≤ length s → at_hand room s ≡ Whole (n + 1)
+      pub hand_whole : n + 1 ≤ room → n + 1 ≤ length s → at_hand room s ≡ Ok (Whole (n + 1))
       unfolding roomed_head message_head pick
       hand_whole r q = hand_some room s some g ∙ rw (← e, le-ltb (length s) 5 h, le-ltb n 4 j, le-ltb 65535 n k, le-ltb (length s) (n + 1) q, le-ltb room (n + 1) r)
 
@@ -109,10 +107,14 @@ pub record Ready (room : ℕ) (s : List ℕ) (n : ℕ) : Type 0 where
   pub fits : n ≤ room
   pub inside : n ≤ length s
 
-abbrev pub Told : ℕ → List ℕ → AtHand → Type 0
-Told room s (Lacking k) = Missing room s k
-Told room s (Unfit n) = (n ≡ 2) ⊎ (n ≡ 32)
-Told room s (Whole n) = Ready room s n
+-- a whole message of n bytes
+abbrev pub whole_of : ℕ → Result AtHand ℕ
+whole_of n = Ok (Whole n)
+
+abbrev pub Told : ℕ → List ℕ → Result AtHand ℕ → Type 0
+Told room s (Ok (Lacking k)) = Missing room s k
+Told room s (Err n) = (n ≡ 2) ⊎ (n ≡ 32)
+Told room s (Ok (Whole n)) = Ready room s n
 
 module _ (room : ℕ) (s : List ℕ) where
   told_short : 5 ≤ room → length s < 5 → Missing room s (5 - length s)
@@ -144,9 +146,9 @@ module _ (room : ℕ) (s : List ℕ) where
   unfolding roomed_head
   told_sized h n e low high =
       pick_case (λ (x : MessageHead). Told room s (roomed_head room x)) (ltb (length s) n) (body_short n (n - length s)) (body_whole n)
-      (λ t. pick_case (Told room s) (ltb room n) (Unfit 32) (Lacking (n - length s)) (λ _. inr refl)
+      (λ t. pick_case (Told room s) (ltb room n) (Err 32) (Ok (Lacking (n - length s))) (λ _. inr refl)
       (λ q. told_lacking h n e low high (ltb-false room n q) (ltb-true (length s) n t)))
-      (λ t. pick_case (Told room s) (ltb room n) (Unfit 32) (Whole n) (λ _. inr refl)
+      (λ t. pick_case (Told room s) (ltb room n) (Err 32) (Ok (Whole n)) (λ _. inr refl)
       (λ q. told_whole h n e low high (ltb-false room n q) (ltb-false (length s) n t)))
 
   told_head : 5 ≤ room → Told room s (roomed_head room (message_head s))
@@ -164,4 +166,4 @@ unfolding at_hand
 told room [] =
     record { more = omega arith; fits = omega arith; few = omega arith; head = λ _. refl; message = λ k. absurd (omega arith) }
 told room (b ∷ s) =
-    pick_case (Told room (b ∷ s)) (ltb room 5) (Unfit 32) _ (λ _. inr refl) (λ t. told_head room (b ∷ s) (ltb-false room 5 t))
+    pick_case (Told room (b ∷ s)) (ltb room 5) (Err 32) _ (λ _. inr refl) (λ t. told_head room (b ∷ s) (ltb-false room 5 t))

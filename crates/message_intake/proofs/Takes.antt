@@ -8,8 +8,8 @@ use lib.ListN.{length, take, length-append, take-append-drop}
 use lib.Seq.{sets, sets-eq, take-take, take_at, take_all, take-append-le, take-append-add, length-take-le}
 use borrow.Author.Tests.{eq-eqb, ne_eqb}
 use Rattle.message_read.specs.Answers.{Checks}
-use Rattle.message_read.specs.declared.Answer.{Answer}
-use Rattle.message_read.specs.declared.Answer.TheVariants.{Refused, Read}
+use Rattle.message_read.specs.declared.Message.{Message}
+use Rattle.forms.specs.declared.fault.Refusal.{Refusal}
 use Rattle.message_read.proofs.Ends.{found, turned_down}
 use Rattle.protocol.specs.Numbers.{pick}
 use Rattle.protocol.specs.Answers.{over}
@@ -17,7 +17,8 @@ use Rattle.protocol.specs.Messages.{message_of}
 use Rattle.protocol.specs.Intake.{at_hand, holding, intake_reset, intake_ended, refused_delivery, taken_delivery, judged_delivery, take_by, take_of, SettlesTaken}
 use Rattle.message_intake.proofs.Hands.{Missing, Ready, told}
 use Rattle.forms.specs.declared.AtHand.{AtHand}
-use Rattle.forms.specs.declared.AtHand.TheVariants.{Lacking, Unfit, Whole}
+use Rattle.forms.specs.declared.AtHand.TheVariants.{Lacking, Whole}
+use Rattle.std.specs.Prelude.{Result, Ok, Err}
 use Rattle.forms.specs.declared.Intake.{Intake}
 use Rattle.forms.specs.declared.Delivery.{Delivery}
 
@@ -66,30 +67,28 @@ module _ (l src : List ℕ) (held size low : ℕ) (h : held ≤ length l) (r : s
   pub front_is : (l' : List ℕ) → l' ≡ sets l held (take (size - low) src) → take size l' ≡ take size (take held l ++ src)
   front_is l' e = ap (take size) (e ∙ room_is) ∙ take_at (take size (take held l ++ src)) _ size size_is
 
-  module _ (i : Intake) (l' : List ℕ) (e : l' ≡ sets l held (take (size - low) src)) (a : Answer) (k k' : List ℕ)
-      (c : Checks (message_of i.side (take size l')) a k k') where
-    read_as : Checks (message_of i.side (take size (take held l ++ src))) a k k'
-    read_as = rw (front_is l' e) at c
-
-    pub whole_refused : (n p : ℕ) → a ≡ Refused n p → SettlesTaken (take_by i (take held l) src l (Whole size)) (refused_delivery (intake_ended i n p) n p) l'
+  module _ (i : Intake) (l' : List ℕ) (e : l' ≡ sets l held (take (size - low) src)) (k k' : List ℕ) where
+    pub whole_refused : (q : Refusal) → Checks (message_of i.side (take size l')) (Err q) k k'
+        → SettlesTaken (take_by i (take held l) src l (Ok (Whole size))) (refused_delivery (intake_ended i q.fault q.place) q.fault q.place) l'
     unfolding take_by judged_delivery
-    whole_refused n p q =
-        let o = turned_down (message_of i.side (take size (take held l ++ src))) a k k' read_as n p q in
+    whole_refused q c =
+        let o = turned_down (message_of i.side (take size (take held l ++ src))) q k k' (rw (front_is l' e) at c) in
         record { answer = rw o; room = e ∙ room_is }
 
-    pub whole_given : (u w : ℕ) → a ≡ Read u w → SettlesTaken (take_by i (take held l) src l (Whole size)) (taken_delivery (intake_reset i) (size - low) size 5) l'
+    pub whole_given : (m : Message) → Checks (message_of i.side (take size l')) (Ok m) k k'
+        → SettlesTaken (take_by i (take held l) src l (Ok (Whole size))) (taken_delivery (intake_reset i) (size - low) size 5) l'
     unfolding take_by judged_delivery
-    whole_given u w q =
-        let o = found (message_of i.side (take size (take held l ++ src))) a k k' read_as u w q in
+    whole_given m c =
+        let o = found (message_of i.side (take size (take held l ++ src))) m k k' (rw (front_is l' e) at c) in
         record { answer = rw (o.is, ← more_is); room = e ∙ room_is }
 
 -- ---- what the outcome of the bytes at hand says of the lengths
 
-module _ (x : ℕ) (l src : List ℕ) (held : ℕ) (m : held ≡ min x (length l)) (a : AtHand) (o : a ≡ at_hand (length l) (take held l ++ src)) where
+module _ (x : ℕ) (l src : List ℕ) (held : ℕ) (m : held ≡ min x (length l)) (a : Result AtHand ℕ) (o : a ≡ at_hand (length l) (take held l ++ src)) where
   all_is : length (take held l ++ src) ≡ held + length src
   all_is = length-append (take held l) src ∙ ap (λ (n : ℕ). n + length src) (length-take-le held l (omega arith))
 
-  module _ (k : ℕ) (e : a ≡ Lacking k) where
+  module _ (k : ℕ) (e : a ≡ Ok (Lacking k)) where
     missing : Missing (length l) (take held l ++ src) k
     missing = rw (sym o ∙ e) at (told (length l) (take held l ++ src))
 
@@ -99,7 +98,7 @@ module _ (x : ℕ) (l src : List ℕ) (held : ℕ) (m : held ≡ min x (length l
     pub lacking_fits : held + length src ≤ length l
     lacking_fits = omega (arith, all_is, missing.fits)
 
-  pub whole_fits : (n : ℕ) → a ≡ Whole n → (held ≤ length l) × (n ≤ length l) × (n ≤ held + length src) × (n ≤ 65536)
+  pub whole_fits : (n : ℕ) → a ≡ Ok (Whole n) → (held ≤ length l) × (n ≤ length l) × (n ≤ held + length src) × (n ≤ 65536)
   whole_fits n e =
       let t : Ready (length l) (take held l ++ src) n = rw (sym o ∙ e) at (told (length l) (take held l ++ src)) in
       (omega arith, t.fits, omega (arith, all_is, t.inside), t.high)
@@ -128,11 +127,11 @@ module _ (i : Intake) (src l : List ℕ) where
       unfolding take_of pick
       taken_by = rw (eq-eqb (length l) i.room h, eq-eqb i.number 0 z, held_is)
 
-      pub unfit : (n : ℕ) → at_hand (length l) (take held l ++ src) ≡ Unfit n → SettlesTaken (take_of i src l) (refused_delivery (intake_ended i n 0) n 0) l
+      pub unfit : (n : ℕ) → at_hand (length l) (take held l ++ src) ≡ Err n → SettlesTaken (take_of i src l) (refused_delivery (intake_ended i n 0) n 0) l
       unfolding take_by
       unfit n e = rw (taken_by, e) (record { answer = refl; room = refl })
 
-      pub lacks : (k : ℕ) (l' : List ℕ) → at_hand (length l) (take held l ++ src) ≡ Lacking k → l' ≡ sets l held src
+      pub lacks : (k : ℕ) (l' : List ℕ) → at_hand (length l) (take held l ++ src) ≡ Ok (Lacking k) → l' ≡ sets l held src
           → SettlesTaken (take_of i src l) (taken_delivery (holding i.room i.side (held + length src)) (length src) 0 k) l'
       unfolding take_by
       lacks k l' e q =
@@ -142,6 +141,6 @@ module _ (i : Intake) (src l : List ℕ) where
           rw (taken_by, e)
           (record { answer = ap (λ (x : ℕ). taken_delivery (holding i.room i.side x) (length src) 0 k) n; room = q ∙ joined l src held f })
 
-      pub whole : (n : ℕ) (r : Delivery) (l' : List ℕ) → at_hand (length l) (take held l ++ src) ≡ Whole n
-          → SettlesTaken (take_by i (take held l) src l (Whole n)) r l' → SettlesTaken (take_of i src l) r l'
+      pub whole : (n : ℕ) (r : Delivery) (l' : List ℕ) → at_hand (length l) (take held l ++ src) ≡ Ok (Whole n)
+          → SettlesTaken (take_by i (take held l) src l (Ok (Whole n))) r l' → SettlesTaken (take_of i src l) r l'
       whole n r l' e t = rw (taken_by, e) t

@@ -1,10 +1,11 @@
 // The intake: joins the deliveries of one side in room that the caller lends, and gives each message when it is whole (R10).
 #![tactic(auto)]
 
-ghost use Rattle.std.specs.Prelude.{◌≡◌, ◌++◌, ◌+◌, ◌-◌, ◌≤◌, ◌<◌, length, take, drop, get_or};
+ghost use Rattle.std.specs.Prelude.{◌≡◌, ◌++◌, ◌+◌, ◌-◌, ◌≤◌, ◌<◌, length, take, drop, get_or, Ok};
 ghost use Rattle.protocol.specs.Numbers.{be};
 ghost use Rattle.protocol.specs.Intake.{at_hand, take_by, SettlesTaken, TakesDelivery};
 
+use forms::fault::Fault;
 use forms::{AtHand, Delivery, Intake};
 
 // Byte k of the bytes at hand: a held one, or one of the source.
@@ -32,47 +33,47 @@ fn length_field(held: &[u8], src: &[u8]) -> u32
 }
 
 // What the bytes at hand come to, for so much room (R10.3, rows 1 to 6).
-fn at_hand(held: &[u8], src: &[u8], room: usize) -> AtHand
+fn at_hand(held: &[u8], src: &[u8], room: usize) -> Result<AtHand, Fault>
     ensures { result ≡ at_hand room (held.now ++ src.now) }
 {
     let all = held.len() + src.len();
     if all == 0 {
-        return AtHand::Lacking(constants::MESSAGE_HEAD);
+        return Ok(AtHand::Lacking(constants::MESSAGE_HEAD));
     }
     if room < constants::MESSAGE_HEAD {
-        return AtHand::Unfit(constants::OUTPUT_ROOM);
+        return Err(Fault::OUTPUT_ROOM);
     }
     if all < constants::MESSAGE_HEAD {
-        return AtHand::Lacking(constants::MESSAGE_HEAD - all);
+        return Ok(AtHand::Lacking(constants::MESSAGE_HEAD - all));
     }
-    let n = length_field(held, src) as usize;
-    if n < 4 {
-        return AtHand::Unfit(constants::BAD_LENGTH);
+    let length = length_field(held, src) as usize;
+    if length < 4 || constants::MOST_LENGTH < length {
+        return Err(Fault::BAD_LENGTH);
     }
-    if constants::MOST_LENGTH < n {
-        return AtHand::Unfit(constants::BAD_LENGTH);
-    }
-    let size = n + 1;
+    let size = length + 1;
     if room < size {
-        return AtHand::Unfit(constants::OUTPUT_ROOM);
+        return Err(Fault::OUTPUT_ROOM);
     }
     if all < size {
-        return AtHand::Lacking(size - all);
+        return Ok(AtHand::Lacking(size - all));
     }
-    AtHand::Whole(size)
+    Ok(AtHand::Whole(size))
 }
 
 // A message of `size` bytes that is whole, with the first `held` of them in the room: the others join them, and it is judged there, once.
 fn take_whole(intake: Intake, src: &[u8], room: &mut [u8], held: usize, size: usize) -> Delivery
     requires { (held ≤ length room.old) × (size ≤ length room.old) × (size ≤ held + length src.now) × (size ≤ 65536) }
-    ensures { SettlesTaken (take_by intake (take held room.old) src.now room.old (AtHand.Whole size)) result room.new }
+    ensures { SettlesTaken (take_by intake (take held room.old) src.now room.old (Ok (AtHand.Whole size))) result room.new }
 {
-    let more = size - wire::copy::least(held, size);
+    let more = size - held.min(size);
     wire::copy::put_bytes(&src[..more], room, held);
-    let mut none = [0u32; 0];
-    match message_read::check(intake.side, &room[..size], &mut none) {
-        message_read::Answer::Refused { no, place } => intake.ended(no, place).refusing(no, place),
-        message_read::Answer::Read { used: _, words: _ } => {
+    match message_read::check(intake.side, &room[..size], &mut []) {
+        Err(refusal) => {
+            let number = refusal.fault.number();
+            let place = refusal.place;
+            intake.ended(number, place).refusing(number, place)
+        }
+        Ok(_) => {
             intake
                 .reset()
                 .taking(more as u32, size as u32, constants::MESSAGE_HEAD as u32)
@@ -91,15 +92,18 @@ pub fn take(intake: Intake, src: &[u8], room: &mut [u8]) -> Delivery
     if intake.number != 0 {
         return intake.refusing(intake.number, intake.place);
     }
-    let held = wire::copy::least(intake.held as usize, len);
+    let held = (intake.held as usize).min(len);
     match at_hand(&room[..held], src, len) {
-        AtHand::Lacking(rest) => {
+        Ok(AtHand::Lacking(rest)) => {
             wire::copy::put_bytes(src, room, held);
             intake
                 .holding((held + src.len()) as u32)
                 .taking(src.len() as u32, 0, rest as u32)
         }
-        AtHand::Unfit(no) => intake.ended(no, 0).refusing(no, 0),
-        AtHand::Whole(size) => take_whole(intake, src, room, held, size),
+        Ok(AtHand::Whole(size)) => take_whole(intake, src, room, held, size),
+        Err(fault) => {
+            let number = fault.number();
+            intake.ended(number, 0).refusing(number, 0)
+        }
     }
 }

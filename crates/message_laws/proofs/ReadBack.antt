@@ -11,10 +11,10 @@ use lib.Seq.{drop-drop, take-append_seam, drop-append_seam}
 use borrow.Author.Tests.{eqb-true, le-leb}
 use Rattle.wire.proofs.Numbers.{be_bytes, length_bytes}
 use Rattle.wire.proofs.Picks.{both, pick_case}
-use Rattle.forms.specs.declared.FieldRead.TheVariants.{At}
+use Rattle.std.specs.Prelude.{Ok}
 use Rattle.message_laws.proofs.RoundTrip.{count_next}
 use Rattle.protocol.specs.Numbers.{pick, be, bytes_be}
-use Rattle.protocol.specs.Messages.{Field, number, text, bytes, Layout, done, one, run, u16, permits, lengthened, textual, field_at}
+use Rattle.protocol.specs.Messages.{Field, number, text, bytes, Layout, done, one, run, u16, permits, span, lengthened, textual, field_at}
 use Rattle.protocol.specs.Messages.{MessageRead, read, read_before, then_read, field_outcome, times_read, fields_read, Written, unwritten, wrote}
 use Rattle.protocol.specs.Messages.{fitting, field_bytes, next_field, put_before, joined, times_written, fields_written, contents}
 
@@ -93,7 +93,7 @@ back_times m src f g t (suc n) p ws = back_then m src p (f p) (times_read n f) w
 -- the content c is found as the last of the bytes up to q
 record Holds (f : Field) (m : List ℕ) (p q : ℕ) (c : List ℕ) : Type 0 where
   start : ℕ
-  found : field_at f m p ≡ At start (length c)
+  found : field_at f m p ≡ Ok (span start (length c))
   ends : start + length c ≡ q
   same : take (length c) (drop start m) ≡ c
 

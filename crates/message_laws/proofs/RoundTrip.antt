@@ -5,18 +5,18 @@ use mathlib.Core.List.{List, [], ◌++◌, append_assoc}
 use Prim.Native.Nat.{ℕ, zero, suc, ◌+◌, ◌-◌, ◌<◌, ◌≤◌}
 use native.Mathlib.Omega.{arith}
 use native.Mathlib.Nat.{add-sub_cancel_left}
-use lib.Dec.{leb}
+use lib.Dec.{lit≤, leb}
 use lib.ListN.{length, get_or, take, drop, length-take, length-drop}
 use lib.Seq.{take-add, drop-drop}
 use borrow.Author.Tests.{eq-eqb, leb-true, le-leb}
 use Rattle.wire.proofs.Numbers.{bytes_be_lem}
 use Rattle.wire.proofs.Picks.{pick_case}
-use Rattle.forms.specs.declared.FieldRead.{FieldRead}
-use Rattle.forms.specs.declared.FieldRead.TheVariants.{Short, Barred, At}
+use Rattle.forms.specs.declared.Span.{Span}
+use Rattle.std.specs.Prelude.{Result, Ok, Err}
 use Rattle.message_laws.proofs.Covers.{Covers}
 use Rattle.protocol.specs.Numbers.{pick, be, bytes_be}
 use Rattle.protocol.specs.Text.{well_formed}
-use Rattle.protocol.specs.Messages.{Field, number, text, bytes, Layout, done, one, run, u16, permits, lengthened, textual, field_at}
+use Rattle.protocol.specs.Messages.{Field, number, text, bytes, Layout, done, one, run, u16, permits, span as content, lengthened, textual, field_at}
 use Rattle.protocol.specs.Messages.{MessageRead, unread, read, read_before, then_read, field_outcome, times_read, fields_read, Written, wrote}
 use Rattle.protocol.specs.Messages.{fitting, field_bytes, next_field, put_before, joined, times_written, fields_written}
 
@@ -71,10 +71,13 @@ pub record Lies (f : Field) (m : List ℕ) (p s n : ℕ) : Type 0 where
   pub good : fitting f (take n (drop s m)) ≡ true
   pub same : Bytes m → field_bytes f (take n (drop s m)) ≡ span m p (s + n)
 
-abbrev pub LiesAt : Field → List ℕ → ℕ → FieldRead → Type 0
-LiesAt f m p Short = Unit {0}
-LiesAt f m p Barred = Unit {0}
-LiesAt f m p (At s n) = Lies f m p s n
+-- the number of a field's refusal
+abbrev pub IsFault : ℕ → Type 0
+IsFault n = (4 ≤ n) × (n ≤ 6)
+
+abbrev pub LiesAt : Field → List ℕ → ℕ → Result Span ℕ → Type 0
+LiesAt f m p (Err n) = IsFault n
+LiesAt f m p (Ok c) = Lies f m p c.start c.len
 
 length_part : (m : List ℕ) (s n : ℕ) → s + n ≤ length m → length (take n (drop s m)) ≡ n
 length_part m s n h = simp (length-take, length-drop) (omega arith)
@@ -104,36 +107,34 @@ module _ (m : List ℕ) (p : ℕ) where
   lies_length : LiesAt bytes m p (lengthened m p)
   unfolding lengthened
   lies_length =
-      pick_case (LiesAt bytes m p) (leb (p + 4) (length m)) _ Short
-      (λ _. pick_case (LiesAt bytes m p) (leb (p + 4 + be (take 4 (drop p m))) (length m)) _ Short (λ b. lies_bytes _ refl (leb-true _ _ b)) (λ _. tt))
-      (λ _. tt)
+      pick_case (LiesAt bytes m p) (leb (p + 4) (length m)) _ (Err 4)
+      (λ _. pick_case (LiesAt bytes m p) (leb (p + 4 + be (take 4 (drop p m))) (length m)) _ (Err 4) (λ b. lies_bytes _ refl (leb-true _ _ b)) (λ _. (lit≤ tt, lit≤ tt)))
+      (λ _. (lit≤ tt, lit≤ tt))
 
   -- text is bytes that are well-formed
-  lies_text : (o : FieldRead) → LiesAt bytes m p o → LiesAt text m p (textual m o)
+  lies_text : (o : Result Span ℕ) → LiesAt bytes m p o → LiesAt text m p (textual m o)
   unfolding textual fitting field_bytes
-  lies_text Short l = tt
-  lies_text Barred l = tt
-  lies_text (At s n) l =
-      pick_case (LiesAt text m p) (well_formed (take n (drop s m))) (At s n) Barred
+  lies_text (Err n) l = l
+  lies_text (Ok c) l =
+      pick_case (LiesAt text m p) (well_formed (take c.len (drop c.start m))) (Ok c) (Err 6)
       (λ b. record { onward = l.onward; inside = l.inside; good = b; same = l.same })
-      (λ _. tt)
+      (λ _. (lit≤ tt, lit≤ tt))
 
   pub lies_field : (f : Field) → LiesAt f m p (field_at f m p)
   unfolding field_at
   lies_field (number w vs) =
-      pick_case (LiesAt (number w vs) m p) (leb (p + w) (length m)) _ Short
-      (λ a. pick_case (LiesAt (number w vs) m p) (permits vs (be (take w (drop p m)))) (At p w) Barred (lies_number w vs (leb-true _ _ a)) (λ _. tt))
-      (λ _. tt)
+      pick_case (LiesAt (number w vs) m p) (leb (p + w) (length m)) _ (Err 4)
+      (λ a. pick_case (LiesAt (number w vs) m p) (permits vs (be (take w (drop p m)))) (Ok (content p w)) (Err 6) (lies_number w vs (leb-true _ _ a)) (λ _. (lit≤ tt, lit≤ tt)))
+      (λ _. (lit≤ tt, lit≤ tt))
   lies_field text = lies_text (lengthened m p) lies_length
   lies_field bytes = lies_length
 
-  trip_found : (src : List ℕ) → Covers src m → (f : Field) (o : FieldRead) → LiesAt f m p o → Trip m p (field_outcome p o) (next_field f src)
+  trip_found : (src : List ℕ) → Covers src m → (f : Field) (o : Result Span ℕ) → LiesAt f m p o → Trip m p (field_outcome p o) (next_field f src)
   unfolding field_outcome next_field pick
-  trip_found src c f Short l = tt
-  trip_found src c f Barred l = tt
-  trip_found src c f (At s n) l =
-      let h : s + n ≤ length src = omega (arith, l.inside, c.long) in
-      (l.onward, l.inside, λ b us. rw (le-leb (s + n) (length src) h, c.part s n l.inside, l.good, l.same b))
+  trip_found src c f (Err n) l = tt
+  trip_found src c f (Ok o) l =
+      let h : o.start + o.len ≤ length src = omega (arith, l.inside, c.long) in
+      (l.onward, l.inside, λ b us. rw (le-leb (o.start + o.len) (length src) h, c.part o.start o.len l.inside, l.good, l.same b))
 
   trip_field : (src : List ℕ) → Covers src m → (f : Field) → Trip m p (field_outcome p (field_at f m p)) (next_field f src)
   trip_field src c f = trip_found src c f (field_at f m p) (lies_field f)
@@ -142,7 +143,7 @@ module _ (m : List ℕ) (p : ℕ) where
 pub count_next : (m : List ℕ) (p q : ℕ) (ws : List ℕ) → field_outcome p (field_at u16 m p) ≡ read q ws → q - p ≡ 2
 unfolding field_at permits field_outcome pick
 count_next m p q ws =
-    pick_case (λ (o : FieldRead). field_outcome p o ≡ read q ws → q - p ≡ 2) (leb (p + 2) (length m)) (At p 2) Short
+    pick_case (λ (o : Result Span ℕ). field_outcome p o ≡ read q ws → q - p ≡ 2) (leb (p + 2) (length m)) (Ok (content p 2)) (Err 4)
     (λ _ e. let f : q ≡ p + 2 = cc in omega arith)
     (λ _ e. cc)
 

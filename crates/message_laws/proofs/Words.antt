@@ -7,8 +7,8 @@ use lib.Dec.{lit<, lit≤, ltb}
 use lib.ListN.{length, get_or, take, drop}
 use lib.Seq.{length-take-le}
 use Rattle.wire.proofs.Picks.{pick_case}
-use Rattle.forms.specs.declared.FieldRead.{FieldRead}
-use Rattle.forms.specs.declared.FieldRead.TheVariants.{Short, Barred, At}
+use Rattle.forms.specs.declared.Span.{Span}
+use Rattle.std.specs.Prelude.{Result, Ok, Err}
 use Rattle.message_read.proofs.Whole.{roomy}
 use Rattle.message_laws.proofs.Covers.{Covers}
 use Rattle.message_laws.proofs.RoundTrip.{LiesAt, lies_field}
@@ -69,11 +69,10 @@ module _ (n : ℕ) where
   sound_times f h (suc k) p = sound_then (f p) (times_read k f) (h p) (sound_times f h k)
 
 module _ (m : List ℕ) where
-  sound_found : (f : Field) (p : ℕ) (o : FieldRead) → LiesAt f m p o → Sound (length m) (field_outcome p o)
+  sound_found : (f : Field) (p : ℕ) (o : Result Span ℕ) → LiesAt f m p o → Sound (length m) (field_outcome p o)
   unfolding field_outcome
-  sound_found f p Short l = (lit≤ tt, lit≤ tt)
-  sound_found f p Barred l = (lit≤ tt, lit≤ tt)
-  sound_found f p (At s k) l = (l.inside, tt)
+  sound_found f p (Err n) l = l
+  sound_found f p (Ok c) l = (l.inside, tt)
 
   sound_field : (f : Field) (p : ℕ) → Sound (length m) (field_outcome p (field_at f m p))
   sound_field f p = sound_found f p (field_at f m p) (lies_field m p f)

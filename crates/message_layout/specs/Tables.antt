@@ -1,11 +1,10 @@
 -- Nobody has to believe these definitions: they are the code's tables, and the layouts that they stand for (R2.5 to R2.10). That the layout of
 -- a type byte is protocol's is proved (proofs/Starts).
-use Rattle.std.specs.Prelude.{◌≡◌, ℕ, suc, ◌+◌, ◌-◌, ◌≤◌, ◌<◌, List, [], ◌∷◌, ltb, eqb, get_or}
-use Rattle.std.proofs.Math.Seq.{slice}
-use Rattle.message_layout.specs.declared.Part.{Part}
+use Rattle.std.specs.Prelude.{◌≡◌, ℕ, suc, ◌+◌, ◌-◌, ◌≤◌, ◌<◌, List, [], ◌∷◌, ltb, eqb, get_or, take, drop, Some, None}
 use Rattle.protocol.specs.Numbers.{pick}
 use Rattle.protocol.specs.Messages.{Field, number, text, bytes, Layout, done, one, run}
-use Rattle.std.proofs.Math.Option.{Option, some, none}
+use Rattle.std.proofs.Math.Option.{Option as Known, some, none}
+use Rattle.std.specs.declared.option.Option.{Option}
 
 -- for each code its number's width, and where its values start among all values; they end where the next code's start
 unfoldable pub widths : List ℕ
@@ -37,7 +36,7 @@ codes =
     ∷ []
 
 unfoldable pub allowed_of : ℕ → ℕ → List ℕ
-allowed_of from to = slice from to values
+allowed_of from to = take (to - from) (drop from values)
 
 unfoldable pub width_of : ℕ → ℕ
 width_of c = get_or widths c 0
@@ -68,13 +67,13 @@ pub record WidthOf (c r : ℕ) : Type 0 where
   pub wide : r ≤ 16
   pub some : 2 < c → 0 < r
 
--- a code's values, and what holds of every code's: a number with values is narrow
-pub record PartOf (c : ℕ) (r : Part) : Type 0 where
-  pub from : r.from ≡ get_or firsts c 0
-  pub to : r.to ≡ get_or firsts (c + 1) 0
-  pub ordered : r.from ≤ r.to
-  pub end : r.to ≤ 16
-  pub narrow : r.from < r.to → width_of c ≤ 7
+-- where a code's values are, and what holds of every code's: a number with values is narrow
+pub record PartOf (c from to : ℕ) : Type 0 where
+  pub from_is : from ≡ get_or firsts c 0
+  pub to_is : to ≡ get_or firsts (c + 1) 0
+  pub ordered : from ≤ to
+  pub end : to ≤ 16
+  pub narrow : from < to → width_of c ≤ 7
 
 -- a code of the table, and what holds of every code there
 pub record CodeOf (p c : ℕ) : Type 0 where
@@ -84,21 +83,21 @@ pub record CodeOf (p c : ℕ) : Type 0 where
   pub inside : c < 67
   pub ahead : 16 ≤ c → p < c - 16
 
--- the layout at a start, 51 for none
-unfoldable pub known_at : ℕ → (Option Layout)
-known_at r = pick (ltb r 51) (some (layout_at r)) none
+-- the layout at a start
+unfoldable pub known_at : Option ℕ → Known Layout
+known_at (Some p) = some (layout_at p)
+known_at None = none
 
--- where the layout of a type byte starts in the table of codes, 51 for one that the side does not know: the server's, the client's, and
--- by the side
-unfoldable pub server_start : ℕ → ℕ
+-- where the layout of a type byte starts in the table of codes, where the side knows it: the server's, the client's, and by the side
+unfoldable pub server_start : ℕ → Option ℕ
 server_start t =
-    pick (eqb t 0x45) 0
-    (pick (eqb t 0x4c) 5
-    (pick (eqb t 0x5a) 10
-    (pick (eqb t 0x43) 13 (pick (eqb t 0x54) 19 (pick (eqb t 0x73) 27 (pick (eqb t 0x44) 30 (pick (eqb t 0x53) 33 51)))))))
+    pick (eqb t 0x45) (Some 0)
+    (pick (eqb t 0x4c) (Some 5)
+    (pick (eqb t 0x5a) (Some 10)
+    (pick (eqb t 0x43) (Some 13) (pick (eqb t 0x54) (Some 19) (pick (eqb t 0x73) (Some 27) (pick (eqb t 0x44) (Some 30) (pick (eqb t 0x53) (Some 33) None)))))))
 
-unfoldable pub client_start : ℕ → ℕ
-client_start t = pick (eqb t 0x53) 36 (pick (eqb t 0x56) 37 51)
+unfoldable pub client_start : ℕ → Option ℕ
+client_start t = pick (eqb t 0x53) (Some 36) (pick (eqb t 0x56) (Some 37) None)
 
-unfoldable pub start_of : ℕ → ℕ → ℕ
-start_of side t = pick (eqb side 1) (server_start t) (pick (eqb side 0) (client_start t) 51)
+unfoldable pub start_of : ℕ → ℕ → Option ℕ
+start_of side t = pick (eqb side 1) (server_start t) (pick (eqb side 0) (client_start t) None)

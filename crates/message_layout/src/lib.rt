@@ -2,7 +2,7 @@
 #![tactic(auto)]
 
 ghost use Rattle.std.specs.Prelude.{◌≡◌, ◌+◌, ◌≤◌, ◌<◌, length, take, drop};
-ghost use Rattle.message_layout.specs.Tables.{codes, allowed_of, width_of, values_of, WidthOf, PartOf, CodeOf, server_start, client_start, start_of};
+ghost use Rattle.message_layout.specs.Tables.{codes, width_of, values_of, WidthOf, CodeOf, server_start, client_start, start_of};
 ghost use Rattle.protocol.specs.Messages.{permits};
 ghost use Rattle.protocol.specs.Numbers.{be};
 
@@ -33,7 +33,7 @@ const ONE: u8 = 11;
 
 pub const RUN: u8 = 16;
 
-// Where a layout starts in CODES; NONE is past the last.
+// Where a layout starts in CODES.
 const E: usize = 0;
 
 const L: usize = 5;
@@ -59,8 +59,6 @@ const EXTENSION: u8 = 42;
 const ATTRIBUTE: u8 = 45;
 
 const ANNOTATION: u8 = 48;
-
-pub const NONE: usize = 51;
 
 const CODES: [u8; 51] = [
     // E, L
@@ -146,51 +144,12 @@ const VALUES: [u8; 16] = [
     1,
 ];
 
-fn wide(x: u8) -> usize
-    ensures { result ≡ x }
-{
-    x as usize
-}
-
 // The width of a code's number; text and bytes have none.
 pub fn width_of(code: u8) -> usize
     requires { code < 12 }
     ensures { WidthOf code result }
 {
-    wide(WIDTHS[wide(code)])
-}
-
-// A code's permitted values: where they start and end in VALUES.
-#[derive(Clone, Copy)]
-pub struct Part {
-    pub from: usize,
-    pub to: usize,
-}
-
-fn part_of(code: u8) -> Part
-    requires { code < 12 }
-    ensures { PartOf code result }
-{
-    let i = wide(code);
-    Part {
-        from: wide(FIRSTS[i]),
-        to: wide(FIRSTS[i + 1]),
-    }
-}
-
-// Whether v is among the permitted values from `from` up to `to`, or there are none.
-fn permitted(from: usize, to: usize, v: u64) -> bool
-    requires { (from ≤ to) × (to ≤ 16) }
-    ensures { result ≡ permits (allowed_of from to) v }
-{
-    let mut i = from;
-    while i < to {
-        if wide(VALUES[i]) as u64 == v {
-            return true;
-        }
-        i += 1;
-    }
-    from == to
+    usize::from(WIDTHS[usize::from(code)])
 }
 
 // Whether the number at `at` is one that its code permits.
@@ -198,14 +157,16 @@ pub fn admits(s: &[u8], at: usize, code: u8) -> bool
     requires { (2 < code) × (code < 12) × (at + width_of code ≤ length s.now) }
     ensures { result ≡ permits (values_of code) (be (take (width_of code) (drop at s.now))) }
 {
-    let part = part_of(code);
-    let from = part.from;
-    let to = part.to;
-    if from < to {
-        let n = width_of(code);
-        return permitted(from, to, wire::be::uint_at(s, at, n));
+    let row = usize::from(code);
+    let from = usize::from(FIRSTS[row]);
+    let to = usize::from(FIRSTS[row + 1]);
+    if from == to {
+        return true;
     }
-    true
+    let number = wire::be::uint_at(s, at, width_of(code));
+    VALUES[from..to]
+        .iter()
+        .any(|&value| number == u64::from(value))
 }
 
 // The table of codes. A constant table is built anew wherever it is named, so a walk is lent one that was built once.
@@ -223,41 +184,42 @@ pub fn code_at(table: &[u8], p: usize) -> u8
     table[p]
 }
 
-fn server_start(ty: u8) -> usize
+#[tactic(auto, unfolding(crate::specs::Tables::server_start, protocol::specs::Numbers::pick))]
+fn server_start(ty: u8) -> Option<usize>
     ensures { result ≡ server_start ty }
 {
     match ty {
-        0x45 => E,
-        0x4c => L,
-        0x5a => Z,
-        0x43 => C,
-        0x54 => T,
-        0x73 => STATE_DESCRIPTION,
-        0x44 => D,
-        0x53 => S,
-        _ => NONE,
+        0x45 => Some(E),
+        0x4c => Some(L),
+        0x5a => Some(Z),
+        0x43 => Some(C),
+        0x54 => Some(T),
+        0x73 => Some(STATE_DESCRIPTION),
+        0x44 => Some(D),
+        0x53 => Some(S),
+        _ => None,
     }
 }
 
-fn client_start(ty: u8) -> usize
+#[tactic(auto, unfolding(crate::specs::Tables::client_start, protocol::specs::Numbers::pick))]
+fn client_start(ty: u8) -> Option<usize>
     ensures { result ≡ client_start ty }
 {
     match ty {
-        0x53 => CLIENT_S,
-        0x56 => V,
-        _ => NONE,
+        0x53 => Some(CLIENT_S),
+        0x56 => Some(V),
+        _ => None,
     }
 }
 
-// The position of a type byte's layout, or NONE where the side does not know it: proofs/Starts says that the layout there is its own.
-pub fn start_of(side: u32, ty: u8) -> usize
+// The position of a type byte's layout, where the side knows it: proofs/Starts says that the layout there is its own.
+#[tactic(auto, unfolding(crate::specs::Tables::start_of, protocol::specs::Numbers::pick))]
+pub fn start_of(side: u32, ty: u8) -> Option<usize>
     ensures { result ≡ start_of side ty }
 {
-    if side == constants::SERVER {
-        return server_start(ty);
+    match side {
+        constants::SERVER => server_start(ty),
+        constants::CLIENT => client_start(ty),
+        _ => None,
     }
-    if side == constants::CLIENT {
-        return client_start(ty);
-    }
-    NONE
 }

@@ -6,11 +6,11 @@ use Prim.Native.Nat.{ℕ, zero, suc, ◌+◌}
 use lib.Dec.{leb}
 use lib.ListN.{length, take, drop}
 use Rattle.message_layout.specs.Judged.{judged, unjudged}
-use Rattle.forms.specs.declared.FieldRead.{FieldRead}
-use Rattle.forms.specs.declared.FieldRead.TheVariants.{Short, Barred, At}
+use Rattle.forms.specs.declared.Span.{Span}
+use Rattle.std.specs.Prelude.{Result, Ok, Err}
 use Rattle.protocol.specs.Numbers.{pick, be}
 use Rattle.protocol.specs.Text.{well_formed}
-use Rattle.protocol.specs.Messages.{Field, number, text, bytes, Layout, done, one, run, u16, permits, lengthened, textual, field_at}
+use Rattle.protocol.specs.Messages.{Field, number, text, bytes, Layout, done, one, run, u16, permits, span, lengthened, textual, field_at}
 use Rattle.protocol.specs.Messages.{MessageRead, unread, read, read_before, then_read, field_outcome, times_read, fields_read}
 
 -- what the first reads, the second reads too
@@ -38,19 +38,18 @@ keeps_times f f' r zero q = refl
 keeps_times f f' r (suc n) q = keeps_then (f q) (f' q) (times_read n f) (times_read n f') (r q) (keeps_times f f' r n)
 
 module _ (m : List ℕ) (at : ℕ) where
-  keeps_number : (w : ℕ) (a b : Bool) → Keeps (field_outcome at (pick a (pick b (At at w) Barred) Short)) (field_outcome at (pick a (pick true (At at w) Barred) Short))
+  keeps_number : (w : ℕ) (a b : Bool) → Keeps (field_outcome at (pick a (pick b (Ok (span at w)) (Err 6)) (Err 4))) (field_outcome at (pick a (pick true (Ok (span at w)) (Err 6)) (Err 4)))
   unfolding field_outcome pick
   keeps_number w false b = tt
   keeps_number w true false = tt
   keeps_number w true true = refl
 
-  keeps_text : (f : FieldRead) → Keeps (field_outcome at (textual m f)) (field_outcome at f)
+  keeps_text : (f : Result Span ℕ) → Keeps (field_outcome at (textual m f)) (field_outcome at f)
   unfolding field_outcome textual pick
-  keeps_text Short = tt
-  keeps_text Barred = tt
-  keeps_text (At s n) = either (well_formed (take n (drop s m)))
+  keeps_text (Err n) = tt
+  keeps_text (Ok c) = either (well_formed (take c.len (drop c.start m)))
     where
-      either : (b : Bool) → Keeps (field_outcome at (pick b (At s n) Barred)) (field_outcome at (At s n))
+      either : (b : Bool) → Keeps (field_outcome at (pick b (Ok c) (Err 6))) (field_outcome at (Ok c))
       either true = refl
       either false = tt
 

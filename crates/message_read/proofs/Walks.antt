@@ -3,10 +3,10 @@ use mathlib.Core.Path.{◌≡◌, refl, ◌∙◌}
 use mathlib.Core.Bool.{Bool}
 use mathlib.Core.List.{List}
 use mathlib.Core.Logic.{⊎_elim}
-use Prim.Native.Nat.{ℕ, zero, suc, ◌+◌, ◌-◌, ◌<◌, ◌≤◌}
+use Prim.Native.Nat.{ℕ, suc, ◌+◌, ◌-◌, ◌<◌, ◌≤◌}
 use native.Mathlib.Omega.{arith}
-use native.Mathlib.Nat.{add_assoc, add-zero, not-suc-le-zero}
-use native.Mathlib.Numerals.{add-one, sub-one}
+use native.Mathlib.Nat.{add_assoc, add-zero}
+use native.Mathlib.Numerals.{add-one}
 use lib.ListN.{length, get_or, take, drop, length-append}
 use lib.Seq.{sets}
 use borrow.Author.Tests.{lt-ltb, le-ltb, lt-leb}
@@ -16,10 +16,10 @@ use Rattle.message_layout.specs.Tables.{codes, field_of, layout_at}
 use Rattle.message_layout.proofs.Codes.{lt_or_ge, at_end, at_field, at_run, count_code}
 use Rattle.message_layout.proofs.Judged.{judged_done, judged_one, judged_run, judged_count}
 use Rattle.message_read.specs.Scan.{stopped, reached, outcome_of, put, led, item_of}
-use Rattle.forms.specs.declared.FieldRead.{FieldRead}
-use Rattle.forms.specs.declared.FieldRead.TheVariants.{At}
-use Rattle.message_read.specs.declared.Step.{Step}
-use Rattle.message_read.specs.declared.Step.TheVariants.{Refused, Reached}
+use Rattle.forms.specs.declared.Span.{Span}
+use Rattle.std.specs.Prelude.{Result, Ok, Err}
+use Rattle.forms.specs.declared.fault.Refusal.{Refusal}
+use Rattle.message_read.specs.declared.Reached.{Reached}
 use Rattle.protocol.specs.Numbers.{pick, be}
 use Rattle.protocol.specs.Messages.{field_at, MessageRead, unread, read, read_before, then_read, field_outcome, times_read, fields_read}
 
@@ -46,20 +46,20 @@ module _ (j : Bool) (c : ℕ) (m : List ℕ) (at k : ℕ) (l : List ℕ) where
   unfolding item_of pick
   item_field h = rw (lt-ltb c 16 h)
 
-  pub item_run_lem : 16 ≤ c
-      → led (then_read (field_outcome at (field_at (judged j (field_of 7)) m at)) (times_read (be (take 2 (drop at m))) (fields_read (judged_all j (layout_at (c - 16))) m))) k l ≡ led (item_of j c m at) k l
+  -- a run's count n and its items, whose layout starts at i
+  pub item_run_lem : 16 ≤ c → (i n : ℕ) → i ≡ c - 16 → n ≡ be (take 2 (drop at m))
+      → led (then_read (field_outcome at (field_at (judged j (field_of 7)) m at)) (times_read n (fields_read (judged_all j (layout_at i)) m))) k l ≡ led (item_of j c m at) k l
   unfolding item_of pick
-  item_run_lem h = rw (le-ltb c 16 h, count_code, judged_count)
+  item_run_lem h i n e f = rw (le-ltb c 16 h, count_code, judged_count, e, f)
 
 -- the count's two bytes were there
-pub count_whole : (j : Bool) (a w : ℕ) (l' m : List ℕ) (at k : ℕ) (l : List ℕ) (s : Step) → s ≡ Reached a w
-    → outcome_of s l' ≡ led (field_outcome at (field_at (judged j (field_of 7)) m at)) k l → at + 2 ≤ length m
+pub count_whole : (j : Bool) (r : Reached) (l' m : List ℕ) (at k : ℕ) (l : List ℕ)
+    → outcome_of (Ok r) l' ≡ led (field_outcome at (field_at (judged j (field_of 7)) m at)) k l → at + 2 ≤ length m
 unfolding outcome_of led field_outcome field_at pick
-count_whole j a w l' m at k l s e q =
+count_whole j r l' m at k l q =
     ⊎_elim
     (λ (h : length m < at + 2).
-    let f : reached a w l' ≡ led (field_outcome at (field_at (judged j (field_of 7)) m at)) k l = rw e at q in
-    let g : reached a w l' ≡ stopped 4 at = rw (count_code, judged_count, lt-leb (at + 2) (length m) h) at f in
+    let g : reached r.at r.words l' ≡ stopped 4 at = rw (count_code, judged_count, lt-leb (at + 2) (length m) h) at q in
     let z : ◌≡◌ {A = ℕ} 0 1 = cc in
     omega arith)
     (λ h. h)
@@ -86,34 +86,31 @@ go_at a w l' (read at ws) k l f e =
     let el : sets l k ws ≡ l' = cc in
     led_prefixed ws (f at) k l ∙ rw (ea, ew, el)
 
-module _ (s : Step) (l' : List ℕ) (o : MessageRead) (k : ℕ) (l : List ℕ) (q : outcome_of s l' ≡ led o k l) (f : ℕ → MessageRead) where
-  pub stop : (n p : ℕ) → s ≡ Refused n p → outcome_of s l' ≡ led (then_read o f) k l
+module _ (l' : List ℕ) (o : MessageRead) (k : ℕ) (l : List ℕ) (f : ℕ → MessageRead) where
+  pub stop : (e : Refusal) → outcome_of (Err e) l' ≡ led o k l → outcome_of (Err e) l' ≡ led (then_read o f) k l
   unfolding outcome_of
-  stop n p e = rw e (stop_at n p o k l f (rw e at q))
+  stop e q = stop_at e.fault e.place o k l f q
 
-  pub go : (a w : ℕ) → s ≡ Reached a w → led (then_read o f) k l ≡ led (f a) w l'
+  pub go : (r : Reached) → outcome_of (Ok r) l' ≡ led o k l → led (then_read o f) k l ≡ led (f r.at) r.words l'
   unfolding outcome_of
-  go a w e = go_at a w l' o k l f (rw e at q)
+  go r q = go_at r.at r.words l' o k l f q
 
 module _ (f : ℕ → MessageRead) (at k : ℕ) (l : List ℕ) where
-  pub repeat_one : (n : ℕ) → 0 < n → led (times_read n f at) k l ≡ led (then_read (f at) (times_read (n - 1) f)) k l
+  pub repeat_one : (n n' : ℕ) → n ≡ suc n' → led (times_read n f at) k l ≡ led (then_read (f at) (times_read n' f)) k l
   unfolding times_read
-  repeat_one zero h = absurd (not-suc-le-zero h)
-  repeat_one (suc n) h = rw sub-one
+  repeat_one n n' e = rw e
 
   pub repeat_none : (n : ℕ) → n ≤ 0 → reached at k l ≡ led (times_read n f at) k l
   unfolding times_read led
   repeat_none n h = let e : n ≡ 0 = omega arith in rw (e, add-zero)
 
-  pub repeat_count : (n n' : ℕ) → n ≡ n' → led (times_read n f at) k l ≡ led (times_read n' f at) k l
-  repeat_count n n' e = rw e
-
 -- ---- a field's words
 
-pub placed_put : (at k s n : ℕ) (l l' : List ℕ) (x y : FieldRead) → x ≡ y → x ≡ At s n → l' ≡ put l k s n → reached (s + n) (k + 2) l' ≡ led (field_outcome at y) k l
+pub placed_put : (at k : ℕ) (c : Span) (l l' : List ℕ) (y : Result Span ℕ) → Ok c ≡ y → l' ≡ put l k c.start c.len
+    → reached (c.start + c.len) (k + 2) l' ≡ led (field_outcome at y) k l
 unfolding led field_outcome put
-placed_put at k s n l l' x y e f g = rw (← e, f, g, add-one)
+placed_put at k c l l' y e g = rw (← e, g, add-one)
 
-pub placed_not : (at k n : ℕ) (l : List ℕ) (x y : FieldRead) → x ≡ y → field_outcome at x ≡ unread n at → stopped n at ≡ led (field_outcome at y) k l
-unfolding led
-placed_not at k n l x y e f = rw (← e, f)
+pub placed_not : (at k n : ℕ) (l : List ℕ) (y : Result Span ℕ) → Err n ≡ y → stopped n at ≡ led (field_outcome at y) k l
+unfolding led field_outcome
+placed_not at k n l y e = rw (← e)

@@ -2,16 +2,18 @@
 use mathlib.Core.Path.{◌≡◌, refl, ◌∙◌}
 use mathlib.Core.Bool.{Bool, true, false}
 use mathlib.Core.List.{List}
-use Prim.Native.Nat.{ℕ, ◌+◌, ◌-◌, ◌<◌, ◌≤◌}
+use Prim.Native.Nat.{ℕ, ◌+◌, ◌-◌, ◌≤◌}
 use native.Mathlib.Omega.{arith}
 use lib.Dec.{ltb}
 use lib.ListN.{length, get_or, take, drop}
-use borrow.Author.Tests.{ltb-false, ltb-true}
+use borrow.Author.Tests.{ltb-false}
 use Rattle.message_layout.specs.Tables.{layout_at, known_at}
 use Rattle.protocol.specs.Numbers.{pick, be}
 use Rattle.protocol.specs.Messages.{Layout, layout_of, MessageRead, unread, read, fields_read, message_end, body_read, MessageHead, head_short}
 use Rattle.protocol.specs.Messages.{bad_length, body_short, body_whole, message_head, message_by, message_of, message_roomed}
-use mathlib.Core.Option.{Option, some, none}
+use mathlib.Core.Option.{Option as Known, some, none}
+use Rattle.std.specs.declared.option.Option.{Option}
+use Rattle.std.specs.Prelude.{Some, None}
 
 -- a test whose refusal was not given
 past : (b : Bool) (n p : ℕ) (o : MessageRead) (u : ℕ) (ws : List ℕ) → pick b (unread n p) o ≡ read u ws → (b ≡ false) × (o ≡ read u ws)
@@ -40,15 +42,12 @@ ended l m (read at vs) u ws f e =
     record { outcome = f ∙ a.1; end = omega (arith, ltb-false at (length m) a.0) }
 
 -- a known type, by the position of its layout
-pub known_layout : (r : ℕ) (k : (Option Layout)) (l : Layout) → known_at r ≡ k → k ≡ some l → (r < 51) × (layout_at r ≡ l)
-unfolding known_at pick
-known_layout r k l e f = go (ltb r 51) refl (e ∙ f)
-  where
-    go : (b : Bool) → ltb r 51 ≡ b → pick b (some (layout_at r)) none ≡ some l → (r < 51) × (layout_at r ≡ l)
-    go true t q = (ltb-true r 51 t, cc)
-    go false t q = let z : ◌≡◌ {A = ℕ} 0 1 = cc in absurd (omega arith)
+pub known_layout : (r : Option ℕ) (k : Known Layout) (l : Layout) → known_at r ≡ k → k ≡ some l → (p : ℕ) × (r ≡ Some p) × (layout_at p ≡ l)
+unfolding known_at
+known_layout (Some p) k l e f = (p, refl, cc)
+known_layout None k l e f = let z : ◌≡◌ {A = ℕ} 0 1 = cc in absurd (omega arith)
 
-embodied : (k : (Option Layout)) (m : List ℕ) (u : ℕ) (ws : List ℕ) → body_read k m ≡ read u ws → (l : Layout) × (k ≡ some l) × Body l m u ws
+embodied : (k : Known Layout) (m : List ℕ) (u : ℕ) (ws : List ℕ) → body_read k m ≡ read u ws → (l : Layout) × (k ≡ some l) × Body l m u ws
 unfolding body_read
 embodied none m u ws e = let z : ◌≡◌ {A = ℕ} 0 1 = cc in absurd (omega arith)
 embodied (some l) m u ws e = (l, refl, ended l m (fields_read l m 5) u ws refl e)

@@ -1,13 +1,12 @@
 -- Nobody has to believe these definitions: they are the reading of a message as the code does it, the list by the number of its words so far.
 -- A refusal says nothing of the list.
-use Rattle.std.specs.Prelude.{ℕ, ◌+◌, ◌-◌, ◌*◌, ◌≤◌, ◌<◌, Bool, List, ltb, length, take, drop, set}
+use Rattle.std.specs.Prelude.{ℕ, ◌+◌, ◌-◌, ◌*◌, ◌≤◌, ◌<◌, Bool, List, ltb, length, take, drop, set, Result, Ok, Err}
 use Rattle.std.proofs.lemmas.List.Edits.{sets}
 use Rattle.message_layout.specs.Judged.{judged, judged_all}
 use Rattle.message_layout.specs.Tables.{field_of, layout_at}
-use Rattle.forms.specs.declared.FieldRead.{FieldRead}
-use Rattle.forms.specs.declared.FieldRead.TheVariants.{Short, Barred, At}
-use Rattle.message_read.specs.declared.Step.{Step}
-use Rattle.message_read.specs.declared.Step.TheVariants.{Refused, Reached}
+use Rattle.forms.specs.declared.Span.{Span}
+use Rattle.forms.specs.declared.fault.Refusal.{Refusal}
+use Rattle.message_read.specs.declared.Reached.{Reached}
 use Rattle.protocol.specs.Numbers.{pick, be}
 use Rattle.protocol.specs.Messages.{u16, field_at, MessageRead, unread, read, then_read, field_outcome, times_read, fields_read}
 
@@ -16,9 +15,9 @@ pub data Walk : Type 0 where
   stopped : ℕ → ℕ → Walk
   reached : ℕ → ℕ → List ℕ → Walk
 
-unfoldable pub outcome_of : Step → List ℕ → Walk
-outcome_of (Refused n p) l = stopped n p
-outcome_of (Reached at k) l = reached at k l
+unfoldable pub outcome_of : Result Reached Refusal → List ℕ → Walk
+outcome_of (Err e) l = stopped e.fault e.place
+outcome_of (Ok r) l = reached r.at r.words l
 
 -- where an outcome leads, from k words on: the list by `sets`, whose stores past the end do nothing
 unfoldable pub led : MessageRead → ℕ → List ℕ → Walk
@@ -26,15 +25,14 @@ led (unread n p) k l = stopped n p
 led (read at ws) k l = reached at (k + length ws) (sets l k ws)
 
 -- the content ends after `at` and within n bytes
-unfoldable pub Inside : ℕ → ℕ → FieldRead → Type 0
-Inside at n Short = Unit {0}
-Inside at n Barred = Unit {0}
-Inside at n (At start len) = (at < start + len) × (start + len ≤ n)
+unfoldable pub Inside : ℕ → ℕ → Result Span ℕ → Type 0
+Inside at n (Err q) = Unit {0}
+Inside at n (Ok c) = (at < c.start + c.len) × (c.start + c.len ≤ n)
 
 -- each field has at least one byte and two words
-unfoldable pub Within : ℕ → Step → Type 0
-Within n (Refused q p) = Unit {0}
-Within n (Reached at k) = (at ≤ n) × (k ≤ 2 * at)
+unfoldable pub Within : ℕ → Result Reached Refusal → Type 0
+Within n (Err e) = Unit {0}
+Within n (Ok r) = (r.at ≤ n) × (r.words ≤ 2 * r.at)
 
 -- two words at k, as far as the list has room
 unfoldable pub put : List ℕ → ℕ → ℕ → ℕ → List ℕ

@@ -2,7 +2,7 @@
 use mathlib.Core.Path.{◌≡◌, sym, ◌∙◌}
 use mathlib.Core.List.{List}
 use mathlib.Core.Logic.{⊎_elim}
-use Prim.Native.Nat.{ℕ, ◌+◌, ◌<◌, ◌≤◌}
+use Prim.Native.Nat.{ℕ, ◌+◌, ◌<◌, ◌≤◌, min}
 use native.Mathlib.Omega.{arith}
 use lib.ListN.{length}
 use lib.Seq.{sets}
@@ -19,6 +19,10 @@ cap_small n h = rw (le-ltb 65537 n h)
 pub cap_large : (n : ℕ) → 65537 < n → cap n ≡ 65537
 unfolding cap pick
 cap_large n h = rw (lt-ltb 65537 n h)
+
+-- the length as the code bounds it
+pub cap_min : (n : ℕ) → min 65537 n ≡ cap n
+cap_min n = ⊎_elim (λ (h : 65537 < n). sym (cap_large n h ∙ omega arith)) (λ (h : n ≤ 65537). sym (cap_small n h ∙ omega arith)) (lt_or_ge 65537 n)
 
 pub cap_most : (n : ℕ) → cap n ≤ 65537
 cap_most n = ⊎_elim (λ (h : 65537 < n). omega (arith, cap_large n h)) (λ (h : n ≤ 65537). omega (arith, cap_small n h)) (lt_or_ge 65537 n)

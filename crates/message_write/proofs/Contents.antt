@@ -2,7 +2,7 @@
 use mathlib.Core.Path.{◌≡◌, refl, ap, sym, ◌∙◌}
 use mathlib.Core.Bool.{Bool, true, false}
 use mathlib.Core.List.{List, [], ◌∷◌, ◌++◌, append-nil}
-use mathlib.Core.Logic.{⊎_elim}
+use mathlib.Core.Logic.{◌⊎◌, inl, inr, ⊎_elim}
 use Prim.Native.Nat.{ℕ, ◌+◌, ◌<◌, ◌≤◌}
 use native.Mathlib.Omega.{arith}
 use native.Mathlib.Nat.{eq-or-lt_of_le}
@@ -58,9 +58,11 @@ module _ (c : ℕ) (b : List ℕ) (j : Bool) where
     unfolding fitting judged
     text_fits r e w = rw (e, is_text) w
 
-    pub text_any : j ≡ false → true ≡ fitting (judged j (field_of c)) b
-    unfolding fitting judged
-    text_any e = rw (e, is_text)
+  -- bytes, or content that is not judged
+  pub content_any : 0 < c → c ≤ 2 → (c ≡ 2) ⊎ ((c ≡ 2 → ⊥) × (j ≡ false)) → true ≡ fitting (judged j (field_of c)) b
+  unfolding fitting judged
+  content_any z s (inl e) = bytes_fit e
+  content_any z s (inr (n, e)) = rw (e, is_text z s n)
 
 -- ---- how content is put out
 

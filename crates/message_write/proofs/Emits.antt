@@ -3,10 +3,10 @@ use mathlib.Core.Path.{◌≡◌, refl, ap, sym, ◌∙◌}
 use mathlib.Core.Bool.{Bool, true, false}
 use mathlib.Core.List.{List, [], ◌∷◌}
 use mathlib.Core.Logic.{⊎_elim}
-use Prim.Native.Nat.{ℕ, zero, suc, ◌+◌, ◌-◌, ◌<◌, ◌≤◌}
+use Prim.Native.Nat.{ℕ, suc, ◌+◌, ◌-◌, ◌<◌, ◌≤◌}
 use native.Mathlib.Omega.{arith}
-use native.Mathlib.Nat.{add-zero, add_assoc, add-sub_cancel_left, not-suc-le-zero}
-use native.Mathlib.Numerals.{add-one, sub-one, add-two}
+use native.Mathlib.Nat.{add-zero, add_assoc, add-sub_cancel_left}
+use native.Mathlib.Numerals.{add-one, add-two}
 use lib.Dec.{eqb, leb}
 use lib.ListN.{length, take, drop, get_or, length-take, length-drop, length-append}
 use lib.Seq.{sets, length-sets, drop-cons, get_or-drop}
@@ -16,9 +16,7 @@ use Rattle.message_layout.specs.Judged.{judged, judged_all}
 use Rattle.message_layout.specs.Tables.{codes, field_of, layout_at}
 use Rattle.message_layout.proofs.Codes.{lt_or_ge, at_end, at_field, at_run, count_code}
 use Rattle.message_layout.proofs.Judged.{judged_done, judged_one, judged_run, judged_count}
-use Rattle.message_write.specs.Emitting.{cap, Framed, Stand, broken, stands, put_at, stand_of, item_from}
-use Rattle.message_write.specs.declared.Emit.{Emit}
-use Rattle.message_write.specs.declared.Emit.TheVariants.{Faulty, Done}
+use Rattle.message_write.specs.Emitting.{cap, Framed, broken, stands, put_at, item_from}
 use Rattle.message_write.proofs.Caps.{cap_small, cap_add, cap_sets}
 use Rattle.message_write.proofs.Contents.{framed_judged}
 use Rattle.protocol.specs.Numbers.{pick, be}
@@ -150,11 +148,13 @@ module _ (j : Bool) (c : ℕ) (src ws : List ℕ) (at : ℕ) (out : List ℕ) wh
       pub count_inside : get_or ws 0 0 + 2 ≤ length src
       count_inside = count_of.inside
 
-      pub from_go : put_at (item_from j c src ws) at out ≡ put_at (times_written (be (take 2 (drop (get_or ws 0 0) src))) (fields_written (judged_all j (layout_at (c - 16))) src) us) at' out'
-      from_go =
-          ap (λ (w : Written). put_at w at out) run_is
+      -- a run's count n and its items, whose layout starts at i
+      pub from_go : (i n : ℕ) → i ≡ c - 16 → n ≡ be (take 2 (drop (get_or ws 0 0) src)) → put_at (item_from j c src ws) at out ≡ put_at (times_written n (fields_written (judged_all j (layout_at i)) src) us) at' out'
+      from_go i n ei en =
+          rw (ei, en)
+          (ap (λ (w : Written). put_at w at out) run_is
           ∙ counted.2
-          ∙ ap (λ (b : List ℕ). put_at (times_written (be b) (fields_written (judged_all j (layout_at (c - 16))) src) us) at' out') count_of.is
+          ∙ ap (λ (b : List ℕ). put_at (times_written (be b) (fields_written (judged_all j (layout_at (c - 16))) src) us) at' out') count_of.is)
 
 module _ (p c : ℕ) (h : p < 51) (o : c ≡ get_or codes p 0) (j : Bool) (src ws : List ℕ) (at : ℕ) (out : List ℕ) where
   pub from_end : c ≡ 0 → at ≤ 65537 → stands ws at out ≡ put_at (fields_written (judged_all j (layout_at p)) src ws) at out
@@ -173,28 +173,13 @@ module _ (p c : ℕ) (h : p < 51) (o : c ≡ get_or codes p 0) (j : Bool) (src w
 -- ---- items of a run
 
 module _ (g : List ℕ → Written) (ws : List ℕ) (at : ℕ) (out : List ℕ) where
-  pub times_one : (n : ℕ) → 0 < n → put_at (times_written n g ws) at out ≡ put_at (joined (g ws) (λ b. times_written (n - 1) g)) at out
+  pub times_one : (n n' : ℕ) → n ≡ suc n' → put_at (times_written n g ws) at out ≡ put_at (joined (g ws) (λ b. times_written n' g)) at out
   unfolding times_written
-  times_one zero h = absurd (not-suc-le-zero h)
-  times_one (suc n) h = rw sub-one
+  times_one n n' e = rw e
 
   pub times_none : (n : ℕ) → n ≤ 0 → at ≤ 65537 → stands ws at out ≡ put_at (times_written n g ws) at out
   unfolding times_written put_at
   times_none n h k = let e : n ≡ 0 = omega arith in rw (e, add-zero, cap_small at k)
-
-  pub times_count : (n n' : ℕ) → n ≡ n' → put_at (times_written n g ws) at out ≡ put_at (times_written n' g ws) at out
-  times_count n n' e = rw e
-
--- ---- a call's answer
-
-module _ (r : Emit) (list out : List ℕ) (x : Stand) (q : stand_of r list out ≡ x) where
-  pub faulty_is : r ≡ Faulty → broken ≡ x
-  unfolding stand_of
-  faulty_is e = rw e at q
-
-  pub done_is : (w a : ℕ) → r ≡ Done w a → stands (drop w list) a out ≡ x
-  unfolding stand_of
-  done_is w a e = rw e at q
 
 pub first_word : (list : List ℕ) (i : ℕ) → get_or (drop i list) 0 0 ≡ get_or list i 0
 first_word list i = rw (get_or-drop, add-zero)

@@ -17,14 +17,18 @@ use Rattle.message_layout.proofs.Starts.{start_known}
 use Rattle.message_layout.proofs.Codes.{lt_or_ge}
 use Rattle.message_write.specs.Emitting.{cap, broken, stands, put_at, stand_of}
 use Rattle.message_write.specs.Answers.{Puts, wrote_of}
-use Rattle.message_write.specs.declared.Wrote.TheVariants.{Refused, Whole}
-use Rattle.message_write.specs.declared.Emit.{Emit}
-use Rattle.message_write.specs.declared.Emit.TheVariants.{Faulty, Done}
+use Rattle.message_write.specs.declared.Emitted.{Emitted}
+use Rattle.std.specs.declared.option.Option.{Option}
+use Rattle.std.specs.Prelude.{Result, Ok, Err, Some, None}
 use Rattle.message_write.proofs.Caps.{cap_small, cap_exact}
 use Rattle.message_write.proofs.Trusted.{unjudged_writes}
 use Rattle.protocol.specs.Numbers.{pick, bytes_be}
-use Rattle.protocol.specs.Messages.{layout_of, Written, unwritten, wrote, fields_written, message_whole, body_written, message_written}
+use Rattle.protocol.specs.Messages.{Written, unwritten, wrote, fields_written, message_whole, body_written, message_written}
 use Rattle.protocol.specs.Answers.{output_after}
+
+-- the length of a whole message, as an answer
+abbrev whole : ℕ → Result ℕ ℕ
+whole n = Ok n
 
 -- what was written, from where it leads
 pub record Led (w : Written) (p : ℕ) (us : List ℕ) (at : ℕ) : Type 0 where
@@ -32,10 +36,19 @@ pub record Led (w : Written) (p : ℕ) (us : List ℕ) (at : ℕ) : Type 0 where
   pub is : w ≡ wrote body us
   pub next : at ≡ cap (p + length body)
 
-pub led : (w : Written) (p : ℕ) (o us : List ℕ) (at : ℕ) (o' : List ℕ) → stands us at o' ≡ put_at w p o → Led w p us at
+led : (w : Written) (p : ℕ) (o us : List ℕ) (at : ℕ) (o' : List ℕ) → stands us at o' ≡ put_at w p o → Led w p us at
 unfolding put_at
 led unwritten p o us at o' e = let z : ◌≡◌ {A = ℕ} 0 1 = cc in absurd (omega arith)
 led (wrote b vs) p o us at o' e = let f : vs ≡ us = cc in record { body = b; is = ap (wrote b) f; next = cc }
+
+-- the same, from what a call answers
+pub led_is : (r : Option Emitted) (e : Emitted) (list : List ℕ) (w : Written) (p : ℕ) (o o' : List ℕ) → r ≡ Some e → stand_of r list o' ≡ put_at w p o → Led w p (drop e.word list) e.at
+unfolding stand_of
+led_is r e list w p o o' h q = led w p o (drop e.word list) e.at o' (rw h at q)
+
+pub faulty_is : (r : Option Emitted) (list : List ℕ) (w : Written) (p : ℕ) (o o' : List ℕ) → r ≡ None → stand_of r list o' ≡ put_at w p o → broken ≡ put_at w p o
+unfolding stand_of
+faulty_is r list w p o o' h q = rw h at q
 
 -- no longer than the largest message: the length is exact
 pub exact : (w : Written) (p : ℕ) (us : List ℕ) (at : ℕ) (d : Led w p us at) → at ≤ 65536 → p + length d.body ≡ at
@@ -47,10 +60,10 @@ unled unwritten p o e = refl
 unled (wrote b vs) p o e = let z : ◌≡◌ {A = ℕ} 0 1 = cc in absurd (omega arith)
 
 -- the output of a writing that is known to be whole
-output_is : (r : Emit) (list : List ℕ) (w : Written) (b us : List ℕ) (p : ℕ) (o o' : List ℕ) → w ≡ wrote b us → stand_of r list o' ≡ put_at w p o → o' ≡ sets o p b
+output_is : (r : Option Emitted) (list : List ℕ) (w : Written) (b us : List ℕ) (p : ℕ) (o o' : List ℕ) → w ≡ wrote b us → stand_of r list o' ≡ put_at w p o → o' ≡ sets o p b
 unfolding stand_of put_at
-output_is Faulty list w b us p o o' e q = let f = rw e at q in let z : ◌≡◌ {A = ℕ} 0 1 = cc in absurd (omega arith)
-output_is (Done i at) list w b us p o o' e q = let f = rw e at q in cc
+output_is None list w b us p o o' e q = let f = rw e at q in let z : ◌≡◌ {A = ℕ} 0 1 = cc in absurd (omega arith)
+output_is (Some x) list w b us p o o' e q = let f = rw e at q in cc
 
 none_left : (us : List ℕ) → length us ≡ 0 → us ≡ []
 none_left [] e = refl
@@ -91,29 +104,26 @@ laid_out t n at b out ea h =
 
 -- ---- the tests, in their order
 
-module _ (side t : ℕ) (ws src out : List ℕ) (r : ℕ) (e : r ≡ start_of side t) where
-  known_is : known_at r ≡ layout_of side t
-  known_is = start_known r side t e
+module _ (side t : ℕ) (ws src out : List ℕ) where
+  pub puts_unknown : None ≡ start_of side t → Puts (message_written side t ws src (length out)) (Err 3) out out
+  unfolding message_written body_written known_at wrote_of output_after
+  puts_unknown e = rw (← start_known None side t e) (record { answer = refl; output = refl })
 
-  pub puts_unknown : 51 ≤ r → Puts (message_written side t ws src (length out)) (Refused 3) out out
-  unfolding message_written body_written known_at wrote_of output_after pick
-  puts_unknown h = rw (← known_is, le-ltb r 51 h) (record { answer = refl; output = refl })
-
-  module _ (h : r < 51) where
+  module _ (r : ℕ) (e : Some r ≡ start_of side t) where
     written_is : message_written side t ws src (length out) ≡ message_whole t (length out) (fields_written (layout_at r) src ws)
-    unfolding message_written body_written known_at pick
-    written_is = rw (← known_is, lt-ltb r 51 h)
+    unfolding message_written body_written known_at
+    written_is = rw (← start_known (Some r) side t e)
 
-    pub puts_faulty : (o : List ℕ) → broken ≡ put_at (fields_written (layout_at r) src ws) 5 o → Puts (message_written side t ws src (length out)) (Refused 6) out out
+    pub puts_faulty : (o : List ℕ) → broken ≡ put_at (fields_written (layout_at r) src ws) 5 o → Puts (message_written side t ws src (length out)) (Err 6) out out
     unfolding message_whole wrote_of output_after
     puts_faulty o q = rw (written_is, unled (fields_written (layout_at r) src ws) 5 o q) (record { answer = refl; output = refl })
 
     module _ (us : List ℕ) (at : ℕ) (d : Led (fields_written (layout_at r) src ws) 5 us at) where
-      pub puts_left : 0 < length us → Puts (message_written side t ws src (length out)) (Refused 6) out out
+      pub puts_left : 0 < length us → Puts (message_written side t ws src (length out)) (Err 6) out out
       unfolding message_whole wrote_of output_after
       puts_left g = rw (written_is, d.is) (go us g)
         where
-          go : (vs : List ℕ) → 0 < length vs → Puts (message_whole t (length out) (wrote d.body vs)) (Refused 6) out out
+          go : (vs : List ℕ) → 0 < length vs → Puts (message_whole t (length out) (wrote d.body vs)) (Err 6) out out
           go [] l = absurd (omega arith)
           go (v ∷ vs) l = record { answer = refl; output = refl }
 
@@ -121,7 +131,7 @@ module _ (side t : ℕ) (ws src out : List ℕ) (r : ℕ) (e : r ≡ start_of si
         all_is : message_written side t ws src (length out) ≡ message_whole t (length out) (wrote d.body [])
         all_is = written_is ∙ ap (message_whole t (length out)) (d.is ∙ ap (wrote d.body) (none_left us none))
 
-        pub puts_long : 65536 < at → Puts (message_written side t ws src (length out)) (Refused 2) out out
+        pub puts_long : 65536 < at → Puts (message_written side t ws src (length out)) (Err 2) out out
         unfolding message_whole wrote_of output_after pick
         puts_long g =
             let k : 65535 < length d.body + 4 =
@@ -137,15 +147,15 @@ module _ (side t : ℕ) (ws src out : List ℕ) (r : ℕ) (e : r ≡ start_of si
           short : length d.body + 4 ≤ 65535
           short = omega (arith, size)
 
-          pub puts_full : length out < at → Puts (message_written side t ws src (length out)) (Refused 32) out out
+          pub puts_full : length out < at → Puts (message_written side t ws src (length out)) (Err 32) out out
           unfolding message_whole wrote_of output_after pick
           puts_full g =
               let k : length out < length d.body + 5 = omega (arith, size) in
               rw (all_is, le-ltb 65535 (length d.body + 4) short, lt-ltb (length out) (length d.body + 5) k) (record { answer = refl; output = refl })
 
-          pub puts_whole : at ≤ length out → (x : Emit) (list out₁ front : List ℕ) → out₁ ≡ sets (set out 0 t) 1 (bytes_be 4 (at - 1))
+          pub puts_whole : at ≤ length out → (x : Option Emitted) (list out₁ front : List ℕ) → out₁ ≡ sets (set out 0 t) 1 (bytes_be 4 (at - 1))
               → stand_of x list front ≡ put_at (fields_written (judged_all false (layout_at r)) src ws) 5 (take at out₁)
-              → Puts (message_written side t ws src (length out)) (Whole at) out (front ++ drop at out₁)
+              → Puts (message_written side t ws src (length out)) (Ok at) out (front ++ drop at out₁)
           unfolding message_whole wrote_of output_after pick judged_all
           puts_whole g x list out₁ front e q =
               let k : length d.body + 5 ≤ length out = omega (arith, size) in
@@ -156,6 +166,6 @@ module _ (side t : ℕ) (ws src out : List ℕ) (r : ℕ) (e : r ≡ start_of si
               omega (arith, size, length-append (bytes_be 4 (length d.body + 4)) d.body, length_bytes 4 (length d.body + 4)) in
               rw (all_is, le-ltb 65535 (length d.body + 4) short, le-ltb (length out) (length d.body + 5) k)
               (record {
-                answer = ap Whole len;
+                answer = ap whole len;
                 output = rw (o, e, n) (laid_out t (length d.body + 4) at d.body out size g);
               })

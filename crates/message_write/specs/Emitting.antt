@@ -1,11 +1,11 @@
 -- Nobody has to believe these definitions: they are the writing of a message as the code does it, the list by the next word's index, the
 -- output by the next byte's, which stops growing past the largest message so that no sum can overflow.
-use Rattle.std.specs.Prelude.{◌≡◌, ℕ, ◌+◌, ◌-◌, ◌≤◌, Bool, List, ltb, length, drop}
+use Rattle.std.specs.Prelude.{◌≡◌, ℕ, ◌+◌, ◌-◌, ◌≤◌, Bool, List, ltb, length, drop, Some, None}
 use Rattle.std.proofs.lemmas.List.Edits.{sets}
 use Rattle.message_layout.specs.Judged.{judged, judged_all}
 use Rattle.message_layout.specs.Tables.{field_of, layout_at}
-use Rattle.message_write.specs.declared.Emit.{Emit}
-use Rattle.message_write.specs.declared.Emit.TheVariants.{Faulty, Done}
+use Rattle.std.specs.declared.option.Option.{Option}
+use Rattle.message_write.specs.declared.Emitted.{Emitted}
 use Rattle.protocol.specs.Numbers.{pick, be}
 use Rattle.protocol.specs.Messages.{u16, Written, unwritten, wrote, next_field, joined, times_written, fields_written}
 
@@ -28,14 +28,14 @@ unfoldable pub put_at : Written → ℕ → List ℕ → Stand
 put_at unwritten at out = broken
 put_at (wrote b ws) at out = stands ws (cap (at + length b)) (sets out at b)
 
-unfoldable pub stand_of : Emit → List ℕ → List ℕ → Stand
-stand_of Faulty ws out = broken
-stand_of (Done i at) ws out = stands (drop i ws) at out
+unfoldable pub stand_of : Option Emitted → List ℕ → List ℕ → Stand
+stand_of None ws out = broken
+stand_of (Some e) ws out = stands (drop e.word ws) e.at out
 
 -- the next word and byte stay in their bounds
-unfoldable pub Bounded : ℕ → Emit → Type 0
-Bounded n Faulty = Unit {0}
-Bounded n (Done i at) = (i ≤ n) × (at ≤ 65537)
+unfoldable pub Bounded : ℕ → Option Emitted → Type 0
+Bounded n None = Unit {0}
+Bounded n (Some e) = (e.word ≤ n) × (e.at ≤ 65537)
 
 -- what a code stands for: a field, or a run's count and items
 unfoldable pub item_from : Bool → ℕ → List ℕ → List ℕ → Written

@@ -7,17 +7,17 @@ use Prim.Native.Nat.{ℕ, zero, suc, ◌+◌, ◌-◌, ◌≤◌, ◌<◌}
 use native.Mathlib.Nat.{eq-or-lt_of_le, sub-zero}
 use native.Mathlib.Numerals.{add-one}
 use native.Mathlib.Omega.{arith}
-use lib.Dec.{ltb}
-use lib.ListN.{length, get_or, set, length-set}
-use lib.Seq.{get_or-set_same, get_or-set_other}
+use lib.ListN.{length, get_or, set, take, length-set, length-take}
+use lib.Seq.{get_or-take, get_or-set_same, get_or-set_other}
 use borrow.Author.Tests.{eq-eqb, ne_eqb, lt-ltb, le-ltb, le-leb, lt-leb}
 use Rattle.wire.proofs.Picks.{pick_yes, pick_no}
-use Rattle.plan_heights.specs.Scan.{known_at, known_of, Rising, Scanned, Among}
+use Rattle.plan_heights.specs.Scan.{known_at, known_of, known, Rising, Scanned, Among, height_option}
 use Rattle.plan_check.specs.Reading.{read_of, count_of, Reads}
-use Rattle.plan_check.specs.declared.Count.{Count}
-use Rattle.plan_check.specs.declared.Count.TheVariants.{Faulty, Nodes}
+use Rattle.std.specs.Prelude.{Option, Some, None}
+use Rattle.std.specs.Option.{is_some as option_is_some}
 use Rattle.plan_nodes.proofs.Reading.{size_positive}
 use Rattle.plan_heights.proofs.Starts.{known_length, starts_here}
+use Rattle.plan_heights.proofs.Heights.{height_zero, height_is}
 use Rattle.protocol.specs.Plans.{PlanNode, node_size, node_height, NodesRead, malformed, nodes, read_node, then_nodes, read_nodes, nodes_of, starts_in}
 
 -- ---- one step of the reading
@@ -73,10 +73,20 @@ known_next p s h n x y l m =
       get_or-set_same h n y 0 m,
     )
 
+-- the first of them alone
+known_first : (p s h : List ℕ) (n : ℕ) → n ≤ length s → known p (take n s) (take n h) ≡ known_of p s h n
+known_first p s h n l =
+    let e : length (take n s) ≡ n = omega (arith, length-take n s) in
+    rw e (known_same p s h (take n s) (take n h) n (λ i v. get_or-take n s i 0 v) (λ i v. get_or-take n h i 0 v))
+
 -- ---- the loop
 
 pub record Going (p s h : List ℕ) (n at : ℕ) : Type 0 where
-  pub scanned : Scanned p s h n at
+  pub order : (i j : ℕ) → i < j → j < n → get_or s i 0 < get_or s j 0
+  pub below : (i : ℕ) → i < n → get_or s i 0 < at
+  pub inside : at ≤ length p
+  pub room : n ≤ length s
+  pub tall : n ≤ length h
   pub low : n + 2 ≤ at
   pub few : n ≤ 1024
   pub same : nodes_of p ≡ read_nodes (suc (length p) - n) p at (known_of p s h n)
@@ -85,13 +95,11 @@ pub going_start : (p s h : List ℕ) → 2 ≤ length p → Going p s h 0 2
 unfolding nodes_of known_of
 going_start p s h l =
     record {
-      scanned =
-          record {
-            rising = record { room = omega arith; order = λ i j a b. absurd (omega arith) };
-            tall = omega arith;
-            inside = l;
-            below = λ i a. absurd (omega arith);
-          };
+      order = λ i j a b. absurd (omega arith);
+      below = λ i a. absurd (omega arith);
+      inside = l;
+      room = omega arith;
+      tall = omega arith;
       low = omega arith;
       few = omega arith;
       same = rw sub-zero;
@@ -99,7 +107,7 @@ going_start p s h l =
 
 module _ (p s h : List ℕ) (n at : ℕ) (g : Going p s h n at) where
   fuel : suc (length p) - n ≡ suc (suc (length p) - (n + 1))
-  fuel = omega (arith, g.low, g.scanned.inside)
+  fuel = omega (arith, g.low, g.inside)
 
   from_here : nodes_of p ≡ read_nodes (suc (suc (length p) - (n + 1))) p at (known_of p s h n)
   from_here = g.same ∙ ap (λ (f : ℕ). read_nodes f p at (known_of p s h n)) fuel
@@ -107,85 +115,117 @@ module _ (p s h : List ℕ) (n at : ℕ) (g : Going p s h n at) where
   count : length (known_of p s h n) ≡ n
   count = known_length p s h n
 
-  -- the reading is over, with what it gives
-  stopped : nodes_of p ≡ malformed → Reads p s h Faulty
-  unfolding read_of count_of
-  stopped e = record { same = e; rising = record { room = omega arith; order = λ i j a b. absurd (omega arith) } }
+  first : length (take n s) ≡ n
+  first = omega (arith, length-take n s, g.room)
 
-  pub going_end : length p ≤ at → Reads p s h (Nodes n)
+  rising : Rising (take n s)
+  rising =
+      record {
+        order = λ i j a b.
+            let y : j < n = rw first at b in
+            let x : i < n = omega arith in
+            rw (get_or-take n s i 0 x, get_or-take n s j 0 y) (g.order i j a y);
+      }
+
+  -- the nodes so far, as those before the next one
+  pub going_scanned : at < length p → Scanned p (take n s) (take n h)
+  going_scanned l =
+      record {
+        rising = rising;
+        tall = omega (arith, first, length-take n h, g.tall);
+        inside = λ i a.
+            let x : i < n = rw first at a in
+            rw (get_or-take n s i 0 x) (omega (arith, g.below i x));
+      }
+
+  -- the reading is over, with what it gives
+  stopped : nodes_of p ≡ malformed → Reads p s h None
+  unfolding read_of count_of
+  stopped e = record { same = e; room = omega arith; rising = record { order = λ i j a b. absurd (omega arith) } }
+
+  pub going_end : length p ≤ at → Reads p s h (Some n)
   unfolding read_of count_of
   going_end l =
-      let e : at ≡ length p = omega (arith, g.scanned.inside) in
-      record { same = from_here ∙ read_end (suc (length p) - (n + 1)) p at (known_of p s h n) e; rising = g.scanned.rising }
+      let e : at ≡ length p = omega (arith, g.inside) in
+      record {
+        same = from_here ∙ read_end (suc (length p) - (n + 1)) p at (known_of p s h n) e;
+        room = g.room;
+        rising = rising;
+      }
 
   module _ (l : at < length p) where
-    pub going_many : 1024 ≤ n → Reads p s h Faulty
+    pub going_many : 1024 ≤ n → Reads p s h None
     going_many m = stopped (from_here ∙ read_many (suc (length p) - (n + 1)) p at (known_of p s h n) l (rw count m))
 
     module _ (few : n < 1024) (size : ℕ) (is : size ≡ node_size (get_or p at 0) (get_or p (at + 1) 0)) where
       small : length (known_of p s h n) < 1024
       small = rw count few
 
-      pub going_short : length p < at + size → Reads p s h Faulty
-      going_short w = stopped (from_here ∙ read_short (suc (length p) - (n + 1)) p at (known_of p s h n) l small (rw is at w))
+      pub going_short : length p - at < size → Reads p s h None
+      going_short w =
+          let short : length p < at + size = omega arith in
+          stopped (from_here ∙ read_short (suc (length p) - (n + 1)) p at (known_of p s h n) l small (rw is at short))
 
-      module _ (w : at + size ≤ length p) where
-        whole : at + node_size (get_or p at 0) (get_or p (at + 1) 0) ≤ length p
-        whole = rw is at w
+      module _ (w : size ≤ length p - at) where
+        pub going_whole : at + node_size (get_or p at 0) (get_or p (at + 1) 0) ≤ length p
+        going_whole = let whole : at + size ≤ length p = omega arith in rw is at whole
 
-        module _ (y : ℕ) (e : y ≡ node_height p at (known_of p s h n) (get_or p at 0) (get_or p (at + 1) 0)) where
-          pub going_bad : y ≡ 0 → Reads p s h Faulty
-          going_bad z = stopped (from_here ∙ read_bad (suc (length p) - (n + 1)) p at (known_of p s h n) l small whole (sym e ∙ z))
+        -- what the code answers of the next node's height
+        abbrev pub height : Option ℕ
+        height = height_option (node_height p at (known p (take n s) (take n h)) (get_or p at 0) (get_or p (at + 1) 0))
 
-          pub going_next : (y ≡ 0 → ⊥) → n < length s → n < length h → Going p (set s n at) (set h n y) (n + 1) (at + size)
-          going_next z a b =
-              let u = g.scanned in
-              let pos : 0 < size = rw is (size_positive (get_or p at 0) (get_or p (at + 1) 0)) in
-              let new : get_or (set s n at) n 0 ≡ at = get_or-set_same s n at 0 a in
-              let old : (i : ℕ) → i < n → get_or (set s n at) i 0 ≡ get_or s i 0 = λ i v. get_or-set_other s n i at 0 (λ (q : i ≡ n). omega arith) in
-              let under : (i : ℕ) → i < n + 1 → get_or (set s n at) i 0 < at + size =
-              λ i v.
-              ⊎_elim
-              (λ (q : i ≡ n). rw (q, new) (omega arith))
-              (λ (x : i < n). rw (old i x) (omega (arith, u.below i x)))
-              (eq-or-lt_of_le (omega arith))
-              in
-              record {
-                scanned =
-                    record {
-                      rising =
-                          record {
-                            room = rw length-set (omega arith);
-                            order = λ i j x v.
-                                ⊎_elim
-                                (λ (q : j ≡ n). rw (q, new, old i (omega arith)) (u.below i (omega arith)))
-                                (λ (r : j < n). rw (old j r, old i (omega arith)) (u.rising.order i j x r))
-                                (eq-or-lt_of_le (omega arith));
-                          };
-                      tall = rw length-set (omega arith);
-                      inside = w;
-                      below = under;
-                    };
-                low = omega (arith, g.low);
-                few = omega arith;
-                same =
-                    from_here
-                    ∙ read_next (suc (length p) - (n + 1)) p at (known_of p s h n) l small whole y e z
-                    ∙ rw (known_next p s h n at y a b, is);
-              }
+        pub going_bad : None ≡ height → Reads p s h None
+        going_bad e =
+            let z : node_height p at (known_of p s h n) (get_or p at 0) (get_or p (at + 1) 0) ≡ 0 = height_zero _ (rw (known_first p s h n g.room) at e) in
+            stopped (from_here ∙ read_bad (suc (length p) - (n + 1)) p at (known_of p s h n) l small going_whole z)
+
+        pub going_next : (y : ℕ) → Some y ≡ height → n < length s → n < length h → Going p (set s n at) (set h n y) (n + 1) (at + size)
+        going_next y e a b =
+            let f = height_is y _ (rw (known_first p s h n g.room) at e) in
+            let pos : 0 < size = rw is (size_positive (get_or p at 0) (get_or p (at + 1) 0)) in
+            let new : get_or (set s n at) n 0 ≡ at = get_or-set_same s n at 0 a in
+            let old : (i : ℕ) → i < n → get_or (set s n at) i 0 ≡ get_or s i 0 = λ i v. get_or-set_other s n i at 0 (λ (q : i ≡ n). omega arith) in
+            record {
+              order = λ i j x v.
+                  ⊎_elim
+                  (λ (q : j ≡ n). rw (q, new, old i (omega arith)) (g.below i (omega arith)))
+                  (λ (r : j < n). rw (old j r, old i (omega arith)) (g.order i j x r))
+                  (eq-or-lt_of_le (omega arith));
+              below = λ i v.
+                  ⊎_elim
+                  (λ (q : i ≡ n). rw (q, new) (omega arith))
+                  (λ (x : i < n). rw (old i x) (omega (arith, g.below i x)))
+                  (eq-or-lt_of_le (omega arith));
+              inside = omega arith;
+              room = rw length-set (omega arith);
+              tall = rw length-set (omega arith);
+              low = omega (arith, g.low);
+              few = omega arith;
+              same =
+                  from_here
+                  ∙ read_next (suc (length p) - (n + 1)) p at (known_of p s h n) l small going_whole y f.0 (λ z. omega (arith, f.1))
+                  ∙ rw (known_next p s h n at y a b, is);
+            }
 
 -- ---- what a whole reading says of the root
 
-module _ (p s h : List ℕ) (r : Count) (u : Reads p s h r) where
-  pub reads_faulty : (k : ℕ) → r ≡ Faulty → false ≡ starts_in (nodes_of p) k
+module _ (p s h : List ℕ) where
+  pub reads_faulty : (k : ℕ) → Reads p s h None → false ≡ starts_in (nodes_of p) k
   unfolding read_of starts_in
-  reads_faulty k e = sym (ap (λ (t : NodesRead). starts_in t k) (u.same ∙ ap (read_of p s h) e))
+  reads_faulty k u = sym (ap (λ (t : NodesRead). starts_in t k) u.same)
 
-  pub reads_rising : (n : ℕ) → r ≡ Nodes n → Rising s n
-  unfolding count_of
-  reads_rising n e = rw e at u.rising
+  module _ (n : ℕ) (u : Reads p s h (Some n)) where
+    pub reads_room : n ≤ length s
+    unfolding count_of
+    reads_room = u.room
 
-  pub reads_found : (n k i : ℕ) → r ≡ Nodes n → Among s n k i → ltb i n ≡ starts_in (nodes_of p) k
-  unfolding read_of
-  reads_found n k i e a =
-      starts_here p s h n k i (reads_rising n e) a ∙ sym (ap (λ (t : NodesRead). starts_in t k) (u.same ∙ ap (read_of p s h) e))
+    pub reads_rising : Rising (take n s)
+    unfolding count_of
+    reads_rising = u.rising
+
+    pub reads_found : (k : ℕ) (t : Option ℕ) → Among (take n s) k t → option_is_some t ≡ starts_in (nodes_of p) k
+    unfolding read_of
+    reads_found k t a =
+        starts_here p (take n s) (take n h) k t reads_rising a
+        ∙ ap (λ (all : List PlanNode). starts_in (nodes all) k) (known_first p s h n reads_room)
+        ∙ sym (ap (λ (r : NodesRead). starts_in r k) u.same)

@@ -3,19 +3,21 @@ use mathlib.Core.Path.{◌≡◌, refl, ap, sym, ◌∙◌}
 use mathlib.Core.Logic.{⊎_elim}
 use mathlib.Core.Bool.{Bool, true, false}
 use mathlib.Core.List.{List}
-use Prim.Native.Nat.{ℕ, zero, suc, ◌+◌, ◌≤◌, ◌<◌}
+use Prim.Native.Nat.{ℕ, zero, suc, ◌+◌, ◌*◌, ◌≤◌, ◌<◌, max}
 use native.Mathlib.Nat.{eq-or-lt_of_le, le_of_suc-le-suc}
 use native.Mathlib.Numerals.{add-one}
 use native.Mathlib.Omega.{arith}
-use lib.Dec.{ltb}
-use lib.ListN.{get_or}
-use borrow.Author.Tests.{le-leb, lt-leb, lt-ltb, le-ltb}
+use lib.Dec.{ltb, eqb}
+use lib.ListN.{length, get_or}
+use native.Mathlib.Decide.{dec_lt}
+use borrow.Author.Tests.{le-leb, lt-leb, lt-ltb, le-ltb, eq-eqb, eqb-true}
 use Rattle.wire.proofs.Picks.{pick_yes, pick_no, pick_case}
-use Rattle.plan_heights.specs.Scan.{known_at, known_of, Among, Rising}
+use Rattle.std.specs.Prelude.{Some, None}
+use Rattle.plan_heights.specs.Scan.{known_at, known, Among, Rising, height_option, element_ref, cards_fit, elements_height}
 use Rattle.plan_heights.proofs.Starts.{find_miss, find_hit}
 use Rattle.protocol.specs.Numbers.{pick, at_least}
 use Rattle.protocol.specs.Messages.{is_cardinality}
-use Rattle.protocol.specs.Plans.{PlanNode, placed_at, may_refer, raised, refer, refer_all, all_cardinalities}
+use Rattle.protocol.specs.Plans.{PlanNode, pair_card, placed_at, may_refer, raised, refer, refer_all, all_cardinalities}
 
 -- ---- one reference
 
@@ -24,32 +26,53 @@ unfolding refer
 refer_some seen kind r zero l = absurd (omega arith)
 refer_some seen kind r (suc h) l = refl
 
-module _ (p s hs : List ℕ) (n kind r h i : ℕ) (u : Rising s n) (pos : 1 ≤ h) (a : Among s n r i) where
-  pub refer_miss : n ≤ i → 0 ≡ refer (known_of p s hs n) kind r h
+-- a height that is not 0 is answered as it is
+pub height_some : (n : ℕ) → 1 ≤ n → Some n ≡ height_option n
+unfolding height_option
+height_some zero l = absurd (omega arith)
+height_some (suc n) l = refl
+
+pub height_none : (n : ℕ) → n ≡ 0 → None ≡ height_option n
+unfolding height_option
+height_none n e = rw e
+
+pub height_zero : (n : ℕ) → None ≡ height_option n → n ≡ 0
+unfolding height_option
+height_zero zero e = refl
+height_zero (suc n) e = cc
+
+pub height_is : (b n : ℕ) → Some b ≡ height_option n → (b ≡ n) × (1 ≤ b)
+unfolding height_option
+height_is b zero e = cc
+height_is b (suc n) e = let f : b ≡ suc n = cc in (f, omega arith)
+
+max_at_least : (a b : ℕ) → max a b ≡ at_least a b
+unfolding at_least pick
+max_at_least a b = elim (dec_lt b a) [ yes l ↦ rw (lt-leb a b l) (omega arith) | no l ↦ rw (le-leb a b (omega arith)) (omega arith) ]
+
+module _ (p s hs : List ℕ) (kind r h : ℕ) (u : Rising s) (pos : 1 ≤ h) where
+  pub refer_miss : Among s r None → None ≡ height_option (refer (known p s hs) kind r h)
   unfolding raised
-  refer_miss l =
-      sym (refer_some (known_of p s hs n) kind r h pos
-      ∙ ap (raised kind h) (find_miss p s hs n r (a.miss (omega (arith, a.within)))))
+  refer_miss a =
+      height_none _ (refer_some (known p s hs) kind r h pos ∙ ap (raised kind h) (find_miss p s hs (length s) r a))
 
-  pub refer_hit : i < n → refer (known_of p s hs n) kind r h ≡ pick (may_refer kind (get_or p (get_or s i 0) 0)) (pick (ltb (get_or hs i 0) 32) (at_least h (get_or hs i 0 + 1)) 0) 0
-  unfolding raised known_at
-  refer_hit l = refer_some (known_of p s hs n) kind r h pos ∙ ap (raised kind h) (find_hit p s hs n r i u l (a.hit l))
+  module _ (i : ℕ) (a : Among s r (Some i)) where
+    refer_hit : refer (known p s hs) kind r h ≡ pick (may_refer kind (get_or p (get_or s i 0) 0)) (pick (ltb (get_or hs i 0) 32) (at_least h (get_or hs i 0 + 1)) 0) 0
+    unfolding raised known_at
+    refer_hit = refer_some (known p s hs) kind r h pos ∙ ap (raised kind h) (find_hit p s hs (length s) r i (omega arith) u a.0 a.1)
 
-  module _ (w : ℕ) (l : i < n) (e : w ≡ get_or s i 0) where
-    pub refer_barred : may_refer kind (get_or p w 0) ≡ false → 0 ≡ refer (known_of p s hs n) kind r h
-    refer_barred t = sym (refer_hit l ∙ pick_no _ _ _ (rw e at t))
+    module _ (w : ℕ) (e : w ≡ get_or s i 0) where
+      pub refer_barred : may_refer kind (get_or p w 0) ≡ false → None ≡ height_option (refer (known p s hs) kind r h)
+      refer_barred t = height_none _ (refer_hit ∙ pick_no _ _ _ (rw e at t))
 
-    module _ (t : may_refer kind (get_or p w 0) ≡ true) where
-      pub refer_high : 31 < get_or hs i 0 → 0 ≡ refer (known_of p s hs n) kind r h
-      refer_high g = sym (refer_hit l ∙ pick_yes _ _ _ (rw e at t) ∙ pick_no _ _ _ (le-ltb (get_or hs i 0) 32 (omega (arith, g))))
+      module _ (t : may_refer kind (get_or p w 0) ≡ true) where
+        pub refer_high : 31 < get_or hs i 0 → None ≡ height_option (refer (known p s hs) kind r h)
+        refer_high g = height_none _ (refer_hit ∙ pick_yes _ _ _ (rw e at t) ∙ pick_no _ _ _ (le-ltb (get_or hs i 0) 32 (omega (arith, g))))
 
-      pub refer_more : get_or hs i 0 ≤ 31 → h ≤ get_or hs i 0 + 1 → get_or hs i 0 + 1 ≡ refer (known_of p s hs n) kind r h
-      unfolding at_least
-      refer_more g x = sym (refer_hit l ∙ pick_yes _ _ _ (rw e at t) ∙ pick_yes _ _ _ (lt-ltb (get_or hs i 0) 32 (omega (arith, g))) ∙ pick_yes _ _ _ (le-leb _ _ x))
-
-      pub refer_same : get_or hs i 0 ≤ 31 → get_or hs i 0 + 1 < h → h ≡ refer (known_of p s hs n) kind r h
-      unfolding at_least
-      refer_same g x = sym (refer_hit l ∙ pick_yes _ _ _ (rw e at t) ∙ pick_yes _ _ _ (lt-ltb (get_or hs i 0) 32 (omega (arith, g))) ∙ pick_no _ _ _ (lt-leb _ _ x))
+        pub refer_rise : get_or hs i 0 ≤ 31 → (y : ℕ) → y ≡ max h (get_or hs i 0 + 1) → Some y ≡ height_option (refer (known p s hs) kind r h)
+        refer_rise g y q =
+            let f : refer (known p s hs) kind r h ≡ y = refer_hit ∙ pick_yes _ _ _ (rw e at t) ∙ pick_yes _ _ _ (lt-ltb (get_or hs i 0) 32 (omega (arith, g))) ∙ sym (q ∙ max_at_least h (get_or hs i 0 + 1)) in
+            height_some y (omega arith) ∙ ap height_option (sym f)
 
 -- ---- many references
 
@@ -97,37 +120,52 @@ module _ (f : ℕ → ℕ) where
       last true b e = pick_yes _ _ _ refl ∙ e
       last false b e = pick_no _ _ _ refl
 
--- ---- a loop over the references, and over references and cardinalities
+-- ---- a loop over the elements
 
--- the height after k of the references, which is not 0
-pub record Climbed (seen : List PlanNode) (kind : ℕ) (f : ℕ → ℕ) (count h k : ℕ) : Type 0 where
-  pub few : k ≤ count
-  pub same : h ≡ refer_all seen kind f k
+-- the height after k of the elements, whose cardinalities are of the five
+pub record Climbed (step : ℕ) (p : List ℕ) (at : ℕ) (seen : List PlanNode) (kind h k : ℕ) : Type 0 where
+  pub same : h ≡ refer_all seen kind (element_ref step p at) k
+  pub fit : cards_fit step p at k ≡ true
   pub some : 1 ≤ h
 
-module _ (seen : List PlanNode) (kind : ℕ) (f : ℕ → ℕ) (count : ℕ) where
-  pub climb_start : Climbed seen kind f count 1 0
-  climb_start = record { few = omega arith; same = refers_none seen kind f; some = omega arith }
+module _ (step : ℕ) (p : List ℕ) (at : ℕ) (seen : List PlanNode) (kind : ℕ) where
+  pub climb_start : Climbed step p at seen kind 1 0
+  unfolding refer_all cards_fit all_cardinalities pick
+  climb_start = record { same = refl; fit = pick_case (λ b. b ≡ true) (eqb step 2) true true (λ _. refl) (λ _. refl); some = omega arith }
 
-  module _ (h k : ℕ) (u : Climbed seen kind f count h k) where
-    pub climb_end : count ≤ k → h ≡ refer_all seen kind f count
-    climb_end l = let e : k ≡ count = omega (arith, u.few) in u.same ∙ ap (refer_all seen kind f) e
+  module _ (h k : ℕ) (u : Climbed step p at seen kind h k) where
+    pub climb_end : (n : ℕ) → k ≡ n → Some h ≡ height_option (elements_height step p at seen kind n)
+    unfolding elements_height
+    climb_end n e = rw (← e) (height_some h u.some ∙ ap height_option (u.same ∙ sym (pick_yes _ _ _ u.fit)))
 
-    module _ (b : ℕ) (l : k < count) (e : b ≡ refer seen kind (f k) h) where
-      pub climb_next : (b ≡ 0 → ⊥) → Climbed seen kind f count b (k + 1)
-      climb_next z = record { few = omega arith; same = e ∙ refers_next seen kind f k h u.same; some = omega (arith, z) }
+    pub climb_barred : (n : ℕ) → k < n → step ≡ 2 → is_cardinality (get_or p (at + 2 + step * k + 1) 0) ≡ false → None ≡ height_option (elements_height step p at seen kind n)
+    unfolding elements_height cards_fit pair_card
+    climb_barred n l e c =
+        let d : at + 2 + step * k + 1 ≡ at + 3 + 2 * k = rw e (omega arith) in
+        height_none _ (pick_no _ _ _ (pick_yes _ _ _ (eq-eqb step 2 e) ∙ cards_bad (pair_card p at) k n l (rw d at c)))
 
-      pub climb_stop : b ≡ 0 → 0 ≡ refer_all seen kind f count
-      climb_stop z = sym (refers_over seen kind f (k + 1) count (omega arith) (sym (e ∙ refers_next seen kind f k h u.same) ∙ z))
+    module _ (n : ℕ) (l : k < n) where
+      pub climb_stop : None ≡ height_option (refer seen kind (element_ref step p at k) h) → None ≡ height_option (elements_height step p at seen kind n)
+      unfolding elements_height
+      climb_stop e =
+          let z : refer_all seen kind (element_ref step p at) n ≡ 0 =
+          refers_over seen kind (element_ref step p at) (k + 1) n (omega arith) (sym (refers_next seen kind (element_ref step p at) k h u.same) ∙ height_zero _ e)
+          in
+          height_none _ (pick_case (λ m. m ≡ 0) (cards_fit step p at n) _ _ (λ _. z) (λ _. refl))
 
-    module _ (g : ℕ → ℕ) where
-      pub pairs_end : all_cardinalities g k ≡ true → count ≤ k → h ≡ pick (all_cardinalities g count) (refer_all seen kind f count) 0
-      pairs_end c l =
-          let e : k ≡ count = omega (arith, u.few) in
-          climb_end l ∙ sym (pick_yes _ _ _ (ap (all_cardinalities g) (sym e) ∙ c))
-
-      pub pairs_barred : k < count → is_cardinality (g k) ≡ false → 0 ≡ pick (all_cardinalities g count) (refer_all seen kind f count) 0
-      pairs_barred l e = sym (pick_no _ _ _ (cards_bad g k count l e))
-
-      pub pairs_stop : (b : ℕ) → k < count → b ≡ refer seen kind (f k) h → b ≡ 0 → 0 ≡ pick (all_cardinalities g count) (refer_all seen kind f count) 0
-      pairs_stop b l e z = pick_case (λ m. 0 ≡ m) (all_cardinalities g count) _ _ (λ _. climb_stop b l e z) (λ _. refl)
+      pub climb_next : (b : ℕ) → (step ≡ 2 → is_cardinality (get_or p (at + 2 + step * k + 1) 0) ≡ true)
+          → Some b ≡ height_option (refer seen kind (element_ref step p at k) h) → Climbed step p at seen kind b (k + 1)
+      unfolding cards_fit pair_card
+      climb_next b c e =
+          let f = height_is b _ e in
+          record {
+            same = f.0 ∙ refers_next seen kind (element_ref step p at) k h u.same;
+            fit =
+                pick_case (λ t. t ≡ true) (eqb step 2) _ true
+                (λ two.
+                let is : step ≡ 2 = eqb-true step 2 two in
+                let d : at + 2 + step * k + 1 ≡ at + 3 + 2 * k = rw is (omega arith) in
+                cards_next (pair_card p at) k (sym (pick_yes _ _ _ two) ∙ u.fit) (rw d at (c is)))
+                (λ _. refl);
+            some = f.1;
+          }

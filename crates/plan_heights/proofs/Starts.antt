@@ -3,63 +3,43 @@ use mathlib.Core.Path.{◌≡◌, refl, ap, sym, ◌∙◌}
 use mathlib.Core.Logic.{⊎_elim}
 use mathlib.Core.Bool.{Bool, true, false}
 use mathlib.Core.List.{List, [], ◌∷◌, ◌++◌}
-use Prim.Native.Nat.{ℕ, zero, suc, ◌+◌, ◌≤◌, ◌<◌}
+use Prim.Native.Nat.{ℕ, zero, suc, ◌≤◌, ◌<◌}
 use native.Mathlib.Nat.{eq-or-lt_of_le, le_of_suc-le-suc}
 use native.Mathlib.Decide.{dec_lt}
 use native.Mathlib.Numerals.{add-one}
 use native.Mathlib.Omega.{arith}
-use lib.Dec.{ltb, eqb}
+use lib.Dec.{eqb}
 use lib.ListN.{length, get_or, length-append}
-use borrow.Author.Tests.{eq-eqb, ne_eqb, lt-ltb, le-ltb}
+use borrow.Author.Tests.{eq-eqb, ne_eqb}
 use Rattle.wire.proofs.Picks.{pick_yes, pick_no}
-use Rattle.plan_heights.specs.Scan.{known_at, known_of, Rising, Among}
+use Rattle.std.specs.Prelude.{Option, Some, None, Result, Ok, Err, MatchResult}
+use Rattle.std.specs.Ordering.{nat_cmp}
+use Rattle.std.specs.Option.{is_some as option_is_some}
+use Rattle.std.specs.Result.{result_ok}
+use Rattle.std.specs.List.Sorted.{IsBinarySearchResult}
+use Rattle.std.proofs.lemmas.List.Sorted.{searched}
+use Rattle.plan_heights.specs.Scan.{known_at, known_of, known, Rising, Among}
 use Rattle.plan_nodes.proofs.Reading.{find_append}
 use Rattle.protocol.specs.Numbers.{pick}
 use Rattle.protocol.specs.Plans.{PlanNode, placed_at, is_some, nodes, starts_in}
 use mathlib.Core.Option.{none, some}
 
--- ---- halving
+-- ---- the search
 
--- r is not below lo, nor from hi on
-pub record Halved (s : List ℕ) (n r lo hi : ℕ) : Type 0 where
-  pub order : lo ≤ hi
-  pub top : hi ≤ n
-  pub left : (j : ℕ) → j < lo → get_or s j 0 < r
-  pub right : (j : ℕ) → hi ≤ j → j < n → r < get_or s j 0
-
-module _ (s : List ℕ) (n r : ℕ) where
-  pub halved_start : Halved s n r 0 n
-  halved_start = record { order = omega arith; top = omega arith; left = λ j h. absurd (omega arith); right = λ j h g. absurd (omega arith) }
-
-  module _ (u : Rising s n) (lo hi mid : ℕ) (h : Halved s n r lo hi) (inside : mid < hi) where
-    pub halved_left : get_or s mid 0 < r → Halved s n r (mid + 1) hi
-    halved_left l =
-        record {
-          order = omega arith;
-          top = h.top;
-          left = λ j g. ⊎_elim (λ (e : j ≡ mid). rw e l) (λ (x : j < mid). omega (arith, u.order j mid x (omega (arith, h.top)))) (eq-or-lt_of_le (omega arith));
-          right = h.right;
-        }
-
-    pub halved_right : lo ≤ mid → r < get_or s mid 0 → Halved s n r lo mid
-    halved_right b l =
-        record {
-          order = b;
-          top = omega (arith, h.top);
-          left = h.left;
-          right = λ j g x. ⊎_elim (λ (e : mid ≡ j). rw e at l) (λ (y : mid < j). omega (arith, u.order mid j y x)) (eq-or-lt_of_le g);
-        }
-
-    pub among_hit : get_or s mid 0 ≡ r → Among s n r mid
-    among_hit e = record { within = omega (arith, h.top); hit = λ _. e; miss = λ z. absurd (omega (arith, h.top)) }
-
-  pub among_none : (lo hi : ℕ) → Halved s n r lo hi → hi ≤ lo → Among s n r n
-  among_none lo hi h g =
-      record {
-        within = omega arith;
-        hit = λ z. absurd (omega arith);
-        miss = λ _ j x e. elim (dec_lt j lo) [ yes l ↦ omega (arith, h.left j l) | no l ↦ omega (arith, h.right j (omega (arith, h.order)) x) ];
-      }
+module _ (s : List ℕ) (r : ℕ) where
+  -- what the search of the list says, where the list rises
+  pub among_searched : (t : Result ℕ ℕ) → IsBinarySearchResult (λ y. nat_cmp y r) s t → Rising s → Among s r (result_ok t)
+  among_searched t h u =
+      let up : (i j : ℕ) → i ≤ j → j < length s → get_or s i 0 ≤ get_or s j 0 =
+      λ i j a b. ⊎_elim (λ (e : i ≡ j). rw e (omega arith)) (λ (x : i < j). omega (arith, u.order i j x b)) (eq-or-lt_of_le a)
+      in
+      go t (searched s r t h up)
+    where
+      go : (t : Result ℕ ℕ)
+          → MatchResult t (λ i. (i < length s) × (get_or s i 0 ≡ r)) (λ i. (i ≤ length s) × ((k : ℕ) → k < i → get_or s k 0 < r) × ((k : ℕ) → i ≤ k → k < length s → r < get_or s k 0))
+          → Among s r (result_ok t)
+      go (Ok i) f = f
+      go (Err i) f = λ j l e. elim (dec_lt j i) [ yes x ↦ omega (arith, f.1 j x) | no x ↦ omega (arith, f.2 j (omega arith) l) ]
 
 -- ---- the nodes read so far
 
@@ -87,26 +67,22 @@ module _ (p s h : List ℕ) where
       find_last (known_of p s h n) (known_at p s h n) r (find_miss n r (λ j l. f j (omega arith)))
       ∙ pick_no _ _ _ (ne_eqb _ _ (f n (omega arith)))
 
-  pub find_hit : (n r i : ℕ) → Rising s n → i < n → get_or s i 0 ≡ r → placed_at (known_of p s h n) r ≡ some (known_at p s h i)
+  pub find_hit : (n r i : ℕ) → n ≤ length s → Rising s → i < n → get_or s i 0 ≡ r → placed_at (known_of p s h n) r ≡ some (known_at p s h i)
   unfolding known_of known_at is_some
-  find_hit zero r i u l e = absurd (omega arith)
-  find_hit (suc n) r i u l e =
+  find_hit zero r i w u l e = absurd (omega arith)
+  find_hit (suc n) r i w u l e =
       ⊎_elim
       (λ (q : i ≡ n).
       find_last (known_of p s h n) (known_at p s h n) r (find_miss n r (λ j x y. omega (arith, u.order j i (omega arith) (omega arith))))
       ∙ pick_yes _ _ _ (eq-eqb _ _ (ap (λ (m : ℕ). get_or s m 0) (sym q) ∙ e))
       ∙ ap (λ (m : ℕ). some (known_at p s h m)) (sym q))
       (λ (x : i < n).
-      let v : Rising s n = record { room = omega (arith, u.room); order = λ a b f g. u.order a b f (omega arith) } in
-      let f : placed_at (known_of p s h n) r ≡ some (known_at p s h i) = find_hit n r i v x e in
+      let f : placed_at (known_of p s h n) r ≡ some (known_at p s h i) = find_hit n r i (omega arith) u x e in
       find_append (known_of p s h n) (known_at p s h n ∷ []) r (ap is_some f) ∙ f)
       (eq-or-lt_of_le (le_of_suc-le-suc l))
 
   -- a node starts where the search finds one
-  pub starts_here : (n r i : ℕ) → Rising s n → Among s n r i → ltb i n ≡ starts_in (nodes (known_of p s h n)) r
+  pub starts_here : (r : ℕ) (t : Option ℕ) → Rising s → Among s r t → option_is_some t ≡ starts_in (nodes (known p s h)) r
   unfolding starts_in is_some
-  starts_here n r i u a =
-      elim (dec_lt i n) [
-        | yes l ↦ lt-ltb i n l ∙ sym (ap is_some (find_hit n r i u l (a.hit l)))
-        | no l ↦ le-ltb i n (omega arith) ∙ sym (ap is_some (find_miss n r (a.miss (omega (arith, a.within)))))
-      ]
+  starts_here r None u a = sym (ap is_some (find_miss (length s) r a))
+  starts_here r (Some i) u a = sym (ap is_some (find_hit (length s) r i (omega arith) u a.0 a.1))

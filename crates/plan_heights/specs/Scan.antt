@@ -1,7 +1,8 @@
 -- Nobody has to believe these definitions: they are the state of the code's check of a plan, the starts and the heights of the nodes read so
 -- far, as two lists of numbers.
-use Rattle.std.specs.Prelude.{◌≡◌, ℕ, zero, suc, ◌≤◌, ◌<◌, List, [], ◌∷◌, ◌++◌, length, get_or}
-use Rattle.protocol.specs.Plans.{PlanNode}
+use Rattle.std.specs.Prelude.{◌≡◌, ◌≢◌, ℕ, zero, suc, ◌+◌, ◌*◌, ◌<◌, Bool, true, List, [], ◌∷◌, ◌++◌, eqb, length, get_or, Option, Some, None}
+use Rattle.protocol.specs.Numbers.{pick}
+use Rattle.protocol.specs.Plans.{PlanNode, refer_all, all_cardinalities, pair_card}
 
 -- what is known of the i-th node (R4.4, R4.5): its kind stands in the plan
 unfoldable pub known_at : List ℕ → List ℕ → List ℕ → ℕ → PlanNode
@@ -12,20 +13,38 @@ unfoldable pub known_of : List ℕ → List ℕ → List ℕ → ℕ → List Pl
 known_of p starts heights zero = []
 known_of p starts heights (suc n) = known_of p starts heights n ++ (known_at p starts heights n ∷ [])
 
--- the first n of a list rise
-pub record Rising (starts : List ℕ) (n : ℕ) : Type 0 where
-  pub room : n ≤ length starts
-  pub order : (i j : ℕ) → i < j → j < n → get_or starts i 0 < get_or starts j 0
+-- all of them
+abbrev pub known : List ℕ → List ℕ → List ℕ → List PlanNode
+known p starts heights = known_of p starts heights (length starts)
 
--- n nodes were read before a position of the plan
-pub record Scanned (p starts heights : List ℕ) (n at : ℕ) : Type 0 where
-  pub rising : Rising starts n
-  pub tall : n ≤ length heights
-  pub inside : at ≤ length p
-  pub below : (i : ℕ) → i < n → get_or starts i 0 < at
+-- a list rises
+pub record Rising (starts : List ℕ) : Type 0 where
+  pub order : (i j : ℕ) → i < j → j < length starts → get_or starts i 0 < get_or starts j 0
 
--- what a search among the first n finds: the index of r, or n
-pub record Among (starts : List ℕ) (n r i : ℕ) : Type 0 where
-  pub within : i ≤ n
-  pub hit : i < n → get_or starts i 0 ≡ r
-  pub miss : i ≡ n → (j : ℕ) → j < n → get_or starts j 0 ≡ r → ⊥
+-- the starts that were read rise and are positions of the plan, and each has a height
+pub record Scanned (p starts heights : List ℕ) : Type 0 where
+  pub rising : Rising starts
+  pub tall : length heights ≡ length starts
+  pub inside : (i : ℕ) → i < length starts → get_or starts i 0 < length p
+
+-- what a search finds: the index of r, or that it is none of the list
+abbrev pub Among : List ℕ → ℕ → Option ℕ → Type 0
+Among starts r None = (j : ℕ) → j < length starts → get_or starts j 0 ≢ r
+Among starts r (Some i) = (i < length starts) × (get_or starts i 0 ≡ r)
+
+-- a height as the code answers it: none in place of 0, which is no height
+unfoldable pub height_option : ℕ → Option ℕ
+height_option zero = None
+height_option (suc h) = Some (suc h)
+
+-- the k-th reference of a node whose elements have so many words each
+unfoldable pub element_ref : ℕ → List ℕ → ℕ → ℕ → ℕ
+element_ref step p at k = get_or p (at + 2 + step * k) 0
+
+-- the cardinalities of elements of two words are of the five; elements of one word have none
+unfoldable pub cards_fit : ℕ → List ℕ → ℕ → ℕ → Bool
+cards_fit step p at n = pick (eqb step 2) (all_cardinalities (pair_card p at) n) true
+
+-- the height of a node with elements of so many words each; 0 where it is not well formed
+unfoldable pub elements_height : ℕ → List ℕ → ℕ → List PlanNode → ℕ → ℕ → ℕ
+elements_height step p at seen kind n = pick (cards_fit step p at n) (refer_all seen kind (element_ref step p at) n) 0

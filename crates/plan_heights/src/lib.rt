@@ -1,10 +1,9 @@
 // The height of a plan's node, by the starts and heights of the nodes before it, to which alone it may refer. A start is found by halving.
 #![tactic(auto)]
 
-ghost use Rattle.std.specs.Prelude.{◌≡◌, ◌+◌, ◌-◌, ◌*◌, ◌≤◌, ◌<◌, length, get_or};
-ghost use Rattle.plan_heights.specs.Scan.{known_of, Rising, Scanned, Among};
-ghost use Rattle.protocol.specs.Plans.{may_refer, all_cardinalities, pair_ref, pair_card, refer, refer_all, node_size, node_height, many_height};
-ghost use Rattle.protocol.specs.Numbers.{pick};
+ghost use Rattle.std.specs.Prelude.{◌≡◌, ◌+◌, ◌*◌, ◌≤◌, length, get_or};
+ghost use Rattle.plan_heights.specs.Scan.{Rising, Scanned, Among, height_option, elements_height};
+ghost use Rattle.protocol.specs.Plans.{may_refer, refer, node_size, node_height, many_height};
 
 use constants::{
     FORMATS, KIND_ENUMERATION, KIND_INPUT_OBJECT, KIND_LEAF, KIND_OUTPUT_OBJECT, KIND_RANGE,
@@ -15,210 +14,109 @@ use wire::words::{is_cardinality, wide};
 // The height of the highest node that another may refer to.
 const HIGH: u8 = MOST_HEIGHT as u8 - 1;
 
-// The index of r among the first n starts, or n where it is none of them, by halving.
-fn halve(starts: &[u32], n: usize, r: u32) -> usize
-    requires { Rising starts.now n }
-    ensures { Among starts.now n r result }
+// The index of a start among the starts, by halving, but for the most part without a search: most nodes have two words, and while all
+// before a node have, its start tells its index.
+pub fn search(starts: &[u32], start: u32) -> Option<usize>
+    requires { Rising starts.now }
+    ensures { Among starts.now start result }
 {
-    let mut lo: usize = 0;
-    let mut hi: usize = n;
-    while lo < hi {
-        let mid = lo + (hi - lo) / 2;
-        let s = starts[mid];
-        if s == r {
-            return mid;
-        }
-        if s < r {
-            lo = mid + 1;
-        } else {
-            hi = mid;
-        }
+    let next = wide(start / 2);
+    if 0 < next && next <= starts.len() && starts[next - 1] == start {
+        return Some(next - 1);
     }
-    n
-}
-
-// The same, for the most part without a search: most nodes have two words, and while all before a node have, its start tells its index.
-pub fn search(starts: &[u32], n: usize, r: u32) -> usize
-    requires { Rising starts.now n }
-    ensures { Among starts.now n r result }
-{
-    let next = wide(r / 2);
-    if 0 < next {
-        if next <= n {
-            if starts[next - 1] == r {
-                return next - 1;
-            }
-        }
-    }
-    halve(starts, n, r)
+    starts.binary_search(&start).ok()
 }
 
 // Whether a node of a kind may refer to one of another kind (R4.3).
+#[tactic(auto, unfolding(protocol::specs::Plans::may_refer, protocol::specs::Numbers::pick))]
 fn may_refer(kind: u32, other: u32) -> bool
     ensures { result ≡ may_refer kind other }
 {
-    if kind == KIND_SET_OR_ARRAY {
-        if other == KIND_SET_OR_ARRAY {
-            return false;
-        }
-        return other != KIND_SET_OF_ARRAYS;
+    match kind {
+        KIND_SET_OR_ARRAY => other != KIND_SET_OR_ARRAY && other != KIND_SET_OF_ARRAYS,
+        KIND_SET_OF_ARRAYS => other == KIND_SET_OR_ARRAY,
+        KIND_RANGE => other == KIND_LEAF,
+        _ => true,
     }
-    if kind == KIND_SET_OF_ARRAYS {
-        return other == KIND_SET_OR_ARRAY;
-    }
-    if kind == KIND_RANGE {
-        return other == KIND_LEAF;
-    }
-    true
 }
 
-// The height of a node, so far h, with one more reference: 0 where it may not refer so.
-fn refer_to(
-    plan: &[u32],
-    starts: &[u32],
-    heights: &[u8],
-    n: usize,
-    at: usize,
-    kind: u32,
-    r: u32,
-    h: u8,
-) -> u8
-    requires { (Scanned plan.now starts.now heights.now n at) × (1 ≤ h) }
-    ensures { result ≡ refer (known_of plan.now starts.now heights.now n) kind r h }
-{
-    let i = search(starts, n, r);
-    if n <= i {
-        return 0;
-    }
-    if !may_refer(kind, plan[wide(starts[i])]) {
-        return 0;
-    }
-    let x = heights[i];
-    if HIGH < x {
-        return 0;
-    }
-    if h <= x + 1 {
-        return x + 1;
-    }
-    h
+// The nodes of a plan that were read before another: their starts and their heights, both in order.
+// Kept for speed: two lists in place of one list of pairs, since they are cleared at each call, and a node takes five bytes and not eight.
+#[derive(Clone, Copy)]
+pub struct Before<'a> {
+    pub plan: &'a [u32],
+    pub starts: &'a [u32],
+    pub heights: &'a [u8],
+    ghost scanned: { Scanned plan.now starts.now heights.now },
 }
 
-// The height of a tuple.
-fn tuple_height(
-    plan: &[u32],
-    starts: &[u32],
-    heights: &[u8],
-    n: usize,
-    at: usize,
-    count: usize,
-) -> u8
-    requires { (Scanned plan.now starts.now heights.now n at) × (at + 2 + count ≤ length plan.now) }
-    ensures { result ≡ refer_all (known_of plan.now starts.now heights.now n) 4 (λ k. get_or plan.now (at + 2 + k) 0) count }
-{
-    let mut h: u8 = 1;
-    let mut k: usize = 0;
-    while k < count {
-        h = refer_to(
-            plan,
-            starts,
-            heights,
-            n,
-            at,
-            KIND_TUPLE,
-            plan[at + 2 + k],
-            h,
-        );
-        if h == 0 {
-            return 0;
-        }
-        k += 1;
-    }
-    h
-}
+impl<'a> Before<'a> {
+    ghost use Rattle.plan_heights.specs.Seen.{seen};
 
-// The height of an object, of which each element has a reference and a cardinality.
-fn pairs_height(
-    plan: &[u32],
-    starts: &[u32],
-    heights: &[u8],
-    n: usize,
-    at: usize,
-    kind: u32,
-    count: usize,
-) -> u8
-    requires { (Scanned plan.now starts.now heights.now n at) × (at + 2 + 2 * count ≤ length plan.now) }
-    ensures { result
-        ≡ pick (all_cardinalities (pair_card plan.now at) count)
-        (refer_all (known_of plan.now starts.now heights.now n) kind (pair_ref plan.now at) count) 0 }
-{
-    let mut h: u8 = 1;
-    let mut k: usize = 0;
-    while k < count {
-        if !is_cardinality(plan[at + 3 + 2 * k]) {
-            return 0;
+    // The height of a node, as far as its earlier references tell, with one more reference: none where it may not refer so.
+    fn refer_to(&self, kind: u32, reference: u32, height: u8) -> Option<u8>
+        requires { 1 ≤ height }
+        ensures { result ≡ height_option (refer (seen self.now) kind reference height) }
+    {
+        let index = search(self.starts, reference)?;
+        if !may_refer(kind, self.plan[wide(self.starts[index])]) {
+            return None;
         }
-        h = refer_to(plan, starts, heights, n, at, kind, plan[at + 2 + 2 * k], h);
-        if h == 0 {
-            return 0;
+        let other = self.heights[index];
+        if HIGH < other {
+            return None;
         }
-        k += 1;
+        Some(height.max(other + 1))
     }
-    h
-}
 
-// The height of a tuple or an object.
-fn many_height(
-    plan: &[u32],
-    starts: &[u32],
-    heights: &[u8],
-    n: usize,
-    at: usize,
-    kind: u32,
-    count: usize,
-) -> u8
-    requires { (Scanned plan.now starts.now heights.now n at) × (at + node_size kind count ≤ length plan.now) }
-    ensures { result ≡ many_height plan.now at (known_of plan.now starts.now heights.now n) kind count }
-{
-    if MOST_ITEMS < count {
-        return 0;
-    }
-    if kind == KIND_TUPLE {
-        return tuple_height(plan, starts, heights, n, at, count);
-    }
-    if kind == KIND_OUTPUT_OBJECT {
-        return pairs_height(plan, starts, heights, n, at, KIND_OUTPUT_OBJECT, count);
-    }
-    if kind == KIND_INPUT_OBJECT {
-        return pairs_height(plan, starts, heights, n, at, KIND_INPUT_OBJECT, count);
-    }
-    0
-}
-
-// The height of the node at a position, against those before it: 0 where it is not well formed.
-pub fn height_at(plan: &[u32], starts: &[u32], heights: &[u8], n: usize, at: usize) -> u8
-    requires { (Scanned plan.now starts.now heights.now n at) × (at + node_size (get_or plan.now at 0) (get_or plan.now (at + 1) 0) ≤ length plan.now) }
-    ensures { result
-        ≡ node_height plan.now at (known_of plan.now starts.now heights.now n) (get_or plan.now at 0) (get_or plan.now (at + 1) 0) }
-{
-    let kind = plan[at];
-    if kind == KIND_ENUMERATION {
-        return 1;
-    }
-    let second = plan[at + 1];
-    if kind == KIND_LEAF {
-        if second < FORMATS {
-            return 1;
+    // The height of a tuple or an object, of whose elements each has STEP words: a reference, and in an object a cardinality after it.
+    fn elements_height<const STEP: usize>(&self, at: usize, kind: u32, count: usize) -> Option<u8>
+        requires { (1 ≤ STEP) × (at + 2 + STEP * count ≤ length self.now.plan.now) }
+        ensures { result ≡ height_option (elements_height STEP self.now.plan.now at (seen self.now) kind count) }
+    {
+        let mut height = 1;
+        for k in 0..count {
+            let word = at + 2 + STEP * k;
+            if STEP == 2 && !is_cardinality(self.plan[word + 1]) {
+                return None;
+            }
+            height = self.refer_to(kind, self.plan[word], height)?;
         }
-        return 0;
+        Some(height)
     }
-    if kind == KIND_SET_OR_ARRAY {
-        return refer_to(plan, starts, heights, n, at, KIND_SET_OR_ARRAY, second, 1);
+
+    // The height of a tuple or an object.
+    fn many_height(&self, at: usize, kind: u32, count: usize) -> Option<u8>
+        requires { at + node_size kind count ≤ length self.now.plan.now }
+        ensures { result ≡ height_option (many_height self.now.plan.now at (seen self.now) kind count) }
+    {
+        if MOST_ITEMS < count {
+            return None;
+        }
+        match kind {
+            KIND_TUPLE => self.elements_height::<1>(at, kind, count),
+            KIND_OUTPUT_OBJECT | KIND_INPUT_OBJECT => self.elements_height::<2>(at, kind, count),
+            _ => None,
+        }
     }
-    if kind == KIND_SET_OF_ARRAYS {
-        return refer_to(plan, starts, heights, n, at, KIND_SET_OF_ARRAYS, second, 1);
+
+    // The height of the node at a position, against those before it: none where it is not well formed.
+    pub fn height_at(&self, at: usize) -> Option<u8>
+        requires { at + node_size (get_or self.now.plan.now at 0) (get_or self.now.plan.now (at + 1) 0) ≤ length self.now.plan.now }
+        ensures { result
+            ≡ height_option
+            (node_height self.now.plan.now at (seen self.now) (get_or self.now.plan.now at 0)
+            (get_or self.now.plan.now (at + 1) 0)) }
+    {
+        let kind = self.plan[at];
+        if kind == KIND_ENUMERATION {
+            return Some(1);
+        }
+        let second = self.plan[at + 1];
+        match kind {
+            KIND_LEAF => (second < FORMATS).then_some(1),
+            KIND_SET_OR_ARRAY | KIND_SET_OF_ARRAYS | KIND_RANGE => self.refer_to(kind, second, 1),
+            _ => self.many_height(at, kind, wide(second)),
+        }
     }
-    if kind == KIND_RANGE {
-        return refer_to(plan, starts, heights, n, at, KIND_RANGE, second, 1);
-    }
-    many_height(plan, starts, heights, n, at, kind, wide(second))
 }

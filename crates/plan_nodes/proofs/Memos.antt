@@ -2,19 +2,20 @@
 use mathlib.Core.Path.{◌≡◌, refl, ap, sym, ◌∙◌}
 use mathlib.Core.Bool.{true, false}
 use mathlib.Core.List.{List, [], ◌∷◌, ◌++◌}
-use Prim.Native.Nat.{ℕ, zero, suc, ◌+◌, ◌*◌, ◌-◌, ◌/◌, ◌≤◌, ◌<◌}
+use Prim.Native.Nat.{ℕ, zero, suc, ◌+◌, ◌*◌, ◌-◌, ◌≤◌, ◌<◌}
 use native.Mathlib.Nat.{zero-add, add-zero, sub-zero, not-suc-le-zero}
 use native.Mathlib.Numerals.{add-one, sub-one}
 use native.Mathlib.Decide.{dec_lt}
 use native.Mathlib.Omega.{arith}
 use lib.Dec.{eqb}
-use lib.ListN.{length, get_or, set, take, drop}
+use lib.ListN.{length, get_or, set, take, drop, length-set}
 use lib.Seq.{sets, sets-eq, length-sets, take-nil, take_at}
-use borrow.Author.Tests.{le-leb, lt-leb, eq-eqb, ne_eqb}
+use borrow.Author.Tests.{le-leb, lt-leb, lt-ltb, le-ltb, eq-eqb, ne_eqb}
 use Rattle.wire.proofs.Picks.{pick_yes, pick_no}
 use Rattle.value_heads.specs.Heads.{needed}
 use Rattle.value_heads.proofs.Counts.{needed_next, needed_most}
-use Rattle.plan_nodes.specs.Memo.{needed_at, sparse_from, sparse_starts, pair_words, kept, Filled, room_for, OneMore, Memo}
+use Rattle.plan_nodes.specs.declared.needs.Need.{Need}
+use Rattle.plan_nodes.specs.Memo.{needed_at, sparse_from, sparse_starts, need_at, needs_of, kept, Filled, room_for, OneMore, Memo}
 use Rattle.plan_nodes.proofs.Looks.{cards_length, cards_at_lem}
 use Rattle.plan_nodes.proofs.Reading.{size_positive}
 use Rattle.protocol.specs.Numbers.{pick}
@@ -49,33 +50,33 @@ module _ (p : List ℕ) (at : ℕ) where
 
 -- ---- filling a table
 
-module _ (p t : List ℕ) (m at : ℕ) where
-  pub one_more : (n : ℕ) → 2 * m + 2 ≤ length t → n ≡ needed_at p at → OneMore p t (set (set t (2 * m) at) (2 * m + 1) n) m at (m + 1)
-  unfolding room_for pair_words
+module _ (p : List ℕ) (t : List Need) (m at : ℕ) where
+  pub one_more : (n : ℕ) → m < length t → n ≡ needed_at p at → OneMore p t (set t m (record { node = at; count = n })) m at (m + 1)
+  unfolding room_for need_at
   one_more n l e =
-      let w = le-leb (2 * m + 2) (length t) l in
-      record { count = sym (pick_yes _ _ _ w); words = rw (e, add-one) (sym (pick_yes _ _ _ w)) }
+      let w = lt-ltb m (length t) l in
+      record { count = sym (pick_yes _ _ _ w); needs = rw e (sym (pick_yes _ _ _ w)) }
 
-  pub no_more : length t < 2 * m + 2 → OneMore p t t m at m
+  pub no_more : length t ≤ m → OneMore p t t m at m
   unfolding room_for
   no_more l =
-      let w = lt-leb (2 * m + 2) (length t) l in
-      record { count = sym (pick_no _ _ _ w); words = sym (pick_no _ _ _ w) }
+      let w = le-ltb m (length t) l in
+      record { count = sym (pick_no _ _ _ w); needs = sym (pick_no _ _ _ w) }
 
 -- what is left of the starts, of which the table has room for so many
-abbrev left : List ℕ → List ℕ → ℕ → ℕ → ℕ → List ℕ
-left p t m f at = take (length t / 2 - m) (sparse_from f p at)
+abbrev left : List ℕ → List Need → ℕ → ℕ → ℕ → List ℕ
+left p t m f at = take (length t - m) (sparse_from f p at)
 
--- a table that was filled up to a position: what is left of the plan leads to the same words
-pub record Filling (p t₀ t : List ℕ) (m at : ℕ) : Type 0 where
+-- a table that was filled up to a position: what is left of the plan leads to the same needs
+pub record Filling (p : List ℕ) (t₀ t : List Need) (m at : ℕ) : Type 0 where
   pub fuel : ℕ
   pub enough : length p ≤ at + fuel
   pub same : length t ≡ length t₀
-  pub few : m ≤ length t₀ / 2
+  pub few : m ≤ length t₀
   pub count : length (kept p t₀) ≡ m + length (left p t₀ m fuel at)
-  pub words : sets t₀ 0 (pair_words p (kept p t₀)) ≡ sets t (2 * m) (pair_words p (left p t₀ m fuel at))
+  pub needs : sets t₀ 0 (needs_of p (kept p t₀)) ≡ sets t m (needs_of p (left p t₀ m fuel at))
 
-pub filling_start : (p t : List ℕ) → Filling p t t 0 2
+pub filling_start : (p : List ℕ) (t : List Need) → Filling p t t 0 2
 unfolding kept sparse_starts
 filling_start p t =
     record {
@@ -84,7 +85,7 @@ filling_start p t =
       same = refl;
       few = omega arith;
       count = rw (sub-zero, zero-add);
-      words = rw sub-zero;
+      needs = rw sub-zero;
     }
 
 module _ (p : List ℕ) (at : ℕ) where
@@ -107,19 +108,19 @@ module _ (p : List ℕ) (at : ℕ) where
   starts_next zero w h = absurd (omega (arith, size_positive (get_or p at 0) (get_or p (at + 1) 0)))
   starts_next (suc f) w h = rw sub-one (pick_yes _ _ _ (le-leb (at + size) (length p) h))
 
-  module _ (t₀ t : List ℕ) (m : ℕ) (q : Filling p t₀ t m at) where
+  module _ (t₀ t : List Need) (m : ℕ) (q : Filling p t₀ t m at) where
     pub filling_end : length p < at + size → Filled p t₀ t m
-    unfolding pair_words
+    unfolding needs_of
     filling_end h =
-        let e : left p t₀ m q.fuel at ≡ [] = ap (take (length t₀ / 2 - m)) (starts_none q.fuel h) ∙ take-nil (length t₀ / 2 - m) in
+        let e : left p t₀ m q.fuel at ≡ [] = ap (take (length t₀ - m)) (starts_none q.fuel h) ∙ take-nil (length t₀ - m) in
         record {
           count = sym (q.count ∙ ap (λ (ks : List ℕ). m + length ks) e ∙ add-zero m);
-          words = sym (q.words ∙ ap (λ (ks : List ℕ). sets t (2 * m) (pair_words p ks)) e);
+          needs = sym (q.needs ∙ ap (λ (ks : List ℕ). sets t m (needs_of p ks)) e);
           room = omega (arith, q.same, q.few);
         }
 
     module _ (h : at + size ≤ length p) where
-      -- past a whole node: no pair was put, or one was
+      -- past a whole node: no need was put, or one was
       past : left p t₀ m q.fuel at ≡ left p t₀ m (q.fuel - 1) (at + size) → Filling p t₀ t m (at + size)
       past e =
           record {
@@ -128,76 +129,74 @@ module _ (p : List ℕ) (at : ℕ) where
             same = q.same;
             few = q.few;
             count = q.count ∙ ap (λ (ks : List ℕ). m + length ks) e;
-            words = q.words ∙ ap (λ (ks : List ℕ). sets t (2 * m) (pair_words p ks)) e;
+            needs = q.needs ∙ ap (λ (ks : List ℕ). sets t m (needs_of p ks)) e;
           }
 
       put :
-          2 * m + 2 ≤ length t
+          m < length t
           → left p t₀ m q.fuel at ≡ at ∷ left p t₀ (m + 1) (q.fuel - 1) (at + size)
-          → Filling p t₀ (sets t (2 * m) (pair_words p (at ∷ []))) (m + 1) (at + size)
-      unfolding pair_words
+          → Filling p t₀ (set t m (need_at p at)) (m + 1) (at + size)
+      unfolding needs_of
       put l e =
           let ks = left p t₀ (m + 1) (q.fuel - 1) (at + size) in
           let k : m + suc (length ks) ≡ m + 1 + length ks = omega arith in
-          let w : suc (suc (2 * m)) ≡ 2 * (m + 1) = omega arith in
-          let t₂ = sets t (2 * m) (at ∷ needed_at p at ∷ []) in
           record {
             fuel = q.fuel - 1;
             enough = omega (arith, q.enough, size_positive (get_or p at 0) (get_or p (at + 1) 0));
-            same = length-sets t (2 * m) (at ∷ needed_at p at ∷ []) ∙ q.same;
+            same = length-set t m (need_at p at) ∙ q.same;
             few = omega (arith, q.same);
             count = q.count ∙ ap (λ (ls : List ℕ). m + length ls) e ∙ k;
-            words = q.words ∙ ap (λ (ls : List ℕ). sets t (2 * m) (pair_words p ls)) e ∙ ap (λ (i : ℕ). sets t₂ i (pair_words p ks)) w;
+            needs =
+                q.needs
+                ∙ ap (λ (ls : List ℕ). sets t m (needs_of p ls)) e
+                ∙ ap (λ (i : ℕ). sets (set t m (need_at p at)) i (needs_of p ks)) (sym (add-one m));
           }
 
       pub filling_other : (get_or p at 0 ≡ 6 → ⊥) → Filling p t₀ t m (at + size)
       unfolding pick
       filling_other n = past (rw (starts_next q.fuel q.enough h, ne_eqb _ _ n))
 
-      pub filling_sparse : get_or p at 0 ≡ 6 → (t' : List ℕ) (r : ℕ) → OneMore p t t' m at r → Filling p t₀ t' r (at + size)
+      pub filling_sparse : get_or p at 0 ≡ 6 → (t' : List Need) (r : ℕ) → OneMore p t t' m at r → Filling p t₀ t' r (at + size)
       unfolding room_for pick
       filling_sparse e t' r o =
           let s : sparse_from q.fuel p at ≡ at ∷ sparse_from (q.fuel - 1) p (at + size) = starts_next q.fuel q.enough h ∙ rw (eq-eqb _ _ e) in
-          elim (dec_lt (length t) (2 * m + 2)) [
+          elim (dec_lt m (length t)) [
             | yes l ↦
-                let z : length t₀ / 2 - m ≡ 0 = omega (arith, q.same, q.few) in
-                let w = lt-leb (2 * m + 2) (length t) l in
-                rw (o.words, o.count, w) (past (rw z))
+                let z : length t₀ - m ≡ suc (length t₀ - (m + 1)) = omega (arith, q.same, q.few) in
+                let w = lt-ltb m (length t) l in
+                rw (o.needs, o.count, w) (put l (rw (z, s)))
             | no l ↦
-                let z : length t₀ / 2 - m ≡ suc (length t₀ / 2 - (m + 1)) = omega (arith, q.same, q.few) in
-                let w = le-leb (2 * m + 2) (length t) (omega arith) in
-                rw (o.words, o.count, w) (put (omega arith) (rw (z, s)))
+                let z : length t₀ - m ≡ 0 = omega (arith, q.same, q.few) in
+                let w = le-ltb m (length t) (omega arith) in
+                rw (o.needs, o.count, w) (past (rw z))
           ]
 
 -- ---- what a filled table says
 
-pairs_right : (p ks : List ℕ) (k : ℕ) → k < length ks → (get_or (pair_words p ks) (2 * k + 1) 0 ≡ needed_at p (get_or (pair_words p ks) (2 * k) 0))
-unfolding pair_words
-pairs_right p [] k h = absurd (not-suc-le-zero h)
-pairs_right p (a ∷ ks) zero h = refl
-pairs_right p (a ∷ ks) (suc k) h =
-    let e : 2 * suc k + 1 ≡ suc (suc (2 * k + 1)) = omega arith in
-    let d : 2 * suc k ≡ suc (suc (2 * k)) = omega arith in
-    rw (e, d) (pairs_right p ks k (omega arith))
+needs_right : (p ks : List ℕ) (k : ℕ) (none : Need) → k < length ks → (get_or (needs_of p ks) k none).count ≡ needed_at p (get_or (needs_of p ks) k none).node
+unfolding needs_of need_at
+needs_right p [] k none h = absurd (not-suc-le-zero h)
+needs_right p (a ∷ ks) zero none h = refl
+needs_right p (a ∷ ks) (suc k) none h = needs_right p ks k none (omega arith)
 
-length_pairs : (p ks : List ℕ) → length (pair_words p ks) ≡ 2 * length ks
-unfolding pair_words
-length_pairs p [] = refl
-length_pairs p (k ∷ ks) = let e = length_pairs p ks in omega arith
+length_needs : (p ks : List ℕ) → length (needs_of p ks) ≡ length ks
+unfolding needs_of
+length_needs p [] = refl
+length_needs p (k ∷ ks) = ap suc (length_needs p ks)
 
-module _ (p t t' : List ℕ) (m : ℕ) (u : Filled p t t' m) where
-  words_kept : take (2 * m) t' ≡ pair_words p (kept p t)
-  words_kept =
-      let ws = pair_words p (kept p t) in
-      let n : length ws ≡ 2 * m = length_pairs p (kept p t) ∙ ap (λ (k : ℕ). 2 * k) (sym u.count) in
-      let l : length t' ≡ length t = ap (λ (k : List ℕ). length k) u.words ∙ length-sets t 0 ws in
-      ap (take (2 * m)) (u.words ∙ sets-eq ws t 0 (omega (arith, u.room))) ∙ take_at ws (drop (0 + length ws) t) (2 * m) n
+module _ (p : List ℕ) (t t' : List Need) (m : ℕ) (u : Filled p t t' m) where
+  needs_kept : take m t' ≡ needs_of p (kept p t)
+  needs_kept =
+      let ws = needs_of p (kept p t) in
+      let n : length ws ≡ m = length_needs p (kept p t) ∙ sym u.count in
+      let l : length t' ≡ length t = ap (λ (k : List Need). length k) u.needs ∙ length-sets t 0 ws in
+      ap (take m) (u.needs ∙ sets-eq ws t 0 (omega (arith, u.room))) ∙ take_at ws (drop (0 + length ws) t) m n
 
-  pub filled_memo : Memo p (take (2 * m) t')
+  pub filled_memo : Memo p (take m t')
   filled_memo =
-      rw words_kept
-      (record { right = λ k x. pairs_right p (kept p t) k (omega (arith, length_pairs p (kept p t))) })
+      rw needs_kept
+      (record { right = λ k none x. needs_right p (kept p t) k none (omega (arith, length_needs p (kept p t))) })
 
--- a pair that is found
-pub memo_hit : (p t : List ℕ) → Memo p t → (mid node : ℕ) → 2 * mid + 1 < length t → get_or t (2 * mid) 0 ≡ node → get_or t (2 * mid + 1) 0 ≡ needed_at p node
-memo_hit p t u mid node l e = u.right mid l ∙ ap (needed_at p) e
+-- a need that is found
+pub memo_hit : (p : List ℕ) (t : List Need) → Memo p t → (i node : ℕ) (none : Need) → i < length t → (get_or t i none).node ≡ node → (get_or t i none).count ≡ needed_at p node
+memo_hit p t u i node none l e = u.right i none l ∙ ap (needed_at p) e

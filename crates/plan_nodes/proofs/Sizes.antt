@@ -42,9 +42,9 @@ module _ (at K n m : ℕ) (w : at + node_size K n ≤ m) where
   unfolding node_size pick
   tuple_fits e = let h : at + (2 + n) ≤ m = rw e at w in omega arith
 
-  pub object_fits : K ≡ 5 → at + 2 + 2 * n ≤ m
+  pub pairs_fit : (K ≡ 5) ⊎ (K ≡ 6) → at + 2 + 2 * n ≤ m
   unfolding node_size pick
-  object_fits e = let h : at + (2 + 2 * n) ≤ m = rw e at w in omega arith
+  pairs_fit o = let h : at + (2 + 2 * n) ≤ m = ⊎_elim (λ (e : K ≡ 5). rw e at w) (λ (e : K ≡ 6). rw e at w) o in omega arith
 
   pub sparse_fits : K ≡ 6 → at + 2 + 2 * n ≤ m
   unfolding node_size pick

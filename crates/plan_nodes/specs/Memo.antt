@@ -1,7 +1,8 @@
 -- Nobody has to believe these definitions: they are what the code says to itself of how many elements of a plan's sparse objects are
--- required, and of a table that keeps it: pairs of a node's start and its number.
-use Rattle.std.specs.Prelude.{◌≡◌, ℕ, zero, suc, ◌+◌, ◌*◌, ◌/◌, ◌≤◌, ◌<◌, Bool, List, [], ◌∷◌, ◌++◌, leb, eqb, length, take, get_or}
+-- required, and of a table that keeps it.
+use Rattle.std.specs.Prelude.{◌≡◌, ℕ, zero, suc, ◌+◌, ◌≤◌, ◌<◌, Bool, List, [], ◌∷◌, ◌++◌, leb, ltb, eqb, length, take, set, get_or}
 use Rattle.std.proofs.lemmas.List.Edits.{sets}
+use Rattle.plan_nodes.specs.declared.needs.Need.{Need}
 use Rattle.value_heads.specs.Heads.{needed}
 use Rattle.protocol.specs.Numbers.{pick}
 use Rattle.protocol.specs.Plans.{cards_at, node_size}
@@ -21,29 +22,32 @@ sparse_from (suc f) p at =
 unfoldable pub sparse_starts : List ℕ → List ℕ
 sparse_starts p = sparse_from (length p) p 2
 
--- the pairs of objects, as words
-unfoldable pub pair_words : List ℕ → List ℕ → List ℕ
-pair_words p [] = []
-pair_words p (k ∷ ks) = k ∷ needed_at p k ∷ pair_words p ks
+-- the need of an object, and of some objects
+unfoldable pub need_at : List ℕ → ℕ → Need
+need_at p k = record { node = k; count = needed_at p k }
+
+unfoldable pub needs_of : List ℕ → List ℕ → List Need
+needs_of p [] = []
+needs_of p (k ∷ ks) = need_at p k ∷ needs_of p ks
 
 -- the objects that a table has room for
-unfoldable pub kept : List ℕ → List ℕ → List ℕ
-kept p t = take (length t / 2) (sparse_starts p)
+unfoldable pub kept : List ℕ → List Need → List ℕ
+kept p t = take (length t) (sparse_starts p)
 
--- a table that was filled from its start: how many pairs there are, and every word of it; and, as follows from that, they are inside it
-pub record Filled (p t t' : List ℕ) (m : ℕ) : Type 0 where
+-- a table that was filled from its start: how many needs there are, and each of them; and, as follows from that, they are inside it
+pub record Filled (p : List ℕ) (t t' : List Need) (m : ℕ) : Type 0 where
   pub count : m ≡ length (kept p t)
-  pub words : t' ≡ sets t 0 (pair_words p (kept p t))
-  pub room : 2 * m ≤ length t'
+  pub needs : t' ≡ sets t 0 (needs_of p (kept p t))
+  pub room : m ≤ length t'
 
--- one more pair after the first m, where there is room for it
-unfoldable pub room_for : List ℕ → ℕ → Bool
-room_for t m = leb (2 * m + 2) (length t)
+-- one more need after the first m, where there is room for it
+unfoldable pub room_for : List Need → ℕ → Bool
+room_for t m = ltb m (length t)
 
-pub record OneMore (p t t' : List ℕ) (m at r : ℕ) : Type 0 where
+pub record OneMore (p : List ℕ) (t t' : List Need) (m at r : ℕ) : Type 0 where
   pub count : r ≡ pick (room_for t m) (m + 1) m
-  pub words : t' ≡ pick (room_for t m) (sets t (2 * m) (pair_words p (at ∷ []))) t
+  pub needs : t' ≡ pick (room_for t m) (set t m (need_at p at)) t
 
--- every pair of a table is right
-pub record Memo (p t : List ℕ) : Type 0 where
-  pub right : (k : ℕ) → 2 * k + 1 < length t → get_or t (2 * k + 1) 0 ≡ needed_at p (get_or t (2 * k) 0)
+-- every need of a table is right
+pub record Memo (p : List ℕ) (t : List Need) : Type 0 where
+  pub right : (k : ℕ) (none : Need) → k < length t → (get_or t k none).count ≡ needed_at p (get_or t k none).node

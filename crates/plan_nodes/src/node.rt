@@ -6,6 +6,7 @@ ghost use Rattle.plan_nodes.specs.Readers.{Refers, KindAt, At};
 ghost use Rattle.protocol.specs.Nodes.{ref_at};
 ghost use Rattle.protocol.specs.Plans.{look, cards_at, without_type, plan_formed};
 
+use constants::{KIND_INPUT_OBJECT, KIND_OUTPUT_OBJECT, KIND_TUPLE};
 use wire::words::wide;
 
 // The root's node, which is the plan's second word (R4.1). A plan of no type has none.
@@ -37,17 +38,11 @@ pub fn ref_of(plan: &[u32], node: usize, i: usize) -> usize
     requires { (At plan.now node) × (Refers (look plan.now node) i) }
     ensures { ref_at (look plan.now node) i ≡ some result }
 {
-    let kind = plan[node];
-    if kind < constants::KIND_TUPLE {
-        return wide(plan[node + 1]);
+    match plan[node] {
+        KIND_TUPLE => wide(plan[node + 2 + i]),
+        KIND_OUTPUT_OBJECT | KIND_INPUT_OBJECT => wide(plan[node + 2 + 2 * i]),
+        _ => wide(plan[node + 1]),
     }
-    if kind == constants::KIND_TUPLE {
-        return wide(plan[node + 2 + i]);
-    }
-    if kind < constants::KIND_RANGE {
-        return wide(plan[node + 2 + 2 * i]);
-    }
-    wide(plan[node + 1])
 }
 
 // The cardinality of an object's element.

@@ -1,6 +1,6 @@
 -- The value that a supply makes, with the reserved fields of its containers zero (R8.4, R8.5). A fault of any kind is one, since all of them get
 -- the same number and place.
-use Rattle.std.specs.Prelude.{ℕ, zero, suc, ◌+◌, Bool, true, false, not, List, [], ◌∷◌, ◌++◌, leb, ltb, eqb, length, take, drop, get_or, set as store}
+use Rattle.std.specs.Prelude.{ℕ, zero, suc, ◌+◌, Bool, true, false, not, List, [], ◌∷◌, ◌++◌, leb, ltb, eqb, length, take, drop, get_or, Result, Ok, Err, set as store}
 use Rattle.std.proofs.Math.Option.{Option, none, some}
 use Rattle.protocol.specs.Constants.{MOST_VALUE, BAD_PLAN, NO_VALUE, ABSENT}
 use Rattle.protocol.specs.Numbers.{pick, bytes_be}
@@ -12,7 +12,6 @@ use Rattle.protocol.specs.Values.{no_marks, fuel}
 use Rattle.protocol.specs.Plans.{look, without_type, plan_formed}
 use Rattle.protocol.specs.Supplies.{zeros, Claim, Next, short, next, next_of}
 use Rattle.forms.specs.declared.Opening.{Opening}
-use Rattle.forms.specs.declared.Opening.TheVariants.{Elements, Wrong}
 
 -- ---- what is made
 
@@ -47,9 +46,9 @@ unfoldable pub set_bytes : ℕ → List ℕ
 set_bytes n = pick (eqb n 0) (zeros 12) (bytes_be 4 1 ++ (zeros 8 ++ (bytes_be 4 n ++ bytes_be 4 1)))
 
 -- R5.13: a range's bounds must be those that its flags promise
-unfoldable pub bounds_front : ℕ → ℕ → Opening → Front
-bounds_front flags n (Wrong m) = no_front
-bounds_front flags n (Elements m first at) = pick (eqb n m) (front (flags ∷ []) first) no_front
+unfoldable pub bounds_front : ℕ → ℕ → Result Opening ℕ → Front
+bounds_front flags n (Err m) = no_front
+bounds_front flags n (Ok o) = pick (eqb n o.count) (front (flags ∷ []) o.first) no_front
 
 unfoldable pub range_front : List ℕ → Claim → Front
 range_front src c =

@@ -1,28 +1,28 @@
 -- The intake (R10): what the bytes of one side come to, read message after message; what an intake does with a delivery of them; and a host that
 -- hands in deliveries.
-use Rattle.std.specs.Prelude.{◌≡◌, ℕ, zero, suc, ◌-◌, List, [], ◌∷◌, ◌++◌, ltb, eqb, length, take, drop}
+use Rattle.std.specs.Prelude.{◌≡◌, ℕ, zero, suc, ◌-◌, List, [], ◌∷◌, ◌++◌, ltb, eqb, length, take, drop, Result, Ok, Err}
 use Rattle.protocol.specs.Constants.{MESSAGE_HEAD, BAD_LENGTH, OUTPUT_ROOM}
 use Rattle.protocol.specs.Numbers.{pick}
 use Rattle.protocol.specs.Answers.{over}
 use Rattle.protocol.specs.Messages.{MessageHead, head_short, bad_length, body_short, body_whole, message_head, MessageRead, unread, read, message_of}
 use Rattle.forms.specs.declared.AtHand.{AtHand}
-use Rattle.forms.specs.declared.AtHand.TheVariants.{Lacking, Unfit, Whole}
+use Rattle.forms.specs.declared.AtHand.TheVariants.{Lacking, Whole}
 use Rattle.forms.specs.declared.Intake.{Intake}
 use Rattle.forms.specs.declared.Delivery.{Delivery}
 
 -- ---- the bytes at hand (R10.3)
 
 -- rows 3 to 6: a message must fit the room, which is asked as soon as its size is known
-unfoldable pub roomed_head : ℕ → MessageHead → AtHand
-roomed_head room (head_short k) = Lacking k
-roomed_head room bad_length = Unfit BAD_LENGTH
-roomed_head room (body_short n k) = pick (ltb room n) (Unfit OUTPUT_ROOM) (Lacking k)
-roomed_head room (body_whole n) = pick (ltb room n) (Unfit OUTPUT_ROOM) (Whole n)
+unfoldable pub roomed_head : ℕ → MessageHead → Result AtHand ℕ
+roomed_head room (head_short k) = Ok (Lacking k)
+roomed_head room bad_length = Err BAD_LENGTH
+roomed_head room (body_short n k) = pick (ltb room n) (Err OUTPUT_ROOM) (Ok (Lacking k))
+roomed_head room (body_whole n) = pick (ltb room n) (Err OUTPUT_ROOM) (Ok (Whole n))
 
 -- rows 1 and 2, and then those
-unfoldable pub at_hand : ℕ → List ℕ → AtHand
-at_hand room [] = Lacking MESSAGE_HEAD
-at_hand room (b ∷ s) = pick (ltb room MESSAGE_HEAD) (Unfit OUTPUT_ROOM) (roomed_head room (message_head (b ∷ s)))
+unfoldable pub at_hand : ℕ → List ℕ → Result AtHand ℕ
+at_hand room [] = Ok (Lacking MESSAGE_HEAD)
+at_hand room (b ∷ s) = pick (ltb room MESSAGE_HEAD) (Err OUTPUT_ROOM) (roomed_head room (message_head (b ∷ s)))
 
 -- ---- all bytes of a side, read message after message (R10.8)
 
@@ -43,10 +43,10 @@ unfoldable pub with_message : List ℕ → MessageRead → Stream → Stream
 with_message m (unread n p) after = no_message (broken_off n p)
 with_message m (read u ws) after = record { messages = m ∷ after.messages; end = after.end }
 
-unfoldable pub stream_by : ℕ → List ℕ → (List ℕ → Stream) → AtHand → Stream
-stream_by side s after (Lacking k) = no_message (unfinished s)
-stream_by side s after (Unfit n) = no_message (broken_off n 0)
-stream_by side s after (Whole n) = with_message (take n s) (message_of side (take n s)) (after (drop n s))
+unfoldable pub stream_by : ℕ → List ℕ → (List ℕ → Stream) → Result AtHand ℕ → Stream
+stream_by side s after (Ok (Lacking k)) = no_message (unfinished s)
+stream_by side s after (Err n) = no_message (broken_off n 0)
+stream_by side s after (Ok (Whole n)) = with_message (take n s) (message_of side (take n s)) (after (drop n s))
 
 module _ (side room : ℕ) where
   -- a message has bytes, so that the steps, as many as there are bytes, never run out
@@ -90,11 +90,11 @@ judged_delivery i t n (unread m p) = refused_delivery (intake_ended i m p) m p
 judged_delivery i t n (read u ws) = taken_delivery (intake_reset i) t n MESSAGE_HEAD
 
 -- h is held, and l is the room
-unfoldable pub take_by : Intake → List ℕ → List ℕ → List ℕ → AtHand → Taken
-take_by i h src l (Lacking k) =
+unfoldable pub take_by : Intake → List ℕ → List ℕ → List ℕ → Result AtHand ℕ → Taken
+take_by i h src l (Ok (Lacking k)) =
     record { answer = taken_delivery (holding i.room i.side (length (h ++ src))) (length src) 0 k; room = over (h ++ src) l }
-take_by i h src l (Unfit n) = record { answer = refused_delivery (intake_ended i n 0) n 0; room = l }
-take_by i h src l (Whole n) =
+take_by i h src l (Err n) = record { answer = refused_delivery (intake_ended i n 0) n 0; room = l }
+take_by i h src l (Ok (Whole n)) =
     record { answer = judged_delivery i (n - length h) n (message_of i.side (take n (h ++ src))); room = over (take n (h ++ src)) l }
 
 -- what changes nothing: the state and the room stay

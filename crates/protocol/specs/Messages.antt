@@ -1,5 +1,5 @@
 -- Messages (R2): their layouts, what reading one gives, and what writing one puts out.
-use Rattle.std.specs.Prelude.{ℕ, zero, suc, ◌+◌, ◌-◌, Bool, true, false, List, [], ◌∷◌, ◌++◌, leb, ltb, eqb, length, take, drop, get_or}
+use Rattle.std.specs.Prelude.{ℕ, zero, suc, ◌+◌, ◌-◌, Bool, true, false, List, [], ◌∷◌, ◌++◌, leb, ltb, eqb, length, take, drop, get_or, Result, Ok, Err}
 use Rattle.std.proofs.Math.Option.{Option, none, some}
 use Rattle.protocol.specs.Constants.{MOST_LENGTH, MESSAGE_HEAD, NOT_WHOLE, BAD_LENGTH, UNKNOWN_TYPE, FIELD_PAST_END, BYTES_LEFT, BAD_FIELD}
 use Rattle.protocol.specs.Constants.{LIST_ROOM, OUTPUT_ROOM, CLIENT, SERVER, CARDINALITY_NONE, CARDINALITY_AT_MOST_ONE}
@@ -7,8 +7,7 @@ use Rattle.protocol.specs.Constants.{CARDINALITY_ONE, CARDINALITY_MANY, CARDINAL
 use Rattle.protocol.specs.Numbers.{pick, be, bytes_be, one_of}
 use Rattle.protocol.specs.Text.{well_formed}
 use Rattle.protocol.specs.Answers.{over, Put, refused_put, put_out}
-use Rattle.forms.specs.declared.FieldRead.{FieldRead}
-use Rattle.forms.specs.declared.FieldRead.TheVariants.{Short, Barred, At}
+use Rattle.forms.specs.declared.Span.{Span}
 
 -- ---- layouts
 
@@ -103,23 +102,26 @@ unfoldable pub permits : List ℕ → ℕ → Bool
 permits [] v = true
 permits (x ∷ xs) v = one_of v (x ∷ xs)
 
--- ---- reading a field of the message m at `at`: not whole, not permitted, or where its content is
+-- ---- reading a field of the message m at `at`: where its content is, or the number of a refusal, not whole or not permitted
+
+abbrev pub span : ℕ → ℕ → Span
+span start len = record { start = start; len = len }
 
 -- R2.5: a length of four bytes, where the field starts, and then the content
-unfoldable pub lengthened : List ℕ → ℕ → FieldRead
+unfoldable pub lengthened : List ℕ → ℕ → Result Span ℕ
 lengthened m at =
     pick (leb (at + 4) (length m))
-    (pick (leb (at + 4 + be (take 4 (drop at m))) (length m)) (At (at + 4) (be (take 4 (drop at m)))) Short)
-    Short
+    (pick (leb (at + 4 + be (take 4 (drop at m))) (length m)) (Ok (span (at + 4) (be (take 4 (drop at m))))) (Err FIELD_PAST_END))
+    (Err FIELD_PAST_END)
 
 -- R2.6
-unfoldable pub textual : List ℕ → FieldRead → FieldRead
-textual m Short = Short
-textual m Barred = Barred
-textual m (At start len) = pick (well_formed (take len (drop start m))) (At start len) Barred
+unfoldable pub textual : List ℕ → Result Span ℕ → Result Span ℕ
+textual m (Err n) = Err n
+textual m (Ok c) = pick (well_formed (take c.len (drop c.start m))) (Ok c) (Err BAD_FIELD)
 
-unfoldable pub field_at : Field → List ℕ → ℕ → FieldRead
-field_at (number n vs) m at = pick (leb (at + n) (length m)) (pick (permits vs (be (take n (drop at m)))) (At at n) Barred) Short
+unfoldable pub field_at : Field → List ℕ → ℕ → Result Span ℕ
+field_at (number n vs) m at =
+    pick (leb (at + n) (length m)) (pick (permits vs (be (take n (drop at m)))) (Ok (span at n)) (Err BAD_FIELD)) (Err FIELD_PAST_END)
 field_at text m at = textual m (lengthened m at)
 field_at bytes m at = lengthened m at
 
@@ -139,10 +141,9 @@ then_read (unread n p) f = unread n p
 then_read (read at ws) f = read_before ws (f at)
 
 -- R2.11: the place is the field's start
-unfoldable pub field_outcome : ℕ → FieldRead → MessageRead
-field_outcome at Short = unread FIELD_PAST_END at
-field_outcome at Barred = unread BAD_FIELD at
-field_outcome at (At start len) = read (start + len) (start ∷ len ∷ [])
+unfoldable pub field_outcome : ℕ → Result Span ℕ → MessageRead
+field_outcome at (Err n) = unread n at
+field_outcome at (Ok c) = read (c.start + c.len) (c.start ∷ c.len ∷ [])
 
 unfoldable pub times_read : ℕ → (ℕ → MessageRead) → ℕ → MessageRead
 times_read zero f at = read at []

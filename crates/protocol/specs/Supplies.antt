@@ -1,5 +1,5 @@
 -- Supplies (R8): a list and source bytes. When a value has a supply, and which of a value's fields are reserved.
-use Rattle.std.specs.Prelude.{◌≡◌, ℕ, zero, suc, ◌+◌, ◌-◌, ◌≤◌, ◌<◌, Bool, true, false, List, [], ◌++◌, eqb, ltb, length, take, drop, get_or, replicate}
+use Rattle.std.specs.Prelude.{◌≡◌, ℕ, zero, suc, ◌+◌, ◌-◌, ◌≤◌, ◌<◌, Bool, true, false, List, [], ◌++◌, eqb, ltb, length, take, drop, get_or, replicate, Result, Ok, Err}
 use Rattle.std.proofs.Math.Option.{Option, none, some}
 use Rattle.protocol.specs.Constants.{ENTRY_WORDS, ABSENT}
 use Rattle.protocol.specs.Numbers.{pick}
@@ -11,9 +11,8 @@ use Rattle.protocol.specs.Values.{Form, row_form, sparse_form, no_marks, opening
 use Rattle.protocol.specs.Plans.{look, without_type}
 use Rattle.protocol.specs.Running.{checked}
 use Rattle.forms.specs.declared.Head.{Head}
-use Rattle.forms.specs.declared.Head.TheVariants.{Present, Absent, Fault}
+use Rattle.forms.specs.declared.Head.TheVariants.{Present, Absent}
 use Rattle.forms.specs.declared.Opening.{Opening}
-use Rattle.forms.specs.declared.Opening.TheVariants.{Elements, Wrong}
 
 -- ---- the entries of a supply
 
@@ -124,10 +123,10 @@ zero_part rule none s = s
 zero_part rule (some k) s = rule k s
 
 -- an element with its head that was read at a position
-unfoldable pub zero_member : (ℕ → List ℕ → List ℕ) → Node → List ℕ → ℕ → Head → List ℕ
-zero_member rule v s at (Fault n) = []
-zero_member rule v s at (Absent i start) = zero_head v (between s at start)
-zero_member rule v s at (Present i start size) = zero_head v (between s at start) ++ zero_part rule (ref_at v i) (take size (drop start s))
+unfoldable pub zero_member : (ℕ → List ℕ → List ℕ) → Node → List ℕ → ℕ → Result Head ℕ → List ℕ
+zero_member rule v s at (Err n) = []
+zero_member rule v s at (Ok (Absent i start)) = zero_head v (between s at start)
+zero_member rule v s at (Ok (Present i start size)) = zero_head v (between s at start) ++ zero_part rule (ref_at v i) (take size (drop start s))
 
 module _ {S : Type 0} (form : Form S) (rule : ℕ → List ℕ → List ℕ) (v : Node) (s : List ℕ) where
   -- n elements from `at` on
@@ -136,14 +135,14 @@ module _ {S : Type 0} (form : Form S) (rule : ℕ → List ℕ → List ℕ) (v 
   zero_elements (suc n) st at =
       zero_member rule v s at (form.head st at) ++ zero_elements n (form.next st (form.head st at)) (end_of (form.head st at))
 
-unfoldable pub zero_row : (ℕ → List ℕ → List ℕ) → Node → Opening → List ℕ → List ℕ
-zero_row rule v (Wrong n) s = s
-zero_row rule v (Elements n first at) s = zero_opening v (take at s) ++ zero_elements (row_form v s) rule v s n first at
+unfoldable pub zero_row : (ℕ → List ℕ → List ℕ) → Node → Result Opening ℕ → List ℕ → List ℕ
+zero_row rule v (Err n) s = s
+zero_row rule v (Ok o) s = zero_opening v (take o.at s) ++ zero_elements (row_form v s) rule v s o.count o.first o.at
 
-unfoldable pub zero_sparse : (ℕ → List ℕ → List ℕ) → List ℕ → List ℕ → Opening → List ℕ → List ℕ
-zero_sparse rule refs cards (Wrong n) s = s
-zero_sparse rule refs cards (Elements n first at) s =
-    zero_opening (sparse refs cards) (take at s) ++ zero_elements (sparse_form cards s) rule (sparse refs cards) s n no_marks at
+unfoldable pub zero_sparse : (ℕ → List ℕ → List ℕ) → List ℕ → List ℕ → Result Opening ℕ → List ℕ → List ℕ
+zero_sparse rule refs cards (Err n) s = s
+zero_sparse rule refs cards (Ok o) s =
+    zero_opening (sparse refs cards) (take o.at s) ++ zero_elements (sparse_form cards s) rule (sparse refs cards) s o.count no_marks o.at
 
 -- a value of a node with its containers' reserved fields zero
 unfoldable pub zero_node : Node → (ℕ → List ℕ → List ℕ) → List ℕ → List ℕ

@@ -1,6 +1,6 @@
 -- The rules of values (R5), over any description of nodes: `look k` is the node with the key k. They speak of no plan and of no descriptor. A
 -- value's bytes are its own; `base` is where they start in the top value.
-use Rattle.std.specs.Prelude.{ℕ, zero, suc, ◌+◌, ◌^◌, Bool, true, false, List, eqb, length, take, drop, get_or, replicate, set as store}
+use Rattle.std.specs.Prelude.{ℕ, zero, suc, ◌+◌, ◌^◌, Bool, true, false, List, eqb, length, take, drop, get_or, replicate, Result, Ok, Err, set as store}
 use Rattle.std.proofs.Math.Option.{Option, none, some}
 use Rattle.protocol.specs.Constants.{MOST_ITEMS, VALUE_LEFT, BAD_SCALAR, REQUIRED, BAD_PLAN, ABSENT}
 use Rattle.protocol.specs.Numbers.{pick}
@@ -10,9 +10,8 @@ use Rattle.protocol.specs.Heads.{set_opening, count_opening, sparse_opening, ran
 use Rattle.protocol.specs.Nodes.{Node, leaf, enum, row, arrays, tuple, object, sparse, range, ref_at}
 use Rattle.protocol.specs.Lists.{Entry, entry_of, Forest, empty, tree, append, renamed_forest}
 use Rattle.forms.specs.declared.Opening.{Opening}
-use Rattle.forms.specs.declared.Opening.TheVariants.{Elements, Wrong}
 use Rattle.forms.specs.declared.Head.{Head}
-use Rattle.forms.specs.declared.Head.TheVariants.{Present, Absent, Fault}
+use Rattle.forms.specs.declared.Head.TheVariants.{Present, Absent}
 
 -- ---- outcomes
 
@@ -52,19 +51,19 @@ present rule none i start s = refused BAD_PLAN 0
 present rule (some k) i start s = rule k i start s
 
 -- R5.2: an element that fits is judged as a value before the next head is read
-unfoldable pub element_outcome : Rule → (ℕ → Option ℕ) → ℕ → List ℕ → Head → ValueOutcome
-element_outcome rule ref base s (Fault n) = refused n base
-element_outcome rule ref base s (Absent i at) = absent (ref i) i (base + at)
-element_outcome rule ref base s (Present i at size) = present rule (ref i) i (base + at) (take size (drop at s))
+unfoldable pub element_outcome : Rule → (ℕ → Option ℕ) → ℕ → List ℕ → Result Head ℕ → ValueOutcome
+element_outcome rule ref base s (Err n) = refused n base
+element_outcome rule ref base s (Ok (Absent i at)) = absent (ref i) i (base + at)
+element_outcome rule ref base s (Ok (Present i at size)) = present rule (ref i) i (base + at) (take size (drop at s))
 
 -- ---- the elements of a container
 
 -- how they are read, with a state that each element changes
 pub record Form (S : Type 0) : Type 0 where
   -- the head of the element at a position
-  pub head : S → ℕ → Head
+  pub head : S → ℕ → Result Head ℕ
   -- the state after an element with that head
-  pub next : S → Head → S
+  pub next : S → Result Head ℕ → S
   -- after the last: an element that is required was not given
   pub lacks : S → Bool
 
@@ -81,14 +80,14 @@ module _ {S : Type 0} (form : Form S) (rule : Rule) (ref : ℕ → Option ℕ) (
       then (element_outcome rule ref base s (form.head st at)) (elements n (form.next st (form.head st at)) (end_of (form.head st at)))
 
 -- elements in the order of their indexes: the state is the next index
-unfoldable pub row_head : Node → List ℕ → ℕ → ℕ → Head
-row_head (leaf f) s i at = Fault BAD_PLAN
-row_head enum s i at = Fault BAD_PLAN
+unfoldable pub row_head : Node → List ℕ → ℕ → ℕ → Result Head ℕ
+row_head (leaf f) s i at = Err BAD_PLAN
+row_head enum s i at = Err BAD_PLAN
 row_head (row r) s i at = plain_head s 0 i at
 row_head (arrays r) s i at = envelope_head s i at
 row_head (tuple refs) s i at = plain_head s 4 i at
 row_head (object refs cards) s i at = object_head s (requires (get_or cards i 0)) i at
-row_head (sparse refs cards) s i at = Fault BAD_PLAN
+row_head (sparse refs cards) s i at = Err BAD_PLAN
 row_head (range r) s i at = plain_head s 0 i at
 
 abbrev pub row_form : Node → List ℕ → Form ℕ
@@ -108,9 +107,9 @@ no_marks = replicate MOST_ITEMS false
 
 -- ---- a value
 
-unfoldable pub opening_of : Node → List ℕ → Opening
-opening_of (leaf f) s = Wrong BAD_PLAN
-opening_of enum s = Wrong BAD_PLAN
+unfoldable pub opening_of : Node → List ℕ → Result Opening ℕ
+opening_of (leaf f) s = Err BAD_PLAN
+opening_of enum s = Err BAD_PLAN
 opening_of (row r) s = set_opening s
 opening_of (arrays r) s = set_opening s
 opening_of (tuple refs) s = count_opening (length refs) s
@@ -123,15 +122,15 @@ unfoldable pub leaf_rule : Bool → Rule
 leaf_rule good k i base s = pick good (accepted (tree (entry_of k i base (length s)) empty empty)) (refused BAD_SCALAR base)
 
 -- a container: its own entry, and its elements below it
-unfoldable pub row_rule : Node → Rule → Opening → Rule
-row_rule v rule (Wrong n) k i base s = refused n base
-row_rule v rule (Elements n first at) k i base s =
-    under (entry_of k i base (length s)) (elements (row_form v s) rule (ref_at v) base s n first at)
+unfoldable pub row_rule : Node → Rule → Result Opening ℕ → Rule
+row_rule v rule (Err n) k i base s = refused n base
+row_rule v rule (Ok o) k i base s =
+    under (entry_of k i base (length s)) (elements (row_form v s) rule (ref_at v) base s o.count o.first o.at)
 
-unfoldable pub sparse_rule : List ℕ → List ℕ → Rule → Opening → Rule
-sparse_rule refs cards rule (Wrong n) k i base s = refused n base
-sparse_rule refs cards rule (Elements n first at) k i base s =
-    under (entry_of k i base (length s)) (elements (sparse_form cards s) rule (ref_at (sparse refs cards)) base s n no_marks at)
+unfoldable pub sparse_rule : List ℕ → List ℕ → Rule → Result Opening ℕ → Rule
+sparse_rule refs cards rule (Err n) k i base s = refused n base
+sparse_rule refs cards rule (Ok o) k i base s =
+    under (entry_of k i base (length s)) (elements (sparse_form cards s) rule (ref_at (sparse refs cards)) base s o.count no_marks o.at)
 
 -- a value of a node, with a rule for values of the nodes that it refers to
 unfoldable pub by_node : Node → Rule → Rule

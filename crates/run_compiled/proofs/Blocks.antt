@@ -9,7 +9,7 @@ use native.Mathlib.Omega.{arith}
 use lib.ListN.{length, get_or, take, drop, length-take, length-map}
 use lib.Seq.{get_or-take, split_at}
 use Rattle.descriptor_fields.specs.Layouts.{valued}
-use Rattle.descriptor_fields.specs.Fields.{Known, Element}
+use Rattle.descriptor_fields.specs.Fields.{Known, Element, format_number}
 use Rattle.descriptor_blocks.specs.Descriptor.{refs, node_at, Block, summary, summaries, all_words, block_of, plan_words}
 use Rattle.descriptor_blocks.proofs.Elements.{no_element, target, element_valued, raised_by, Refers}
 use Rattle.descriptor_blocks.proofs.Accepted.{missing, Made, Accepted, Valued}
@@ -53,7 +53,7 @@ made_facts before b m v =
       each = m.sound.each;
       high = m.sound.high;
       may = shape_refers known m.list m.tag m.known m.counted w m.draft m.sound;
-      own = kinded known m.list m.tag m.known m.counted w m.draft.format;
+      own = kinded known m.list m.tag m.known m.counted w (format_number m.draft.format);
     })
 
 module _ (bs : List Block) (a : Accepted bs) where

@@ -10,11 +10,9 @@ use Rattle.value_laws.proofs.Bound.{Fits}
 use Rattle.protocol.specs.Descriptors.{bare_form}
 use Rattle.protocol.specs.OffDescriptor.{rules_by, compiled_then}
 use Rattle.run_plan.specs.Run as run
-use Rattle.run_plan.specs.declared.Answer as ran
-use Rattle.run_plan.specs.declared.Answer.TheVariants as ran-variants
+use Rattle.std.specs.Prelude.{Result, Ok, Err}
+use Rattle.forms.specs.declared.fault.Refusal.{Refusal}
 use Rattle.descriptor_compile.specs.Compile.{answer_of, Gives}
-use Rattle.descriptor_compile.specs.declared.Answer.{Answer}
-use Rattle.descriptor_compile.specs.declared.Answer.TheVariants.{Refused, Words}
 use Rattle.descriptor_compile.proofs.Compiles.{refused_of, planned_room}
 use Rattle.run_compiled.specs.Follows.{Few, Follows}
 use Rattle.run_compiled.proofs.Demand3.{demand_three, compiled_is}
@@ -43,15 +41,15 @@ pub record Written (d root : List ℕ) (w : ℕ) (p p' : List ℕ) : Type 0 wher
   pub room : w ≤ length p
   pub first : take w p' ≡ words
 
-module _ (d root : List ℕ) (a : Answer) (p p' : List ℕ) (g : Gives (compile_by bare_form d root (length p)) a p p') where
-  pub follows_refused : (s l : List ℕ) (n q : ℕ) → a ≡ Refused n q → Follows d root s (ran-variants.Refused n q) p p' l l
+module _ (d root p p' : List ℕ) where
+  pub follows_refused : (e : Refusal) → Gives (compile_by bare_form d root (length p)) (Err e) p p' → (s l : List ℕ) → Follows d root s (Err e) p p' l l
   unfolding compiled_then run.answer_of list_after Few
-  follows_refused s l n q e =
-      let o = refused_of _ n q (sym e ∙ g.answer) in
+  follows_refused e g s l =
+      let o = refused_of _ e g.answer in
       record { plan = g.plan; gives = rw o (record { answer = refl; list = refl }); few = tt }
 
-  module _ (w : ℕ) (e : a ≡ Words w) where
-    written_in : (o : Outcome (List ℕ)) → compile_by bare_form d root (length p) ≡ o → Words w ≡ answer_of o → p' ≡ plan_after o p → Written d root w p p'
+  module _ (w : ℕ) (g : Gives (compile_by bare_form d root (length p)) (Ok w) p p') where
+    written_in : (o : Outcome (List ℕ)) → compile_by bare_form d root (length p) ≡ o → Ok w ≡ answer_of o → p' ≡ plan_after o p → Written d root w p p'
     unfolding answer_of plan_after
     written_in (refused n q) i x y = let z : ◌≡◌ {A = ℕ} 0 1 = cc in absurd (omega arith)
     written_in (accepted ws) i x y =
@@ -65,9 +63,9 @@ module _ (d root : List ℕ) (a : Answer) (p p' : List ℕ) (g : Gives (compile_
         }
 
     pub written : Written d root w p p'
-    written = written_in (compile_by bare_form d root (length p)) refl (sym e ∙ g.answer) g.plan
+    written = written_in (compile_by bare_form d root (length p)) refl g.answer g.plan
 
-    pub follows_run : (s l l' : List ℕ) (r : ran.Answer) → run.Gives (run_of (take w p') s (length l)) r l l' → Follows d root s r p p' l l'
+    pub follows_run : (s l l' : List ℕ) (r : Result ℕ Refusal) → run.Gives (run_of (take w p') s (length l)) r l l' → Follows d root s r p p' l l'
     unfolding compiled_then
     follows_run s l l' r h =
         let q = compiled_is d root (length p) written.words written.is in

@@ -11,7 +11,7 @@ use lib.ListN.{length, get_or, length-map, get_or-map}
 use borrow.Author.Tests.{eqb-true, eqb-false, ne_eqb}
 use Rattle.wire.proofs.Picks.{pick_case, same_or_not}
 use Rattle.descriptor_fields.specs.Layouts.{known_tag, indexed, valued}
-use Rattle.descriptor_fields.specs.Fields.{Known, Element, no_block}
+use Rattle.descriptor_fields.specs.Fields.{Known, Element, no_block, format_number}
 use Rattle.descriptor_blocks.specs.Descriptor.{refs, cards, only_ref, node_of}
 use Rattle.descriptor_fields.specs.declared.Draft.{Draft}
 use Rattle.descriptor_blocks.proofs.Tags.{valued_cases, carded, single, bare}
@@ -65,10 +65,10 @@ module _ (known : List Known) (es : List Element) (tag : ℕ) (k : known_tag tag
   -- ---- the node itself
 
   module _ (x : Draft) (s : Sound known tag x es) where
-    pub shape_refs : refs_of (node_of known tag x.format es) ≡ refs es
+    pub shape_refs : refs_of (node_of known tag (format_number x.format) es) ≡ refs es
     unfolding node_of refs_of single bare pick
     shape_refs =
-        valued_cases (λ tag. Sound known tag x es → refs_of (node_of known tag x.format es) ≡ refs es)
+        valued_cases (λ tag. Sound known tag x es → refs_of (node_of known tag (format_number x.format) es) ≡ refs es)
         (λ s. pick_case (λ v. refs_of v ≡ refs es) (eqb (get_or known (only_ref es) no_block).tag 6) _ _ (λ _. only_refs es (s.one refl)) (λ _. only_refs es (s.one refl)))
         (λ s. refl)
         (λ s. no_refs es (s.none refl))
@@ -80,10 +80,10 @@ module _ (known : List Known) (es : List Element) (tag : ℕ) (k : known_tag tag
         (λ s. only_refs es (s.one refl))
         tag k i v s
 
-    pub shape_proper : Proper (node_of known tag x.format es)
+    pub shape_proper : Proper (node_of known tag (format_number x.format) es)
     unfolding node_of Proper carded pick
     shape_proper =
-        valued_cases (λ tag. Sound known tag x es → Proper (node_of known tag x.format es))
+        valued_cases (λ tag. Sound known tag x es → Proper (node_of known tag (format_number x.format) es))
         (λ s. pick_case Proper (eqb (get_or known (only_ref es) no_block).tag 6) _ _ (λ _. tt) (λ _. tt))
         (λ s. paired s.few (λ j l. (s.each j l).card refl))
         (λ s. s.format refl)
@@ -107,10 +107,10 @@ module _ (known : List Known) (es : List Element) (tag : ℕ) (k : known_tag tag
             }
 
     -- each reference goes to a node of a kind that it may go to (R4.3)
-    pub shape_refers : (j kind : ℕ) → j < length es → Kinded (target known (get_or es j no_element)).tag kind → may_refer (kind_of (node_of known tag x.format es)) kind ≡ true
+    pub shape_refers : (j kind : ℕ) → j < length es → Kinded (target known (get_or es j no_element)).tag kind → may_refer (kind_of (node_of known tag (format_number x.format) es)) kind ≡ true
     unfolding node_of kind_of kind_fits may_refer single pick
     shape_refers j kind l q =
-        valued_cases (λ tag. Sound known tag x es → may_refer (kind_of (node_of known tag x.format es)) kind ≡ true)
+        valued_cases (λ tag. Sound known tag x es → may_refer (kind_of (node_of known tag (format_number x.format) es)) kind ≡ true)
         (λ s.
         let w : only_ref es ≡ (get_or es j no_element).ref = only_first es j (s.one refl) l in
         pick_case (λ v. may_refer (kind_of v) kind ≡ true) (eqb (get_or known (only_ref es) no_block).tag 6) (arrays (only_ref es)) (row (only_ref es))

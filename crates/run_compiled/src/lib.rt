@@ -3,6 +3,8 @@
 
 ghost use Rattle.run_compiled.specs.Follows.{Follows};
 
+use forms::fault::Refusal;
+
 // Compiles a descriptor, and then runs the plan alone: one function, so that its contract is R4.14.
 pub fn compile_and_run(
     d: &[u8],
@@ -10,17 +12,9 @@ pub fn compile_and_run(
     plan: &mut [u32],
     value: &[u8],
     list: &mut [u32],
-) -> run_plan::Answer
+) -> Result<u32, Refusal>
     ensures { Follows d.now root.now value.now result plan.old plan.new list.old list.new }
 {
-    match descriptor_compile::compile(d, root, plan) {
-        descriptor_compile::Answer::Refused { no, place } => run_plan::Answer::Refused {
-            no,
-            place,
-        },
-        descriptor_compile::Answer::Words { words } => {
-            let n = words as usize;
-            run_plan::run(&plan[..n], value, list)
-        }
-    }
+    let words = descriptor_compile::compile(d, root, plan)? as usize;
+    run_plan::run(&plan[..words], value, list)
 }

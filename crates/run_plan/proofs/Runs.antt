@@ -10,12 +10,10 @@ use lib.ListN.{length, get_or, drop}
 use lib.Seq.{sets, sets-eq}
 use borrow.Author.Tests.{lt-ltb, le-ltb, eq-eqb, ne_eqb, ltb-false}
 use Rattle.plan_nodes.proofs.Roots.{root_none, root_some}
-use Rattle.value_parts.specs.Walk.{stopped, reached, walk_of, led, Within}
-use Rattle.value_parts.specs.declared.Step as Step
-use Rattle.value_parts.specs.declared.Step.TheVariants.{Refused, Reached}
+use Rattle.std.specs.Prelude.{Result, Ok, Err}
+use Rattle.forms.specs.declared.fault.Refusal.{Refusal}
+use Rattle.value_parts.specs.Walk.{refusal, stopped, reached, walk_of, led, Within}
 use Rattle.run_plan.specs.Run.{early_fault, answer_of, Gives, Stored, Checks, fault_in}
-use Rattle.run_plan.specs.declared.Answer.{Answer}
-use Rattle.run_plan.specs.declared.Answer.TheVariants.{Listed}
 use Rattle.protocol.specs.Numbers.{pick}
 use Rattle.protocol.specs.Lists.{Forest, empty, words}
 use Rattle.protocol.specs.Values.{ValueOutcome, value_of}
@@ -36,7 +34,7 @@ stopped_is (refused m q) n p l e = cc
 stopped_is (accepted f) n p l e = let z : ◌≡◌ {A = ℕ} 0 1 = cc in absurd (omega arith)
 
 -- a refusal says nothing of the scratch room
-refuses : (m : ℕ) (o : ValueOutcome) (n p : ℕ) (l l' : List ℕ) → o ≡ refused n p → Checks m o (Answer.Refused n p) l l'
+refuses : (m : ℕ) (o : ValueOutcome) (n p : ℕ) (l l' : List ℕ) → o ≡ refused n p → Checks m o (Err (refusal n p)) l l'
 unfolding answer_of Stored
 refuses m o n p l l' e = rw e (record { answer = refl; words = tt })
 
@@ -46,11 +44,11 @@ module _ (p s : List ℕ) (f : plan_formed p ≡ true) (l l' : List ℕ) where
     unfolding value_by pick
     nothing_is = rw (root_none p f (sym er ∙ z) w)
 
-    pub check_nothing : length s ≡ 0 → l' ≡ l → Checks (length s) (value_by p s) (Listed 0) l l'
+    pub check_nothing : length s ≡ 0 → l' ≡ l → Checks (length s) (value_by p s) (Ok 0) l l'
     unfolding nothing_in pick answer_of Stored words
     check_nothing e g = rw (nothing_is, eq-eqb (length s) 0 e) (record { answer = refl; words = (g, omega arith) })
 
-    pub check_bytes : (length s ≡ 0 → ⊥) → Checks (length s) (value_by p s) (Answer.Refused 21 0) l l'
+    pub check_bytes : (length s ≡ 0 → ⊥) → Checks (length s) (value_by p s) (Err (refusal 21 0)) l l'
     unfolding nothing_in pick
     check_bytes e = refuses _ _ 21 0 l l' (nothing_is ∙ rw (ne_eqb (length s) 0 e))
 
@@ -59,71 +57,71 @@ module _ (p s : List ℕ) (f : plan_formed p ≡ true) (l l' : List ℕ) where
     unfolding value_by pick
     value_is = rw (root_some p f (λ e. nz (er ∙ e)), er)
 
-    module _ (x : Step.Step) (q : walk_of x l' ≡ led (value_of (look p) r 0 0 s) 0 l) where
-      pub check_refused : (n m : ℕ) → x ≡ Refused n m → Checks (length s) (value_by p s) (Answer.Refused n m) l l'
+    module _ (x : Result ℕ Refusal) (q : walk_of x l' ≡ led (value_of (look p) r 0 0 s) 0 l) where
+      pub check_refused : (e : Refusal) → x ≡ Err e → Checks (length s) (value_by p s) (Err e) l l'
       unfolding walk_of
-      check_refused n m e = refuses _ _ n m l l' (value_is ∙ stopped_is _ n m l (rw e at q))
+      check_refused e ex = refuses _ _ e.fault e.place l l' (value_is ∙ stopped_is _ e.fault e.place l (rw ex at q))
 
-      pub check_listed : (at : ℕ) → x ≡ Reached at → Within (0 + length s) x → Checks (length s) (value_by p s) (Listed at) l l'
+      pub check_listed : (at : ℕ) → x ≡ Ok at → Within (0 + length s) x → Checks (length s) (value_by p s) (Ok at) l l'
       unfolding walk_of Within answer_of Stored
       check_listed at e b =
           let h = reached_is (value_of (look p) r 0 0 s) at l l' (rw e at q) in
           let c = rw e at b in
-          rw (value_is, h.1) (record { answer = ap Listed h.2; words = (h.3, omega (arith, h.2)) })
+          rw (value_is, h.1) (record { answer = ap Ok h.2; words = (h.3, omega (arith, h.2)) })
 
 -- ---- the tests before the value, in their order
 
 module _ (p s : List ℕ) where
-  pub fault_unformed : plan_formed p ≡ false → 33 ≡ early_fault p s
+  pub fault_unformed : plan_formed p ≡ false → Err 33 ≡ early_fault p s
   unfolding early_fault fault_in admitted pick
   fault_unformed e = rw e
 
   module _ (f : plan_formed p ≡ true) where
-    pub fault_large : 65535 < length s → 28 ≡ early_fault p s
+    pub fault_large : 65535 < length s → Err 28 ≡ early_fault p s
     unfolding early_fault fault_in admitted pick
     fault_large h = rw (f, lt-ltb 65535 (length s) h)
 
-    pub fault_none : length s ≤ 65535 → 0 ≡ early_fault p s
+    pub fault_none : length s ≤ 65535 → Ok tt ≡ early_fault p s
     unfolding early_fault fault_in admitted pick
     fault_none h = rw (f, le-ltb 65535 (length s) h)
 
-  early_cases : (n : ℕ) (a b : Bool) → n ≡ fault_in (pick a (pick b (refused 28 0) (accepted empty)) (refused 33 0)) → (n ≡ 0 → ⊥)
+  early_cases : (n : ℕ) (a b : Bool) → Err n ≡ fault_in (pick a (pick b (refused 28 0) (accepted empty)) (refused 33 0))
       → pick a (pick b (refused 28 0) (value_by p s)) (refused 33 0) ≡ refused n 0
   unfolding pick fault_in
-  early_cases n true true e z = rw e
-  early_cases n true false e z = absurd (z e)
-  early_cases n false b e z = rw e
+  early_cases n true true e = let h : n ≡ 28 = cc in rw h
+  early_cases n true false e = let z : ◌≡◌ {A = ℕ} 0 1 = cc in absurd (omega arith)
+  early_cases n false b e = let h : n ≡ 33 = cc in rw h
 
-  pub early_refused : (n : ℕ) → n ≡ early_fault p s → (n ≡ 0 → ⊥) → checked p s ≡ refused n 0
+  pub early_refused : (n : ℕ) → Err n ≡ early_fault p s → checked p s ≡ refused n 0
   unfolding early_fault admitted checked fault_in
-  early_refused n e z = early_cases n (plan_formed p) (ltb 65535 (length s)) e z
+  early_refused n e = early_cases n (plan_formed p) (ltb 65535 (length s)) e
 
-  none_cases : (a b : Bool) → ◌≡◌ {A = ℕ} 0 (fault_in (pick a (pick b (refused 28 0) (accepted empty)) (refused 33 0))) → (a ≡ true) × (b ≡ false)
+  none_cases : (a b : Bool) → Ok tt ≡ fault_in (pick a (pick b (refused 28 0) (accepted empty)) (refused 33 0)) → (a ≡ true) × (b ≡ false)
   unfolding pick fault_in
-  none_cases true true e = absurd (omega arith)
+  none_cases true true e = let z : ◌≡◌ {A = ℕ} 0 1 = cc in absurd (omega arith)
   none_cases true false e = (refl, refl)
-  none_cases false b e = absurd (omega arith)
+  none_cases false b e = let z : ◌≡◌ {A = ℕ} 0 1 = cc in absurd (omega arith)
 
   -- where none refuses, the value's own rules are left
-  pub early_none : (n : ℕ) → n ≡ early_fault p s → n ≡ 0 → (plan_formed p ≡ true) × (length s ≤ 65535) × (checked p s ≡ value_by p s)
+  pub early_none : Ok tt ≡ early_fault p s → (plan_formed p ≡ true) × (length s ≤ 65535) × (checked p s ≡ value_by p s)
   unfolding early_fault fault_in admitted checked pick
-  early_none n e z =
-      let h = none_cases (plan_formed p) (ltb 65535 (length s)) (sym z ∙ e) in
+  early_none e =
+      let h = none_cases (plan_formed p) (ltb 65535 (length s)) e in
       (h.0, ltb-false 65535 (length s) h.1, rw (h.0, h.1))
 
   module _ (l l' : List ℕ) where
-    pub check_early : (n : ℕ) → checked p s ≡ refused n 0 → Checks (length s) (checked p s) (Answer.Refused n 0) l l'
+    pub check_early : (n : ℕ) → checked p s ≡ refused n 0 → Checks (length s) (checked p s) (Err (refusal n 0)) l l'
     check_early n e = refuses _ _ n 0 l l' e
 
-    pub check_rest : checked p s ≡ value_by p s → (r : Answer) → Checks (length s) (value_by p s) r l l' → Checks (length s) (checked p s) r l l'
+    pub check_rest : checked p s ≡ value_by p s → (r : Result ℕ Refusal) → Checks (length s) (value_by p s) r l l' → Checks (length s) (checked p s) r l l'
     check_rest e r c = rw e c
 
   module _ (room : ℕ) (l : List ℕ) where
-    pub run_early : (n : ℕ) → checked p s ≡ refused n 0 → Gives (run_of p s room) (Answer.Refused n 0) l l
+    pub run_early : (n : ℕ) → checked p s ≡ refused n 0 → Gives (run_of p s room) (Err (refusal n 0)) l l
     unfolding run_of list_roomed answer_of list_after
     run_early n e = rw e (record { answer = refl; list = refl })
 
-    pub run_rest : (l' : List ℕ) → checked p s ≡ value_by p s → (r : Answer) → Gives (list_roomed room (value_by p s)) r l l' → Gives (run_of p s room) r l l'
+    pub run_rest : (l' : List ℕ) → checked p s ≡ value_by p s → (r : Result ℕ Refusal) → Gives (list_roomed room (value_by p s)) r l l' → Gives (run_of p s room) r l l'
     unfolding run_of
     run_rest l' e r c = rw e c
 
@@ -137,47 +135,47 @@ pub record Found (m : ℕ) (o : ValueOutcome) (w : ℕ) (l l' : List ℕ) : Type
   pub stored : l' ≡ sets l 0 (words forest)
   pub few : 4 * w ≤ 5 * m + 20
 
-found_in : (m : ℕ) (o : ValueOutcome) (w : ℕ) (l l' : List ℕ) → Listed w ≡ answer_of o → Stored m o l l' → Found m o w l l'
+found_in : (m : ℕ) (o : ValueOutcome) (w : ℕ) (l l' : List ℕ) → Ok w ≡ answer_of o → Stored m o l l' → Found m o w l l'
 unfolding answer_of Stored
 found_in m (refused n p) w l l' e s = let z : ◌≡◌ {A = ℕ} 0 1 = cc in absurd (omega arith)
 found_in m (accepted f) w l l' e s = let c : w ≡ length (words f) = cc in record { forest = f; is = refl; count = c; stored = s.0; few = omega (arith, s.1) }
 
-refused_in : (o : ValueOutcome) (n p : ℕ) → Answer.Refused n p ≡ answer_of o → o ≡ refused n p
+refused_in : (o : ValueOutcome) (e : Refusal) → Err e ≡ answer_of o → o ≡ refused e.fault e.place
 unfolding answer_of
-refused_in (refused m q) n p e = cc
-refused_in (accepted f) n p e = let z : ◌≡◌ {A = ℕ} 0 1 = cc in absurd (omega arith)
+refused_in (refused m q) e h = let r : e ≡ refusal m q = cc in rw r
+refused_in (accepted f) e h = let z : ◌≡◌ {A = ℕ} 0 1 = cc in absurd (omega arith)
 
-module _ (m : ℕ) (o : ValueOutcome) (a : Answer) (l l' : List ℕ) (c : Checks m o a l l') where
-  pub found : (w : ℕ) → a ≡ Listed w → Found m o w l l'
+module _ (m : ℕ) (o : ValueOutcome) (a : Result ℕ Refusal) (l l' : List ℕ) (c : Checks m o a l l') where
+  pub found : (w : ℕ) → a ≡ Ok w → Found m o w l l'
   found w e = found_in m o w l l' (sym e ∙ c.answer) c.words
 
-  pub turned_down : (n p : ℕ) → a ≡ Answer.Refused n p → o ≡ refused n p
-  turned_down n p e = refused_in o n p (sym e ∙ c.answer)
+  pub turned_down : (e : Refusal) → a ≡ Err e → o ≡ refused e.fault e.place
+  turned_down e h = refused_in o e (sym h ∙ c.answer)
 
 -- ---- the two passes
 
-module _ (m : ℕ) (o : ValueOutcome) (a : Answer) (k k' : List ℕ) (c : Checks m o a k k') (l : List ℕ) where
-  pub gives_refused : (n q : ℕ) → a ≡ Answer.Refused n q → Gives (list_roomed (length l) o) a l l
+module _ (m : ℕ) (o : ValueOutcome) (a : Result ℕ Refusal) (k k' : List ℕ) (c : Checks m o a k k') (l : List ℕ) where
+  pub gives_refused : (e : Refusal) → a ≡ Err e → Gives (list_roomed (length l) o) (Err e) l l
   unfolding list_roomed answer_of list_after
-  gives_refused n q e = let h = turned_down m o a k k' c n q e in record { answer = e ∙ rw h; list = rw h }
+  gives_refused e x = let h = turned_down m o a k k' c e x in record { answer = rw h; list = rw h }
 
-  module _ (w : ℕ) (e : a ≡ Listed w) where
+  module _ (w : ℕ) (e : a ≡ Ok w) where
     f : Found m o w k k'
     f = found m o a k k' c w e
 
-    pub gives_full : length l < w → Gives (list_roomed (length l) o) (Answer.Refused 31 0) l l
+    pub gives_full : length l < w → Gives (list_roomed (length l) o) (Err (refusal 31 0)) l l
     unfolding list_roomed answer_of list_after pick
     gives_full h =
         let h' : length l < length (words f.forest) = omega (arith, f.count) in
         rw (f.is, lt-ltb _ _ h') (record { answer = refl; list = refl })
 
-    pub gives_listed : w ≤ length l → (a' : Answer) (l' : List ℕ) → Checks m o a' l l' → Gives (list_roomed (length l) o) (Listed w) l l'
+    pub gives_listed : w ≤ length l → (a' : Result ℕ Refusal) (l' : List ℕ) → Checks m o a' l l' → Gives (list_roomed (length l) o) a' l l'
     unfolding list_roomed answer_of list_after Stored pick
     gives_listed h a' l' d =
         let h' : length (words f.forest) ≤ length l = omega (arith, f.count) in
         let g = rw f.is at d.words in
         rw (f.is, le-ltb _ _ h')
         (record {
-          answer = ap Listed f.count;
+          answer = rw f.is at d.answer;
           list = g.0 ∙ sets-eq (words f.forest) l 0 (omega arith) ∙ ap (λ (n : ℕ). words f.forest ++ drop n l) (zero-add (length (words f.forest)));
         })

@@ -7,6 +7,7 @@ use native.Mathlib.Omega.{arith}
 use native.Mathlib.Nat.{add-zero, sub-zero, not-suc-le-zero}
 use native.Mathlib.Numerals.{sub-one}
 use lib.Dec.{ltb}
+use Rattle.std.specs.Prelude.{Option, None}
 use lib.ListN.{length, drop, get_or, set as store}
 use borrow.Author.Tests.{lt-ltb, le-ltb, ltb-false}
 use Rattle.wire.proofs.Picks.{clash}
@@ -16,9 +17,8 @@ use Rattle.plan_nodes.proofs.Looks.{cards_length}
 use Rattle.plan_nodes.proofs.Nodes.{at_few}
 use Rattle.value_parts.specs.Counted.{Counted}
 use Rattle.value_parts.proofs.Counted.{counted_none, counted_next}
-use Rattle.supply_entries.specs.Emitting.{broken, stands, put_at, read_of, known, Gathers, GathersNew}
-use Rattle.supply_entries.specs.declared.Read.{Read}
-use Rattle.supply_entries.specs.declared.Read.TheVariants.{Short}
+use Rattle.supply_entries.specs.Emitting.{broken, stands, put_at, read_of, known, Gathers, GathersNew, GathersRun}
+use Rattle.supply_entries.specs.declared.Entry.{Entry}
 use Rattle.supply_entries.proofs.Stands.{put_small, stood, stop, go}
 use Rattle.protocol.specs.Numbers.{pick}
 use Rattle.protocol.specs.Nodes.{Node, ref_at}
@@ -121,16 +121,16 @@ module _ (p : List ℕ) (k : ℕ) (marks : List Bool) (n i : ℕ) (en : n ≡ ge
 
 -- one with no entry, or with an index that the object does not have
 module _ (p : List ℕ) (k : ℕ) (rule : Builder) (v : Node) (marks : List Bool) (ws : List ℕ) (at : ℕ) (out : List ℕ) (m n : ℕ) where
-  pub turn_unknown : 0 < m → n ≡ get_or p (k + 1) 0 → (r : Read) → r ≡ read_of (known n (next_of ws)) → r ≡ Short
+  pub turn_unknown : 0 < m → n ≡ get_or p (k + 1) 0 → (r : Option Entry) → r ≡ read_of (known n (next_of ws)) → r ≡ None
       → broken ≡ put_at (elements_made (sparse_order (cards_at p k)) rule v m marks ws) at out
   unfolding read_of known pick
   turn_unknown z en r q e = go (next_of ws) refl (sym e ∙ q)
     where
-      go : (x : Next) → next_of ws ≡ x → Short ≡ read_of (known n x) → broken ≡ put_at (elements_made (sparse_order (cards_at p k)) rule v m marks ws) at out
+      go : (x : Next) → next_of ws ≡ x → None ≡ read_of (known n x) → broken ≡ put_at (elements_made (sparse_order (cards_at p k)) rule v m marks ws) at out
       go short is g = turn_short (sparse_order (cards_at p k)) rule v marks ws at out m z is
       go (next c rest) is g = index (ltb c.index n) refl g
         where
-          index : (b : Bool) → ltb c.index n ≡ b → Short ≡ read_of (pick b (next c rest) short)
+          index : (b : Bool) → ltb c.index n ≡ b → None ≡ read_of (pick b (next c rest) short)
               → broken ≡ put_at (elements_made (sparse_order (cards_at p k)) rule v m marks ws) at out
           index true f h = let y : ◌≡◌ {A = ℕ} 0 1 = cc in absurd (omega arith)
           index false f h =
@@ -173,9 +173,7 @@ one_at_most false count count' m h e = omega arith
 
 abbrev pub Gathering : List ℕ → List ℕ → ℕ → ℕ → List ℕ → ℕ → ℕ → List ℕ → ℕ → ℕ → ℕ → ℕ → List ℕ → Type 0
 Gathering src p k n list first at out m count word at' out' =
-    (length out' ≡ length out) × (m ≤ n) × (count ≤ m) × Followed (indexes_apart list 5) (first + 1) m (word + 1)
-    × GathersNew src p k n (drop first list) at out (marked no_marks (indexes_apart list 5 m (first + 1))) (repeats no_marks (indexes_apart list 5 m (first + 1)))
-    count (n - m) (drop word list) at' out'
+    (m ≤ n) × (count ≤ m) × Followed (indexes_apart list 5) (first + 1) m (word + 1) × GathersRun src p k n list first at out m count word at' out'
 
 module _ (src p : List ℕ) (k n : ℕ) (list : List ℕ) (first at : ℕ) (out : List ℕ) where
   abbrev ws : List ℕ
@@ -184,7 +182,6 @@ module _ (src p : List ℕ) (k n : ℕ) (list : List ℕ) (first at : ℕ) (out 
   pub gathering_start : at ≤ 65535 → Gathering src p k n list first at out 0 0 first at out
   unfolding marked repeats indexes_apart
   gathering_start h = (
-    refl,
     omega arith,
     omega arith,
     followed_start (indexes_apart list 5) (first + 1) (apart_none list 5 0 (first + 1) (omega arith)),
@@ -227,38 +224,36 @@ module _ (src p : List ℕ) (k n : ℕ) (list : List ℕ) (first at : ℕ) (out 
       → At p k → get_or p k 0 ≡ 6 → (c : Claim) → next_of (drop word list) ≡ next c (drop (word + 5) list) → c.index ≡ get_or list (word + 1) 0 → word + 5 ≤ length list
       → c.index < get_or p (k + 1) 0 → (at'' : ℕ) (out'' : List ℕ)
       → stands (drop (word + 5) list) at'' out'' ≡ put_at (part_made (build_of src (look p)) (look p k) (ref_at (look p k) c.index) c (drop (word + 5) list) (drop word list)) at' out'
-      → length out'' ≡ length out' → (count' : ℕ) → count' ≡ count + pick (requires (get_or (cards_at p k) c.index 0)) 1 0
+      → (count' : ℕ) → count' ≡ count + pick (requires (get_or (cards_at p k) c.index 0)) 1 0
       → Gathering src p k n list first at out (m + 1) count' (word + 5) at'' out''
-  gathering_next m count word at' out' g below a six c e ei inside known at'' out'' q same count' ec =
+  gathering_next m count word at' out' g below a six c e ei inside known at'' out'' q count' ec =
       let more : (r : ℕ) → indexes_apart list 5 (r + 1) (word + 1) ≡ c.index ∷ indexes_apart list 5 r (word + 5 + 1) = λ r. one_more r in
       let none : indexes_apart list 5 0 (word + 5 + 1) ≡ [] = apart_none list 5 0 (word + 5 + 1) (omega arith) in
       let left : n - (m + 1) ≡ n - m - 1 = omega arith in (
-        same ∙ g.0,
         omega arith,
-        one_at_most (requires (get_or (cards_at p k) c.index 0)) count count' m g.2 ec,
-        followed_next (indexes_apart list 5) (first + 1) m (word + 1) g.3 c.index (word + 5 + 1) more none,
+        one_at_most (requires (get_or (cards_at p k) c.index 0)) count count' m g.1 ec,
+        followed_next (indexes_apart list 5) (first + 1) m (word + 1) g.2 c.index (word + 5 + 1) more none,
         rw (
-          marked_more (indexes_apart list 5) (first + 1) m (word + 1) g.3 c.index (word + 5 + 1) more none no_marks,
-          repeats_more (indexes_apart list 5) (first + 1) m (word + 1) g.3 c.index (word + 5 + 1) more none no_marks,
+          marked_more (indexes_apart list 5) (first + 1) m (word + 1) g.2 c.index (word + 5 + 1) more none no_marks,
+          repeats_more (indexes_apart list 5) (first + 1) m (word + 1) g.2 c.index (word + 5 + 1) more none no_marks,
           left,
-        ) (next_new _ _ count (n - m) (drop word list) at' out' g.4 (omega arith) a six c (drop (word + 5) list) e known (drop (word + 5) list) at'' out'' q count' ec),
+        ) (next_new _ _ count (n - m) (drop word list) at' out' g.3 (omega arith) a six c (drop (word + 5) list) e known (drop (word + 5) list) at'' out'' q count' ec),
       )
     where
       one_more : (r : ℕ) → indexes_apart list 5 (r + 1) (word + 1) ≡ c.index ∷ indexes_apart list 5 r (word + 5 + 1)
       one_more r =
-          let z : r + 1 - 1 ≡ r = omega arith in
           let y : word + 1 + 5 ≡ word + 5 + 1 = omega arith in
-          apart_more list 5 (r + 1) (word + 1) (omega arith) (omega arith) ∙ rw (sym ei, z, y)
+          apart_more list 5 (r + 1) r (word + 1) refl (omega arith) ∙ rw (sym ei, y)
 
   -- no leaf, and so no index
-  pub gathering_none : (m count word at' : ℕ) (out' : List ℕ) → Gathering src p k n list first at out m count word at' out' → m ≡ 0
-      → (marks : List Bool) → marks ≡ no_marks → (twice : Bool) → twice ≡ false → GathersNew src p k n ws at out marks twice count n (drop word list) at' out'
+  pub run_none : (m count word at' : ℕ) (out' : List ℕ) → GathersRun src p k n list first at out m count word at' out' → m ≡ 0
+      → (marks : List Bool) → marks ≡ no_marks → (twice : Bool) → twice ≡ false → (left : ℕ) → left ≡ n - m → GathersNew src p k n ws at out marks twice count left (drop word list) at' out'
   unfolding marked repeats indexes_apart
-  gathering_none m count word at' out' g e marks em twice et = rw (em, et) (rw sub-zero at (rw e at g.4))
+  run_none m count word at' out' g e marks em twice et left el = rw (em, et, el, e) (rw e at g)
 
   -- the set that all the indexes were handed to
-  pub gathering_end : (m count word at' : ℕ) (out' : List ℕ) → Gathering src p k n list first at out m count word at' out'
+  pub run_marked : (m count word at' : ℕ) (out' : List ℕ) → GathersRun src p k n list first at out m count word at' out'
       → (marks₀ : List Bool) → marks₀ ≡ no_marks → (marks : List Bool) → marks ≡ marked marks₀ (indexes_apart list 5 m (first + 1))
       → (twice : Bool) → twice ≡ repeats marks₀ (indexes_apart list 5 m (first + 1))
       → GathersNew src p k n ws at out marks twice count (n - m) (drop word list) at' out'
-  gathering_end m count word at' out' g marks₀ e₀ marks em twice et = rw (em, et, e₀) g.4
+  run_marked m count word at' out' g marks₀ e₀ marks em twice et = rw (em, et, e₀) g

@@ -4,41 +4,40 @@ use mathlib.Core.Bool.{Bool, true, false}
 use mathlib.Core.List.{List}
 use Prim.Native.Nat.{ℕ, ◌+◌, ◌<◌, ◌≤◌}
 use native.Mathlib.Omega.{arith}
-use native.Mathlib.Nat.{add-zero}
 use lib.Dec.{ltb}
+use Rattle.std.specs.Prelude.{Option, Some, None}
+use Rattle.std.specs.Bool.{then_some}
 use lib.ListN.{length, drop, get_or, length-drop}
 use lib.Seq.{get_or-drop, drop-drop}
 use borrow.Author.Tests.{lt-ltb, le-ltb, ltb-true, ltb-false}
 use Rattle.supply_entries.specs.Emitting.{claim, read_of, known}
 use Rattle.supply_entries.specs.declared.Entry.{Entry}
-use Rattle.supply_entries.specs.declared.Read.{Read}
-use Rattle.supply_entries.specs.declared.Read.TheVariants.{Short, Whole}
 use Rattle.protocol.specs.Numbers.{pick}
 use Rattle.protocol.specs.Supplies.{Next, short, next, next_of}
 
-abbrev index_of : Read → ℕ
-index_of Short = 0
-index_of (Whole e) = e.index
+abbrev index_of : Option Entry → ℕ
+index_of None = 0
+index_of (Some e) = e.index
 
 module _ (l : List ℕ) (w : ℕ) where
   -- how the entry at a word is read
-  pub read_short : length l < w + 5 → Short ≡ read_of (next_of (drop w l))
+  pub read_short : length l < w + 5 → None ≡ read_of (next_of (drop w l))
   unfolding read_of next_of pick
   read_short h =
       let k : length (drop w l) < 5 = simp length-drop (omega arith) in
       rw (lt-ltb (length (drop w l)) 5 k)
 
-  pub read_whole : w + 5 ≤ length l
-      → Whole (record { node = get_or l w 0; index = get_or l (w + 1) 0; start = get_or l (w + 2) 0; size = get_or l (w + 3) 0; count = get_or l (w + 4) 0 })
+  pub read_whole : (ws : List ℕ) → ws ≡ drop w l → 5 ≤ length ws
+      → Some (record { node = get_or ws 0 0; index = get_or ws 1 0; start = get_or ws 2 0; size = get_or ws 3 0; count = get_or ws 4 0 })
       ≡ read_of (next_of (drop w l))
   unfolding read_of next_of pick
-  read_whole h =
-      let k : 5 ≤ length (drop w l) = simp length-drop (omega arith) in
-      rw (le-ltb (length (drop w l)) 5 k) (simp (get_or-drop, add-zero))
+  read_whole ws e h =
+      let k : 5 ≤ length (drop w l) = rw (← e) h in
+      rw (le-ltb (length (drop w l)) 5 k, e)
 
   -- what an entry that was read says
-  module _ (r : Read) (q : r ≡ read_of (next_of (drop w l))) where
-    pub no_entry : r ≡ Short → next_of (drop w l) ≡ short
+  module _ (r : Option Entry) (q : r ≡ read_of (next_of (drop w l))) where
+    pub no_entry : r ≡ None → next_of (drop w l) ≡ short
     unfolding read_of next_of pick
     no_entry e = go (ltb (length (drop w l)) 5) refl
       where
@@ -46,7 +45,7 @@ module _ (l : List ℕ) (w : ℕ) where
         go true f = rw f
         go false f = let g = rw f at (sym e ∙ q) in let z : ◌≡◌ {A = ℕ} 0 1 = cc in absurd (omega arith)
 
-    module _ (e : Entry) (is : r ≡ Whole e) where
+    module _ (e : Entry) (is : r ≡ Some e) where
       pub entry_inside : w + 5 ≤ length l
       unfolding read_of next_of pick
       entry_inside = go (ltb (length (drop w l)) 5) refl
@@ -64,33 +63,31 @@ module _ (l : List ℕ) (w : ℕ) where
           rw (le-ltb (length (drop w l)) 5 k, f, drop-drop)
 
       pub entry_index : e.index ≡ get_or l (w + 1) 0
-      entry_index = ap index_of (sym is ∙ q ∙ sym (read_whole entry_inside))
+      entry_index =
+          ap index_of (sym is ∙ q ∙ sym (read_whole (drop w l) refl (simp length-drop (omega (arith, entry_inside))))) ∙ rw get_or-drop
 
 -- ---- the entry of a sparse object, whose index is one of n
 
 module _ (n : ℕ) where
-  pub known_short : (x : Next) (r : Read) → r ≡ read_of x → r ≡ Short → Short ≡ read_of (known n x)
+  pub known_short : (x : Next) → None ≡ read_of x → None ≡ read_of (known n x)
   unfolding read_of known
-  known_short short r q e = refl
-  known_short (next c ws) r q e = let z : ◌≡◌ {A = ℕ} 0 1 = cc in absurd (omega arith)
+  known_short short q = refl
+  known_short (next c ws) q = cc
 
   module _ (e : Entry) where
-    pub known_past : (x : Next) (r : Read) → r ≡ read_of x → r ≡ Whole e → n ≤ e.index → Short ≡ read_of (known n x)
+    pub known_whole : (x : Next) → Some e ≡ read_of x → then_some (ltb e.index n) e ≡ read_of (known n x)
     unfolding read_of known pick
-    known_past short r q is h = refl
-    known_past (next c ws) r q is h =
-        let i : c.index ≡ e.index = ap index_of (sym q ∙ is) in
-        rw (le-ltb c.index n (omega arith))
-
-    pub known_whole : (x : Next) (r : Read) → r ≡ read_of x → r ≡ Whole e → e.index < n → r ≡ read_of (known n x)
-    unfolding read_of known pick
-    known_whole short r q is h = q
-    known_whole (next c ws) r q is h =
-        let i : c.index ≡ e.index = ap index_of (sym q ∙ is) in
-        rw (lt-ltb c.index n (omega arith)) q
+    known_whole short q = cc
+    known_whole (next c ws) q =
+        let i : e ≡ record { node = c.node; index = c.index; start = c.start; size = c.size; count = c.count } = cc in
+        rw i (go (ltb c.index n))
+      where
+        go : (b : Bool) → then_some b (record { node = c.node; index = c.index; start = c.start; size = c.size; count = c.count }) ≡ read_of (pick b (next c ws) short)
+        go true = refl
+        go false = refl
 
     -- what such an entry says
-    pub known_is : (x : Next) (r : Read) → r ≡ read_of (known n x) → r ≡ Whole e → (r ≡ read_of x) × (e.index < n)
+    pub known_is : (x : Next) (r : Option Entry) → r ≡ read_of (known n x) → r ≡ Some e → (r ≡ read_of x) × (e.index < n)
     unfolding read_of known pick
     known_is short r q is = let z : ◌≡◌ {A = ℕ} 0 1 = cc in absurd (omega arith)
     known_is (next c ws) r q is = go (ltb c.index n) refl q

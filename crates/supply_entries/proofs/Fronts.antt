@@ -2,6 +2,7 @@
 use mathlib.Core.Path.{◌≡◌, refl, ap, sym, ◌∙◌}
 use mathlib.Core.Bool.{Bool, true, false}
 use mathlib.Core.List.{List, [], ◌∷◌, ◌++◌}
+use mathlib.Core.Logic.{◌⊎◌, inl, inr}
 use Prim.Native.Nat.{ℕ, ◌+◌, ◌-◌, ◌<◌, ◌≤◌}
 use native.Mathlib.Omega.{arith}
 use lib.Dec.{eqb, leb}
@@ -12,7 +13,8 @@ use native.Mathlib.Nat.{add-zero, add-sub_cancel_left}
 use native.Mathlib.Decide.{dec_lt}
 use Rattle.wire.proofs.Numbers.{length_bytes}
 use Rattle.forms.specs.declared.Opening.{Opening}
-use Rattle.forms.specs.declared.Opening.TheVariants.{Elements, Wrong}
+use Rattle.std.specs.Prelude.{Result, Ok, Err, Some, None}
+use Rattle.std.specs.Result.{result_ok}
 use Rattle.value_heads.proofs.Bounds.{range_opened}
 use Rattle.plan_nodes.proofs.Looks.{tuple_length, refs_length}
 use Rattle.plan_nodes.proofs.Nodes.{at_tuple_size}
@@ -88,6 +90,14 @@ module _ (n at : ℕ) (out : List ℕ) where
 
 -- ---- a range
 
+opened : (o : Result Opening ℕ) (b : Opening) → Some b ≡ result_ok o → o ≡ Ok b
+opened (Ok x) b q = cc
+opened (Err n) b q = cc
+
+unopened : (o : Result Opening ℕ) → None ≡ result_ok o → (n : ℕ) × (o ≡ Err n)
+unopened (Ok x) q = cc
+unopened (Err n) q = (n, refl)
+
 module _ (src : List ℕ) (c : Claim) (at : ℕ) (out : List ℕ) where
   pub range_outside : length src ≤ c.start → shut ≡ begin_at (range_front src c) at out
   unfolding range_front begin_at pick
@@ -101,61 +111,69 @@ module _ (src : List ℕ) (c : Claim) (at : ℕ) (out : List ℕ) where
     unfolding range_front pick flags
     range_is = rw (lt-ltb c.start (length src) h)
 
-    -- the head that is read from the byte of the flags alone, as the code lends it
-    opening_is : range_opening (take (c.start + 1 - c.start) (drop c.start src)) ≡ pick (range_flags flags) (bounds flags) (Wrong 22)
-    unfolding range_opening pick flags
-    opening_is =
-        let n : c.start + 1 - c.start ≡ 1 = add-sub_cancel_left c.start 1 in
-        let k : 1 ≤ length (take 1 (drop c.start src)) = simp (length-take, length-drop) (omega arith) in
-        rw (n, le-ltb (length (take 1 (drop c.start src))) 1 k, get_or-take 1 (drop c.start src) 0 0 (omega arith), get_or-drop, add-zero)
+    -- the head that is read from the byte of the flags alone
+    module _ (part : List ℕ) (ep : part ≡ take (c.start + 1 - c.start) (drop c.start src)) where
+      one : part ≡ take 1 (drop c.start src)
+      one = let n : c.start + 1 - c.start ≡ 1 = add-sub_cancel_left c.start 1 in rw n at ep
 
-    module _ (o : Opening) (e : o ≡ range_opening (take (c.start + 1 - c.start) (drop c.start src))) where
-      by_opening : range_front src c ≡ bounds_front flags c.count o
-      unfolding bounds_front pick
-      by_opening = go (range_flags flags) refl
-        where
-          go : (b : Bool) → range_flags flags ≡ b → range_front src c ≡ bounds_front flags c.count o
-          go true f = range_is ∙ rw (f, e, opening_is, f)
-          go false f = range_is ∙ rw (f, e, opening_is, f)
+      flags_is : get_or part 0 0 ≡ flags
+      unfolding flags
+      flags_is = rw (one, get_or-take 1 (drop c.start src) 0 0 (omega arith), get_or-drop, add-zero)
 
-      pub range_unknown : (n : ℕ) → o ≡ Wrong n → shut ≡ begin_at (range_front src c) at out
-      unfolding bounds_front begin_at
-      range_unknown n f = rw (by_opening, f)
+      opening_is : range_opening part ≡ pick (range_flags flags) (bounds flags) (Err 22)
+      unfolding range_opening pick
+      opening_is =
+          let k : 1 ≤ length part = rw one (simp (length-take, length-drop) (omega arith)) in
+          rw (le-ltb (length part) 1 k, flags_is)
 
-      module _ (n first from : ℕ) (f : o ≡ Elements n first from) where
-        pub range_other : (c.count ≡ n → ⊥) → shut ≡ begin_at (range_front src c) at out
-        unfolding bounds_front begin_at pick
-        range_other g = rw (by_opening, f, ne_eqb c.count n g)
+      module _ (o : Result Opening ℕ) (e : o ≡ range_opening part) where
+        by_opening : range_front src c ≡ bounds_front flags c.count o
+        unfolding bounds_front pick
+        by_opening = go (range_flags flags) refl
+          where
+            go : (b : Bool) → range_flags flags ≡ b → range_front src c ≡ bounds_front flags c.count o
+            go true f = range_is ∙ rw (f, e, opening_is, f)
+            go false f = range_is ∙ rw (f, e, opening_is, f)
 
-        module _ (g : c.count ≡ n) where
-          begun_is : range_front src c ≡ front (flags ∷ []) first
-          unfolding bounds_front pick
-          begun_is = by_opening ∙ rw (f, eq-eqb c.count n g)
+        pub range_unknown : None ≡ result_ok o → shut ≡ begin_at (range_front src c) at out
+        unfolding bounds_front begin_at
+        range_unknown q = let f : o ≡ Err (unopened o q).0 = (unopened o q).1 in rw (by_opening, f)
 
-          pub range_not : 65535 ≤ at → shut ≡ begin_at (range_front src c) at out
-          range_not l = rw begun_is (begun_not (flags ∷ []) first at out 1 refl (omega arith))
+        module _ (b : Opening) (q : Some b ≡ result_ok o) where
+          f : o ≡ Ok b
+          f = opened o b q
 
-          pub range_begun : at < 65535 → (out' : List ℕ) → out' ≡ set out at (get_or src c.start 0) → begins first (at + 1) out' ≡ begin_at (range_front src c) at out
-          unfolding flags
-          range_begun l out' x = rw begun_is (begun (flags ∷ []) first at out 1 refl (omega arith) out' x)
+          pub range_other : (c.count ≡ b.count → ⊥) → shut ≡ begin_at (range_front src c) at out
+          unfolding bounds_front begin_at pick
+          range_other g = rw (by_opening, f, ne_eqb c.count b.count g)
+
+          module _ (g : c.count ≡ b.count) where
+            begun_is : range_front src c ≡ front (flags ∷ []) b.first
+            unfolding bounds_front pick
+            begun_is = by_opening ∙ rw (f, eq-eqb c.count b.count g)
+
+            pub range_not : 65535 ≤ at → shut ≡ begin_at (range_front src c) at out
+            range_not l = rw begun_is (begun_not (flags ∷ []) b.first at out 1 refl (omega arith))
+
+            pub range_begun : at < 65535 → (out' : List ℕ) → out' ≡ set out at (get_or part 0 0) → begins b.first (at + 1) out' ≡ begin_at (range_front src c) at out
+            range_begun l out' x = rw begun_is (begun (flags ∷ []) b.first at out 1 refl (omega arith) out' (x ∙ ap (set out at) flags_is))
 
   -- the first index
-  first_bound : (flags : ℕ) (b : List ℕ) (first : ℕ) (o : Opening) → ((n i from : ℕ) → o ≡ Elements n i from → i ≤ 2) → bounds_front flags c.count o ≡ front b first → first ≤ 2
+  first_bound : (flags : ℕ) (b : List ℕ) (first : ℕ) (o : Result Opening ℕ) → ((x : Opening) → o ≡ Ok x → x.first ≤ 2) → bounds_front flags c.count o ≡ front b first → first ≤ 2
   unfolding bounds_front pick
-  first_bound f b first (Wrong n) h e = let z : ◌≡◌ {A = ℕ} 0 1 = cc in absurd (omega arith)
-  first_bound f b first (Elements n i from) h e = go (eqb c.count n) e
+  first_bound f b first (Err n) h e = cc
+  first_bound f b first (Ok o) h e = go (eqb c.count o.count) e
     where
-      go : (t : Bool) → pick t (front (f ∷ []) i) no_front ≡ front b first → first ≤ 2
-      go true g = let x : i ≡ first = cc in omega (arith, h n i from refl)
-      go false g = let z : ◌≡◌ {A = ℕ} 0 1 = cc in absurd (omega arith)
+      go : (t : Bool) → pick t (front (f ∷ []) o.first) no_front ≡ front b first → first ≤ 2
+      go true g = let x : o.first ≡ first = cc in omega (arith, h o refl)
+      go false g = cc
 
   pub range_first : (b : List ℕ) (first : ℕ) → range_front src c ≡ front b first → first ≤ 2
   unfolding range_front pick
   range_first b first e =
       elim (dec_lt c.start (length src)) [
-        | yes h ↦ first_bound _ b first (range_opening (take (c.start + 1 - c.start) (drop c.start src)))
-            (λ n i from f. omega (arith, (range_opened (take (c.start + 1 - c.start) (drop c.start src)) n i from f).0))
-            (sym (by_opening h _ refl) ∙ e)
+        | yes h ↦ let part : List ℕ = take (c.start + 1 - c.start) (drop c.start src) in
+            first_bound _ b first (range_opening part) (λ o f. omega (arith, (range_opened part o f).0)) (sym (by_opening h part refl _ refl) ∙ e)
         | no h ↦ let f = rw (le-ltb c.start (length src) (omega arith)) at e in let z : ◌≡◌ {A = ℕ} 0 1 = cc in absurd (omega arith)
       ]
 
@@ -181,7 +199,10 @@ module _ (p : List ℕ) (k kind : ℕ) (is : Container p k kind) (src : List ℕ
       (λ e. absurd (omega arith)) (λ e. absurd (omega arith)) (λ e. absurd (omega arith)) (λ e. absurd (omega arith)) (λ e. refl) (λ e. absurd (omega arith))
 
   -- a tuple or an object has as many elements as its node says
-  module _ (a : At p k) (n : ℕ) (en : n ≡ get_or p (k + 1) 0) (low : 4 ≤ kind) (n₆ : kind ≡ 6 → ⊥) (n₇ : kind ≡ 7 → ⊥) where
+  module _ (a : At p k) (n : ℕ) (en : n ≡ get_or p (k + 1) 0) (n₇ : kind ≡ 7 → ⊥) (n₂ : (kind ≡ 2) ⊎ (kind ≡ 3) → ⊥) (n₆ : kind ≡ 6 → ⊥) where
+    low : 4 ≤ kind
+    low = omega (arith, is.low, λ (e : kind ≡ 2). n₂ (inl e), λ (e : kind ≡ 3). n₂ (inr e))
+
     counted : front_of (look p k) src c ≡ count_front n c
     unfolding front_of
     counted = by_kind p k kind is (λ m v. get_or p k 0 ≡ m → 4 ≤ m → (m ≡ 6 → ⊥) → (m ≡ 7 → ⊥) → front_of v src c ≡ count_front n c)

@@ -2,12 +2,13 @@
 use mathlib.Core.Path.{◌≡◌, refl}
 use mathlib.Core.Bool.{Bool, true, false, not}
 use mathlib.Core.List.{List, ◌++◌}
+use mathlib.Core.Logic.{◌⊎◌, inl, inr}
 use Prim.Native.Nat.{ℕ, ◌+◌, ◌≤◌}
 use native.Mathlib.Omega.{arith}
 use lib.Dec.{eqb}
 use lib.ListN.{length, get_or, length-append}
 use lib.Seq.{sets}
-use borrow.Author.Tests.{eq-eqb, ne_eqb}
+use borrow.Author.Tests.{ne_eqb}
 use Rattle.wire.proofs.Numbers.{length_bytes}
 use Rattle.wire.proofs.Picks.{clash}
 use Rattle.value_parts.specs.Walk.{Container}
@@ -22,30 +23,21 @@ use Rattle.protocol.specs.Building.{head_bytes, may_lack}
 
 -- ---- as the code puts it
 
-module _ (kind i n at : ℕ) (l l' : List ℕ) where
-  pub head_envelope : kind ≡ 3 → (l'' : List ℕ) → l'' ≡ sets l at (bytes_be 4 (12 + n) ++ bytes_be 4 1) → l' ≡ sets l'' (at + 8) (bytes_be 4 0 ++ bytes_be 4 n)
-      → l' ≡ sets l at (head_of kind i n)
+-- of the kinds that no arm of a match names
+module _ (kind : ℕ) (n₃ : kind ≡ 3 → ⊥) where
+  pub size_other : ((kind ≡ 2) ⊎ (kind ≡ 7) → ⊥) → 8 ≡ head_size kind
+  unfolding head_size pick
+  size_other n = rw (ne_eqb kind 3 n₃, ne_eqb kind 2 (λ e. n (inl e)), ne_eqb kind 7 (λ e. n (inr e)))
+
+  pub head_other : (kind ≡ 6 → ⊥) → ((kind ≡ 2) ⊎ (kind ≡ 7) → ⊥) → (i n at : ℕ) (l l' : List ℕ) → l' ≡ sets l at (bytes_be 4 0 ++ bytes_be 4 n) → l' ≡ sets l at (head_of kind i n)
   unfolding head_of pick bytes_be with_kind head_bytes
-  head_envelope e l'' f g = rw (eq-eqb kind 3 e) (put_eight l l'' l' at (12 + n) 1 (bytes_be 4 0 ++ bytes_be 4 n) f g)
+  head_other n₆ n i size at l l' f =
+      rw (ne_eqb kind 3 n₃, ne_eqb kind 6 n₆, ne_eqb kind 2 (λ e. n (inl e)), ne_eqb kind 7 (λ e. n (inr e))) f
 
-  module _ (n₃ : kind ≡ 3 → ⊥) where
-    pub head_index : kind ≡ 6 → l' ≡ sets l at (bytes_be 4 i ++ bytes_be 4 n) → l' ≡ sets l at (head_of kind i n)
-    unfolding head_of pick with_kind head_bytes
-    head_index e f = rw (ne_eqb kind 3 n₃, eq-eqb kind 6 e) f
-
-    module _ (n₆ : kind ≡ 6 → ⊥) where
-      pub head_set : kind ≡ 2 → l' ≡ sets l at (bytes_be 4 n) → l' ≡ sets l at (head_of kind i n)
-      unfolding head_of pick with_kind head_bytes
-      head_set e f = rw (ne_eqb kind 3 n₃, ne_eqb kind 6 n₆, eq-eqb kind 2 e) f
-
-      module _ (n₂ : kind ≡ 2 → ⊥) where
-        pub head_range : kind ≡ 7 → l' ≡ sets l at (bytes_be 4 n) → l' ≡ sets l at (head_of kind i n)
-        unfolding head_of pick with_kind head_bytes
-        head_range e f = rw (ne_eqb kind 3 n₃, ne_eqb kind 6 n₆, ne_eqb kind 2 n₂, eq-eqb kind 7 e) f
-
-        pub head_reserved : (kind ≡ 7 → ⊥) → l' ≡ sets l at (bytes_be 4 0 ++ bytes_be 4 n) → l' ≡ sets l at (head_of kind i n)
-        unfolding head_of pick bytes_be with_kind head_bytes
-        head_reserved n₇ f = rw (ne_eqb kind 3 n₃, ne_eqb kind 6 n₆, ne_eqb kind 2 n₂, ne_eqb kind 7 n₇) f
+pub head_envelope : (i n at : ℕ) (l l' l'' : List ℕ) → l'' ≡ sets l at (bytes_be 4 (12 + n) ++ bytes_be 4 1) → l' ≡ sets l'' (at + 8) (bytes_be 4 0 ++ bytes_be 4 n)
+    → l' ≡ sets l at (head_of 3 i n)
+unfolding head_of pick bytes_be with_kind head_bytes
+head_envelope i n at l l' l'' f g = put_eight l l'' l' at (12 + n) 1 (bytes_be 4 0 ++ bytes_be 4 n) f g
 
 -- ---- as the definition has it
 
@@ -76,21 +68,15 @@ module _ (p : List ℕ) (k kind : ℕ) (c : Container p k kind) (i n : ℕ) wher
   head_length =
       by_kind p k kind c (λ m v. length (head_bytes v i n) ≡ head_size m) (length_bytes 4 n) envelope reserved reserved (pair i n) (length_bytes 4 n)
 
-size_between : (kind : ℕ) → (4 ≤ head_size kind) × (head_size kind ≤ 16)
-unfolding head_size pick
-size_between kind = go (eqb kind 3) (eqb kind 2) (eqb kind 7)
-  where
-    go : (a b c : Bool) → (4 ≤ pick a 16 (pick b 4 (pick c 4 8))) × (pick a 16 (pick b 4 (pick c 4 8)) ≤ 16)
-    go true b c = (omega arith, omega arith)
-    go false true c = (omega arith, omega arith)
-    go false false true = (omega arith, omega arith)
-    go false false false = (omega arith, omega arith)
-
-pub size_some : (kind : ℕ) → 4 ≤ head_size kind
-size_some kind = (size_between kind).0
-
 pub size_few : (kind : ℕ) → head_size kind ≤ 16
-size_few kind = (size_between kind).1
+unfolding head_size pick
+size_few kind = go (eqb kind 3) (eqb kind 2) (eqb kind 7)
+  where
+    go : (a b c : Bool) → pick a 16 (pick b 4 (pick c 4 8)) ≤ 16
+    go true b c = omega arith
+    go false true c = omega arith
+    go false false true = omega arith
+    go false false false = omega arith
 
 -- ---- an element that may be absent
 

@@ -6,13 +6,13 @@ use Prim.Native.Nat.{ℕ, ◌+◌, ◌-◌, ◌<◌, ◌≤◌}
 use native.Mathlib.Omega.{arith}
 use native.Mathlib.Nat.{add_assoc}
 use lib.Dec.{leb}
+use Rattle.std.specs.Prelude.{Option, Some, None}
 use lib.ListN.{length, drop, length-append}
 use lib.Seq.{sets}
 use borrow.Author.Tests.{le-leb, lt-leb, leb-true, leb-false}
 use Rattle.wire.proofs.Stores.{sets_append}
 use Rattle.supply_entries.specs.Emitting.{Stand, broken, stands, put_at, stand_of}
 use Rattle.supply_entries.specs.declared.Built.{Built}
-use Rattle.supply_entries.specs.declared.Built.TheVariants.{Failed, Done}
 use Rattle.supply_entries.proofs.Stores.{sets_before}
 use Rattle.protocol.specs.Numbers.{pick}
 use Rattle.protocol.specs.Nodes.{Node}
@@ -20,14 +20,14 @@ use Rattle.protocol.specs.Building.{Made, wrong, made, made_before, then_made, h
 
 -- ---- a call's answer
 
-module _ (r : Built) (list out : List ℕ) (x : Stand) (q : stand_of r list out ≡ x) where
-  pub failed_is : r ≡ Failed → broken ≡ x
+module _ (r : Option Built) (list out : List ℕ) (x : Stand) (q : stand_of r list out ≡ x) where
+  pub none_is : r ≡ None → broken ≡ x
   unfolding stand_of
-  failed_is e = rw e at q
+  none_is e = rw e at q
 
-  pub done_is : (w a : ℕ) → r ≡ Done w a → stands (drop w list) a out ≡ x
+  pub built_is : (b : Built) → r ≡ Some b → stands (drop b.word list) b.at out ≡ x
   unfolding stand_of
-  done_is w a e = rw e at q
+  built_is b e = rw e at q
 
 -- ---- bytes that fit or not
 

@@ -1,11 +1,11 @@
 -- The laws of stores that come before others in the output and after them in time.
 use mathlib.Core.Path.{◌≡◌, refl, ap, sym, ◌∙◌}
-use mathlib.Core.List.{List, [], ◌∷◌, ◌++◌, append-nil, append_assoc}
-use Prim.Native.Nat.{ℕ, suc, ◌+◌, ◌<◌}
+use mathlib.Core.List.{List, [], ◌∷◌, ◌++◌, append_assoc}
+use Prim.Native.Nat.{ℕ, suc, ◌+◌, ◌/◌, ◌%◌, ◌<◌}
 use native.Mathlib.Omega.{arith}
-use native.Mathlib.Nat.{add-zero}
-use lib.ListN.{length, set, drop, length-append, drop_of_length-le}
-use lib.Seq.{sets, set_comm, sets-eq}
+use native.Mathlib.Nat.{add-zero, div-div-eq-div-mul}
+use lib.ListN.{length, set, length-append}
+use lib.Seq.{sets, set_comm}
 use Rattle.wire.proofs.Numbers.{length_bytes}
 use Rattle.wire.proofs.Stores.{sets_append}
 use Rattle.protocol.specs.Numbers.{bytes_be}
@@ -40,12 +40,7 @@ put_eight l l' l'' at a b bs f g =
     put_after 8 l l' l'' at (bytes_be 4 a ++ bytes_be 4 b) bs (omega (arith, length-append (bytes_be 4 a) (bytes_be 4 b), length_bytes 4 a, length_bytes 4 b)) f g
     ∙ ap (sets l at) (append_assoc (bytes_be 4 a) (bytes_be 4 b) bs)
 
--- stores that fill a list
-pub sets_all : (l vs : List ℕ) → length l ≡ length vs → sets l 0 vs ≡ vs
-sets_all l vs e =
-    let d : drop (0 + length vs) l ≡ [] = drop_of_length-le l {i = 0 + length vs} (omega arith) in
-    sets-eq vs l 0 (omega arith) ∙ ap (λ (k : List ℕ). vs ++ k) d ∙ append-nil vs
-
--- a number of four bytes, put through an array of four
-pub put_through : (v at : ℕ) (l l' bytes : List ℕ) → bytes ≡ sets (0 ∷ 0 ∷ 0 ∷ 0 ∷ []) 0 (bytes_be 4 v) → l' ≡ sets l at bytes → l' ≡ sets l at (bytes_be 4 v)
-put_through v at l l' bytes e f = f ∙ ap (sets l at) (e ∙ sets_all (0 ∷ 0 ∷ 0 ∷ 0 ∷ []) (bytes_be 4 v) (sym (length_bytes 4 v)))
+-- the four bytes of a number, as std has them
+pub four_bytes : (v : ℕ) → v / 16777216 % 256 ∷ v / 65536 % 256 ∷ v / 256 % 256 ∷ v % 256 ∷ [] ≡ bytes_be 4 v
+unfolding bytes_be
+four_bytes v = simp div-div-eq-div-mul

@@ -6,6 +6,7 @@ use mathlib.Core.Logic.{⊎_elim}
 use Prim.Native.Nat.{ℕ, ◌+◌, ◌≤◌}
 use native.Mathlib.Omega.{arith}
 use lib.Dec.{eqb}
+use Rattle.std.specs.Prelude.{Option, Some, None}
 use lib.ListN.{length, get_or}
 use borrow.Author.Tests.{eq-eqb, ne_eqb, eqb-true}
 use Rattle.wire.proofs.Picks.{same_or_not}
@@ -16,7 +17,6 @@ use Rattle.value_parts.proofs.Nodes.{scalar_kind}
 use Rattle.value_parts.proofs.Members.{is_row}
 use Rattle.supply_entries.specs.Emitting.{broken, put_at, shut, begin_at, beginning_of}
 use Rattle.supply_entries.specs.declared.Opened.{Opened}
-use Rattle.supply_entries.specs.declared.Opened.TheVariants.{Shut, Open}
 use Rattle.supply_entries.proofs.Enough.{build_step}
 use Rattle.supply_entries.proofs.Stands.{put_before_lem, before_past}
 use Rattle.supply_entries.proofs.Fronts.{Began, began_is, shut_is, range_first}
@@ -163,8 +163,8 @@ module _ (src p : List ℕ) (k : ℕ) (a : At p k) (c : Claim) (rest ws : List �
       unfolding node_made
       sparse_is y = node_is ∙ rw (look_sparse p k (sym is.is ∙ y))
 
-      module _ (r : Opened) (out' : List ℕ) (q : beginning_of r out' ≡ begin_at (front_of (look p k) src c) at out) where
-        pub value_shut : r ≡ Shut → broken ≡ put_at (build_of src (look p) k c.index ws) at out
+      module _ (r : Option Opened) (out' : List ℕ) (q : beginning_of r out' ≡ begin_at (front_of (look p k) src c) at out) where
+        pub value_shut : r ≡ None → broken ≡ put_at (build_of src (look p) k c.index ws) at out
         unfolding beginning_of
         value_shut o =
             let s = rw o at q in
@@ -173,27 +173,27 @@ module _ (src p : List ℕ) (k : ℕ) (a : At p k) (c : Claim) (rest ws : List �
             (λ (y : kind ≡ 6 → ⊥). rw (row_is y) (row_shut (build_of src (look p)) (look p k) (front_of (look p k) src c) c rest at out s))
             (same_or_not kind 6)
 
-        module _ (first from : ℕ) (o : r ≡ Open first from) where
-          began : Began (front_of (look p k) src c) at out first from out'
+        module _ (b : Opened) (o : r ≡ Some b) where
+          began : Began (front_of (look p k) src c) at out b.first b.at out'
           unfolding beginning_of
-          began = began_is (front_of (look p k) src c) at out first from out' (rw o at q)
+          began = began_is (front_of (look p k) src c) at out b.first b.at out' (rw o at q)
 
-          pub opened_small : from ≤ 65535
+          pub opened_small : b.at ≤ 65535
           opened_small = began.small
 
           pub value_sparse : kind ≡ 6
-              → put_at (elements_made (sparse_order (cards_at p k)) (build_of src (look p)) (look p k) c.count no_marks rest) from out'
+              → put_at (elements_made (sparse_order (cards_at p k)) (build_of src (look p)) (look p k) c.count no_marks rest) b.at out'
               ≡ put_at (build_of src (look p) k c.index ws) at out
           value_sparse y =
-              rw (sparse_is y) (ap (λ (v : Node). put_at (elements_made (sparse_order (cards_at p k)) (build_of src (look p)) v c.count no_marks rest) from out') (look_sparse p k (sym is.is ∙ y))
-              ∙ sparse_begun (build_of src (look p)) (refs_at p k) (cards_at p k) (front_of (look p k) src c) c rest at out first from out' began)
+              rw (sparse_is y) (ap (λ (v : Node). put_at (elements_made (sparse_order (cards_at p k)) (build_of src (look p)) v c.count no_marks rest) b.at out') (look_sparse p k (sym is.is ∙ y))
+              ∙ sparse_begun (build_of src (look p)) (refs_at p k) (cards_at p k) (front_of (look p k) src c) c rest at out b.first b.at out' began)
 
           module _ (y : kind ≡ 6 → ⊥) where
-            pub value_row : put_at (elements_made row_order (build_of src (look p)) (look p k) c.count first rest) from out' ≡ put_at (build_of src (look p) k c.index ws) at out
-            value_row = rw (row_is y) (row_begun (build_of src (look p)) (look p k) (front_of (look p k) src c) c rest at out first from out' began)
+            pub value_row : put_at (elements_made row_order (build_of src (look p)) (look p k) c.count b.first rest) b.at out' ≡ put_at (build_of src (look p) k c.index ws) at out
+            value_row = rw (row_is y) (row_begun (build_of src (look p)) (look p k) (front_of (look p k) src c) c rest at out b.first b.at out' began)
 
-            pub opened_holds : Holds (look p k) (first + c.count)
-            opened_holds = front_holds (look p k) src c began.bytes first (is_row p k a kind is (λ f. y (is.is ∙ f))) began.is
+            pub opened_holds : Holds (look p k) (b.first + c.count)
+            opened_holds = front_holds (look p k) src c began.bytes b.first (is_row p k a kind is (λ f. y (is.is ∙ f))) began.is
 
-            pub opened_first : first ≤ 2
-            opened_first = front_first (look p k) src c began.bytes first (is_row p k a kind is (λ f. y (is.is ∙ f))) began.is
+            pub opened_first : b.first ≤ 2
+            opened_first = front_first (look p k) src c began.bytes b.first (is_row p k a kind is (λ f. y (is.is ∙ f))) began.is

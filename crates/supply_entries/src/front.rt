@@ -10,78 +10,66 @@ ghost use Rattle.protocol.specs.Building.{front, set_bytes, range_front, front_o
 
 use crate::head::{put_byte, put_pair, put_word};
 use crate::{Entry, Opened};
-use forms::Opening;
 
 // A set or an array: no dimension where it is empty; else one, with as many elements as it says, and the lower bound 1.
-fn set_front(count: u32, out: &mut [u8], at: usize) -> Opened
+fn set_front(count: u32, out: &mut [u8], at: usize) -> Option<Opened>
     requires { at ≤ 65551 }
     ensures { beginning_of result out.new ≡ begin_at (front (set_bytes count) 0) at out.old }
 {
     if count == 0 {
         if constants::MOST_VALUE < at + 12 {
-            return Opened::Shut;
+            return None;
         }
         put_pair(0, 0, out, at);
         put_word(0, out, at + 8);
-        return Opened::Open {
+        return Some(Opened {
             first: 0,
             at: at + 12,
-        };
+        });
     }
     if constants::MOST_VALUE < at + 20 {
-        return Opened::Shut;
+        return None;
     }
     put_pair(1, 0, out, at);
     put_pair(0, count, out, at + 8);
     put_word(1, out, at + 16);
-    Opened::Open {
+    Some(Opened {
         first: 0,
         at: at + 20,
-    }
+    })
 }
 
 // A tuple or an object, sparse or not: the number of its elements.
-fn count_front(count: u32, out: &mut [u8], at: usize) -> Opened
+fn count_front(count: u32, out: &mut [u8], at: usize) -> Option<Opened>
     requires { at ≤ 65551 }
     ensures { beginning_of result out.new ≡ begin_at (front (bytes_be 4 count) 0) at out.old }
 {
     if constants::MOST_VALUE < at + 4 {
-        return Opened::Shut;
+        return None;
     }
     put_word(count, out, at);
-    Opened::Open {
+    Some(Opened {
         first: 0,
         at: at + 4,
-    }
+    })
 }
 
 // A range: its flags, which lie at its start in the source and must be known and promise as many bounds as the entry has below it.
-fn range_front(src: &[u8], entry: Entry, out: &mut [u8], at: usize) -> Opened
+fn range_front(src: &[u8], entry: Entry, out: &mut [u8], at: usize) -> Option<Opened>
     requires { at ≤ 65551 }
     ensures { beginning_of result out.new ≡ begin_at (range_front src.now (claim entry)) at out.old }
 {
     let s = entry.start as usize;
-    if src.len() <= s {
-        return Opened::Shut;
+    let flags = src.get(s..s + 1)?;
+    let opening = value_openings::range_opening(flags).ok()?;
+    if entry.count as usize != opening.count || constants::MOST_VALUE <= at {
+        return None;
     }
-    let e = s + 1;
-    let opening = value_openings::range_opening(&src[s..e]);
-    let Opening::Elements {
-        count,
-        first,
-        at: _,
-    } = opening
-    else {
-        return Opened::Shut;
-    };
-    if entry.count as usize != count {
-        return Opened::Shut;
-    }
-    if constants::MOST_VALUE <= at {
-        return Opened::Shut;
-    }
-    put_byte(src[s], out, at);
-    Opened::Open { first, at: at + 1 }
+    put_byte(flags[0], out, at);
+    Some(Opened {
+        first: opening.first,
+        at: at + 1,
+    })
 }
 
 // The head of a container. Where the descriptor says how many elements there are, the entry must have as many below it.
@@ -93,21 +81,19 @@ pub fn put_front(
     entry: Entry,
     out: &mut [u8],
     at: usize,
-) -> Opened
+) -> Option<Opened>
     requires { (At plan.now node) × (Container plan.now node kind) × (at ≤ 65551) }
     ensures { beginning_of result out.new ≡ begin_at (front_of (look plan.now node) src.now (claim entry)) at out.old }
 {
-    if kind == constants::KIND_RANGE {
-        return range_front(src, entry, out, at);
+    match kind {
+        constants::KIND_RANGE => range_front(src, entry, out, at),
+        constants::KIND_SET_OR_ARRAY | constants::KIND_SET_OF_ARRAYS => {
+            set_front(entry.count, out, at)
+        },
+        constants::KIND_INPUT_OBJECT => count_front(entry.count, out, at),
+        _ if entry.count as usize == plan_nodes::node::second_at(plan, node) => {
+            count_front(entry.count, out, at)
+        },
+        _ => None,
     }
-    if kind < constants::KIND_TUPLE {
-        return set_front(entry.count, out, at);
-    }
-    if kind == constants::KIND_INPUT_OBJECT {
-        return count_front(entry.count, out, at);
-    }
-    if entry.count as usize == plan_nodes::node::second_at(plan, node) {
-        return count_front(entry.count, out, at);
-    }
-    Opened::Shut
 }

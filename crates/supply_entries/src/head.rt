@@ -17,16 +17,11 @@ pub fn put_byte(v: u8, out: &mut [u8], at: usize)
 pub fn put_word(v: u32, out: &mut [u8], at: usize)
     ensures { out.new ≡ sets out.old at (bytes_be 4 v) }
 {
-    if out.len() <= at {
-        return;
+    if at < out.len() && 4 <= out.len() - at {
+        wire::be::put_u32(out, at, v);
+    } else {
+        wire::copy::put_bytes(&v.to_be_bytes(), out, at);
     }
-    if out.len() - at < 4 {
-        let mut bytes = [0u8; 4];
-        wire::be::put_u32(&mut bytes, 0, v);
-        wire::copy::put_bytes(&bytes, out, at);
-        return;
-    }
-    wire::be::put_u32(out, at, v);
 }
 
 // Two numbers, one after the other.
@@ -43,16 +38,11 @@ pub fn put_pair(a: u32, b: u32, out: &mut [u8], at: usize)
 pub fn head_size(kind: u32) -> usize
     ensures { result ≡ head_size kind }
 {
-    if kind == constants::KIND_SET_OF_ARRAYS {
-        return 16;
+    match kind {
+        constants::KIND_SET_OF_ARRAYS => 16,
+        constants::KIND_SET_OR_ARRAY | constants::KIND_RANGE => 4,
+        _ => 8,
     }
-    if kind == constants::KIND_SET_OR_ARRAY {
-        return 4;
-    }
-    if kind == constants::KIND_RANGE {
-        return 4;
-    }
-    8
 }
 
 // The head of the element with an index, whose data has n bytes: in a set of arrays the envelope's four numbers (R5.6), in a sparse object (6)
@@ -62,22 +52,13 @@ pub fn put_head(kind: u32, index: u32, n: u32, out: &mut [u8], at: usize)
     requires { (at ≤ 65535) × (kind ≡ 3 → n ≤ 65535) }
     ensures { out.new ≡ sets out.old at (head_of kind index n) }
 {
-    if kind == constants::KIND_SET_OF_ARRAYS {
-        put_pair(12 + n, 1, out, at);
-        put_pair(0, n, out, at + 8);
-        return;
+    match kind {
+        constants::KIND_SET_OF_ARRAYS => {
+            put_pair(12 + n, 1, out, at);
+            put_pair(0, n, out, at + 8);
+        },
+        constants::KIND_INPUT_OBJECT => put_pair(index, n, out, at),
+        constants::KIND_SET_OR_ARRAY | constants::KIND_RANGE => put_word(n, out, at),
+        _ => put_pair(0, n, out, at),
     }
-    if kind == constants::KIND_INPUT_OBJECT {
-        put_pair(index, n, out, at);
-        return;
-    }
-    if kind == constants::KIND_SET_OR_ARRAY {
-        put_word(n, out, at);
-        return;
-    }
-    if kind == constants::KIND_RANGE {
-        put_word(n, out, at);
-        return;
-    }
-    put_pair(0, n, out, at);
 }

@@ -19,25 +19,18 @@ pub struct Entry {
     pub count: u32,
 }
 
-// The next entry of a list, if its words are all there.
+// A container's head that was put out: the index of its first element, and the next byte of the output.
 #[derive(Clone, Copy)]
-pub enum Read {
-    Short,
-    Whole(Entry),
+pub struct Opened {
+    pub first: usize,
+    pub at: usize,
 }
 
-// A container's head that was put out: the index of its first element, and the next byte of the output; or a fault.
+// Where what was built ends: the next word of the list and the next byte of the output.
 #[derive(Clone, Copy)]
-pub enum Opened {
-    Shut,
-    Open { first: usize, at: usize },
-}
-
-// A building so far: a fault, or the next word of the list and the next byte of the output.
-#[derive(Clone, Copy)]
-pub enum Built {
-    Failed,
-    Done { word: usize, at: usize },
+pub struct Built {
+    pub word: usize,
+    pub at: usize,
 }
 
 // Where a row of elements stands: the index of its next element, the next word of the list and the next byte of the output.
@@ -46,13 +39,6 @@ pub struct Place {
     pub index: usize,
     pub word: usize,
     pub at: usize,
-}
-
-// A leaf that was put out, and how many bytes it has with its head; or another element, and nothing was put out.
-#[derive(Clone, Copy)]
-pub enum Emitted {
-    Leaf { size: usize },
-    Other,
 }
 
 // Where the leaves that a sparse object starts with end: the set of their indexes and how many of those are required, how many elements are

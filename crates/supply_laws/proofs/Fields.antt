@@ -10,12 +10,12 @@ use lib.Dec.{lit<}
 use lib.ListN.{length, take, drop, get_or, length-append, length-take, length-drop, get_or-append, get_or-eq_default, set as store}
 use lib.Seq.{take-add, drop-drop, take-take, take-nil, length-take-le, take-suc, get_or-take, get_or-drop}
 use borrow.Author.Tests.{eqb-true, eqb-false, ltb-false, lt-ltb, eq-eqb, ne_eqb}
+use Rattle.std.specs.Prelude.{Result, Ok, Err}
 use Rattle.wire.proofs.Numbers.{bytes_be_lem, length_bytes}
 use Rattle.wire.proofs.Picks.{pick_case}
 use Rattle.forms.specs.declared.Opening.{Opening}
-use Rattle.forms.specs.declared.Opening.TheVariants.{Elements, Wrong}
 use Rattle.forms.specs.declared.Head.{Head}
-use Rattle.forms.specs.declared.Head.TheVariants.{Present, Absent, Fault}
+use Rattle.forms.specs.declared.Head.TheVariants.{Present, Absent}
 use Rattle.value_heads.proofs.Cases.{sized_cases, plain_cases, index_cases}
 use Rattle.value_laws.proofs.Parts.{Stands}
 use Rattle.protocol.specs.Numbers.{pick, bytes_be}
@@ -116,17 +116,17 @@ pub record Element {S : Type 0} (order : Order S) (v : Node) (s : List ℕ) (st 
   pub head : HeadOf v s at i start n
 
 module _ {S : Type 0} (form : Form S) (order : Order S) (v : Node) (s : List ℕ) (st : S) (at : ℕ) where
-  abbrev pub Again : Head → Type 0
-  Again (Fault n) = Unit {0}
-  Again (Absent i start) = (may_lack v i ≡ true) × (start ≤ length s) × Element order v s st at (form.next st (Absent i start)) i start ABSENT
-  Again (Present i start n) = (start + n ≤ length s) × Element order v s st at (form.next st (Present i start n)) i start n
+  abbrev pub Again : Result Head ℕ → Type 0
+  Again (Err n) = Unit {0}
+  Again (Ok (Absent i start)) = (may_lack v i ≡ true) × (start ≤ length s) × Element order v s st at (form.next st (Ok (Absent i start))) i start ABSENT
+  Again (Ok (Present i start n)) = (start + n ≤ length s) × Element order v s st at (form.next st (Ok (Present i start n))) i start n
 
 -- an element that may be absent: the case law of value_heads/proofs/Cases, with the length
-optional_all : (P : Head → Type 0) → ((m : ℕ) → 0 < m → P (Fault m)) → (s : List ℕ) (required : Bool) (i start size : ℕ)
-    → (required ≡ false → size ≡ ABSENT → P (Absent i start)) → (size < 2 ^ 31 → size ≤ length s - start → P (Present i start size)) → P (optional s required i start size)
+optional_all : (P : Result Head ℕ → Type 0) → ((m : ℕ) → P (Err m)) → (s : List ℕ) (required : Bool) (i start size : ℕ)
+    → (required ≡ false → size ≡ ABSENT → P (Ok (Absent i start))) → (size < 2 ^ 31 → size ≤ length s - start → P (Ok (Present i start size))) → P (optional s required i start size)
 unfolding optional
 optional_all P bad s required i start size none good =
-    pick_case P _ _ _ (λ g. pick_case P _ _ _ (λ _. bad 27 (lit< tt)) (λ r. none r (eqb-true _ _ g))) (λ _. sized_cases P bad s i start size good)
+    pick_case P _ _ _ (λ g. pick_case P _ _ _ (λ _. bad 27) (λ r. none r (eqb-true _ _ g))) (λ _. sized_cases P bad s i start size good)
 
 -- one after the other
 module _ (s : List ℕ) (b : Bytes s) (i at : ℕ) where
@@ -136,7 +136,7 @@ module _ (s : List ℕ) (b : Bytes s) (i at : ℕ) where
   -- a length alone, before the element
   plain_head_lem : (v : Node) → ((n : ℕ) → head_bytes v i n ≡ bytes_be 4 n) → ((h : List ℕ) → zero_head v h ≡ h) → Again (row_form v s) row_order v s i at (plain_head s 0 i at)
   plain_head_lem v p q =
-      plain_cases (Again (row_form v s) row_order v s i at) (λ _ _. tt) s 0 i at
+      plain_cases (Again (row_form v s) row_order v s i at) (λ _. tt) s 0 i at
       (λ whole low fit.
       let n = word s (at + 0) in
       let e : word s at ≡ n = rw add-zero in
@@ -176,14 +176,14 @@ module _ (s : List ℕ) (b : Bytes s) (i at : ℕ) where
       (λ one. pick_case P _ _ _ (λ _. tt)
       (λ _. pick_case P _ _ _ (λ _. tt)
       (λ _. pick_case P _ _ _
-      (λ e. sized_cases P (λ _ _. tt) s i (at + 16) (word s (at + 12))
+      (λ e. sized_cases P (λ _. tt) s i (at + 16) (word s (at + 12))
       (λ low fit.
       let h : 16 ≤ length s - at = ltb-false _ _ whole in
       (omega arith, envelope_head_lem r _ (omega arith) (eqb-true _ _ e) (eqb-true _ _ one) refl)))
       (λ _. tt))))
       (λ _. tt))
   row_again (tuple refs) =
-      plain_cases (Again (row_form (tuple refs) s) row_order (tuple refs) s i at) (λ _ _. tt) s 4 i at
+      plain_cases (Again (row_form (tuple refs) s) row_order (tuple refs) s i at) (λ _. tt) s 4 i at
       (λ whole low fit.
       let start : at + 4 + 4 ≡ at + 8 = omega arith in
       (omega arith, rw start (gap_head (tuple refs) (λ _. refl) (λ _. refl) _ (omega arith) refl)))
@@ -193,7 +193,7 @@ module _ (s : List ℕ) (b : Bytes s) (i at : ℕ) where
       (λ whole.
       let h : 8 ≤ length s - at = ltb-false _ _ whole in
       let element = gap_head (object refs cards) (λ _. refl) (λ _. refl) in
-      optional_all P (λ _ _. tt) s (requires (get_or cards i 0)) i (at + 8) (word s (at + 4))
+      optional_all P (λ _. tt) s (requires (get_or cards i 0)) i (at + 8) (word s (at + 4))
       (λ r g. (rw r, omega arith, element ABSENT (omega arith) g))
       (λ low fit. (omega arith, element (word s (at + 4)) (omega arith) refl)))
   row_again (sparse refs cards) = tt
@@ -207,7 +207,7 @@ sparse_again s b refs cards marks at =
     let v = sparse refs cards in
     let P = Again (sparse_form cards s) (sparse_order cards) v s marks at in
     let i = word s at in
-    index_cases (λ x. P (sparse_rest s cards at x)) s (length cards) marks at (λ _ _. tt)
+    index_cases (λ x. P (sparse_rest s cards at x)) s (length cards) marks at (λ _. tt)
     (λ whole few new.
     let element : (n : ℕ) → word s (at + 4) ≡ n → Element (sparse_order cards) v s marks at (store marks i true) i (at + 8) n =
     λ n e.
@@ -217,7 +217,7 @@ sparse_again s b refs cards marks at =
       head = record { whole = simp (length-append, length_bytes); same = index_bytes s b at n i (omega arith) refl e };
     }
     in
-    optional_all P (λ _ _. tt) s (requires (get_or cards i 0)) i (at + 8) (word s (at + 4))
+    optional_all P (λ _. tt) s (requires (get_or cards i 0)) i (at + 8) (word s (at + 4))
     (λ r g. (rw r, omega arith, element ABSENT g))
     (λ low fit. (omega arith, element (word s (at + 4)) refl)))
 
@@ -229,14 +229,14 @@ pub record Opens (v : Node) (t src : List ℕ) (base : ℕ) (s : List ℕ) (n fi
   pub whole : length (zero_opening v (take at s)) ≡ at
   pub front : (d : Claim) → n ≡ d.count → SameBytes t src v base (length s) d.start d.size → front_of v src d ≡ front (zero_opening v (take at s)) first
 
-abbrev pub Opened : Node → (t src : List ℕ) → ℕ → List ℕ → Opening → Type 0
-Opened v t src base s (Wrong m) = Unit {0}
-Opened v t src base s (Elements n first at) = Opens v t src base s n first at
+abbrev pub Opened : Node → (t src : List ℕ) → ℕ → List ℕ → Result Opening ℕ → Type 0
+Opened v t src base s (Err m) = Unit {0}
+Opened v t src base s (Ok o) = Opens v t src base s o.count o.first o.at
 
 -- a range's bounds stand after its flags
-abbrev AtOne : Opening → Type 0
-AtOne (Wrong m) = Unit {0}
-AtOne (Elements n first at) = at ≡ 1
+abbrev AtOne : Result Opening ℕ → Type 0
+AtOne (Err m) = Unit {0}
+AtOne (Ok o) = o.at ≡ 1
 
 bounds_one : (fl : ℕ) → AtOne (bounds fl)
 unfolding bounds
@@ -310,18 +310,18 @@ module _ (s : List ℕ) (b : Bytes s) where
 
     -- the flags of a range
     range_bytes : (r : ℕ) → 1 ≤ length s → get_or t base 0 ≡ get_or s 0 0 → range_flags (get_or s 0 0) ≡ true
-        → (o : Opening) → bounds (get_or s 0 0) ≡ o → Opened (range r) t src base s o
+        → (o : Result Opening ℕ) → bounds (get_or s 0 0) ≡ o → Opened (range r) t src base s o
     unfolding zero_opening front_of range_front bounds_front SameBytes SameFlags pick
-    range_bytes r h top good (Wrong m) e = tt
-    range_bytes r h top good (Elements n first at) e =
+    range_bytes r h top good (Err m) e = tt
+    range_bytes r h top good (Ok o) e =
         let fl = get_or s 0 0 in
-        let one : at ≡ 1 = rw e at (bounds_one fl) in
+        let one : o.at ≡ 1 = rw e at (bounds_one fl) in
         let own : take 1 s ≡ fl ∷ [] = take-suc s 0 0 h in
         rw one
         (record {
           inside = h;
           whole = length-take-le 1 s h;
-          front = λ d c f. let x : get_or src d.start 0 ≡ fl = sym f.1 ∙ top in rw (lt-ltb d.start (length src) f.0, x, good, e, ← c, eq-eqb n n refl, own);
+          front = λ d c f. let x : get_or src d.start 0 ≡ fl = sym f.1 ∙ top in rw (lt-ltb d.start (length src) f.0, x, good, e, ← c, eq-eqb o.count o.count refl, own);
         })
 
     pub opened : Stands t base s → (v : Node) → Opened v t src base s (opening_of v s)

@@ -9,12 +9,12 @@ use native.Mathlib.Omega.{arith}
 use lib.Dec.{eqb}
 use lib.ListN.{length, take, drop, get_or, length-take, length-drop}
 use borrow.Author.Tests.{le-ltb}
+use Rattle.std.specs.Prelude.{Result, Ok, Err, IfOk}
 use Rattle.wire.proofs.Picks.{pick_no, pick_case}
 use Rattle.value_heads.specs.Bounds.{Opened}
 use Rattle.forms.specs.declared.Opening.{Opening}
-use Rattle.forms.specs.declared.Opening.TheVariants.{Elements, Wrong}
 use Rattle.forms.specs.declared.Head.{Head}
-use Rattle.forms.specs.declared.Head.TheVariants.{Present, Absent, Fault}
+use Rattle.forms.specs.declared.Head.TheVariants.{Present, Absent}
 use Rattle.value_laws.proofs.Forests.{words_append}
 use Rattle.value_laws.proofs.HeadSizes.{Spaced, row_spaced, sparse_spaced, node_opened}
 use Rattle.supply_laws.proofs.Complete.{zeroed_length, complete}
@@ -82,13 +82,13 @@ module _ (look : ℕ → Node) (t : List ℕ) where
     present_own (some k) i start n h =
         lists k i (base + start) (take n (drop start s)) (simp (length-take, length-drop) (omega arith))
 
-    member_own : (at : ℕ) (h : Head) → Spaced (length s) at h → OwnOf (element_outcome rule ref base s h)
+    member_own : (at : ℕ) (h : Result Head ℕ) → IfOk h (Spaced (length s) at) → OwnOf (element_outcome rule ref base s h)
     unfolding element_outcome
-    member_own at (Fault n) d = tt
-    member_own at (Absent i start) d = absent_own (ref i) i (base + start)
-    member_own at (Present i start n) d = present_own (ref i) i start n d.1
+    member_own at (Err n) d = tt
+    member_own at (Ok (Absent i start)) d = absent_own (ref i) i (base + start)
+    member_own at (Ok (Present i start n)) d = present_own (ref i) i start n d.1
 
-    module _ {S : Type 0} (form : Form S) (spaced : (st : S) (at : ℕ) → Spaced (length s) at (form.head st at)) where
+    module _ {S : Type 0} (form : Form S) (spaced : (st : S) (at : ℕ) → IfOk (form.head st at) (Spaced (length s) at)) where
       elements_own : (n : ℕ) (st : S) (at : ℕ) → OwnOf (elements form rule ref base s n st at)
       unfolding elements container_end Agrees words
       elements_own zero st at = pick_case OwnOf _ _ _ (λ _. pick_case OwnOf _ _ _ (λ _. tt) (λ _ rest. refl)) (λ _. tt)
@@ -108,18 +108,18 @@ module _ (look : ℕ → Node) (t : List ℕ) where
     leaf_own good same = pick_case OwnOf good _ _ (λ _. entry_own same empty (λ rest. refl)) (λ _. tt)
 
   module _ (f : ℕ) (lists : Lists (value look f)) (k i base : ℕ) (s : List ℕ) (inside : base + length s ≤ length t) where
-    row_own : (v : Node) → look k ≡ v → (o : Opening) → Opened (length s) o → (1 ≤ length s → SameBytes t t v base (length s) base (length s)) → OwnOf (row_rule v (value look f) o k i base s)
-    unfolding row_rule Opened
-    row_own v is (Wrong n) h same = tt
-    row_own v is (Elements n first at) h same =
-        under_own k i base s v is (same (omega arith)) _ (elements_own (value look f) lists (ref_at v) base s inside (row_form v s) (λ i at. row_spaced s at v i) n first at)
+    row_own : (v : Node) → look k ≡ v → (o : Result Opening ℕ) → IfOk o (Opened (length s)) → (1 ≤ length s → SameBytes t t v base (length s) base (length s)) → OwnOf (row_rule v (value look f) o k i base s)
+    unfolding row_rule
+    row_own v is (Err n) h same = tt
+    row_own v is (Ok o) h same =
+        under_own k i base s v is (same (omega arith)) _ (elements_own (value look f) lists (ref_at v) base s inside (row_form v s) (λ i at. row_spaced s at v i) o.count o.first o.at)
 
-    sparse_own : (refs cards : List ℕ) → look k ≡ sparse refs cards → (o : Opening) → OwnOf (sparse_rule refs cards (value look f) o k i base s)
+    sparse_own : (refs cards : List ℕ) → look k ≡ sparse refs cards → (o : Result Opening ℕ) → OwnOf (sparse_rule refs cards (value look f) o k i base s)
     unfolding sparse_rule SameBytes
-    sparse_own refs cards is (Wrong n) = tt
-    sparse_own refs cards is (Elements n first at) =
+    sparse_own refs cards is (Err n) = tt
+    sparse_own refs cards is (Ok o) =
         under_own k i base s (sparse refs cards) is tt _
-        (elements_own (value look f) lists (ref_at (sparse refs cards)) base s inside (sparse_form cards s) (λ marks at. sparse_spaced s at cards marks) n no_marks at)
+        (elements_own (value look f) lists (ref_at (sparse refs cards)) base s inside (sparse_form cards s) (λ marks at. sparse_spaced s at cards marks) o.count no_marks o.at)
 
     node_own : (v : Node) → look k ≡ v → OwnOf (by_node v (value look f) k i base s)
     unfolding by_node SameBytes SameLeaf SameFlags

@@ -9,11 +9,12 @@ use lib.Dec.{ltb, eqb}
 use lib.ListN.{length, take, drop, get_or, length-append}
 use lib.Seq.{take-append_seam, drop-append_seam}
 use borrow.Author.Tests.{eqb-true, leb-true, ltb-false, le-ltb, eq-eqb, not-true}
+use Rattle.std.specs.Prelude.{Ok}
 use Rattle.wire.proofs.Picks.{both, pick_split, pick_yes, pick_no}
-use Rattle.forms.specs.declared.Opening.TheVariants.{Elements}
 use Rattle.value_parts.specs.Walk.{IsRow}
 use Rattle.supply_laws.proofs.SoundHeads.{Tail, tail_take, row_present, row_absent, sparse_present, sparse_absent, Opens, opens}
 use Rattle.supply_laws.proofs.SoundReads.{not_made, passed, spared, After, before_parts, Words, words_drop, next_is, Reads, reads_under, reads_alone, agree_present, Laws, Inner, elements_back}
+use Rattle.protocol.specs.Heads.{opening}
 use Rattle.protocol.specs.Scalars.{scalar, enumeration}
 use Rattle.protocol.specs.Constants.{ABSENT}
 use Rattle.protocol.specs.Nodes.{Node, leaf, enum, row, arrays, tuple, object, sparse, range, ref_at}
@@ -102,7 +103,7 @@ module _ (look : ℕ → Node) (t src : List ℕ) (k i base : ℕ) (ws : List �
       below =
           elements_back look t src rule rules zrule inner v base b more stands few order form laws c.count st ws' a.last rest (length o) words_after a.made_is begins
 
-      opening_back : opening_of v b ≡ Elements c.count first (length o)
+      opening_back : opening_of v b ≡ Ok (opening c.count first (length o))
       opening_back =
           ap (opening_of v) a.bytes
           ∙ head.opening (omega (arith, below.1, ap length a.bytes, length-append o a.last)) a.last

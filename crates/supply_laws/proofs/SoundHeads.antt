@@ -12,16 +12,17 @@ use lib.Dec.{ltb, lit<, lit≤}
 use lib.ListN.{length, take, drop, get_or, length-append, length-drop}
 use lib.Seq.{get_or-drop, drop-drop, drop-append-le, take_at, take-append_seam, drop-append_seam}
 use borrow.Author.Tests.{ltb-true, eqb-true, lt-leb, le-ltb, eq-eqb, ne_eqb, not-true}
+use Rattle.std.specs.Prelude.{Result, Ok, Err, IfOk}
+use Rattle.std.proofs.lemmas.Result.{IfOk-at_ok}
 use Rattle.wire.proofs.Numbers.{be_bytes, length_bytes}
 use Rattle.wire.proofs.Picks.{clash, pick_yes, pick_no, pick_case, pick_split}
 use Rattle.forms.specs.declared.Opening.{Opening}
-use Rattle.forms.specs.declared.Opening.TheVariants.{Elements, Wrong}
 use Rattle.forms.specs.declared.Head.{Head}
 use Rattle.forms.specs.declared.Head.TheVariants.{Present, Absent}
 use Rattle.value_heads.proofs.Cases.{sparse_known}
 use Rattle.value_parts.specs.Walk.{IsRow}
 use Rattle.protocol.specs.Numbers.{pick, be, be_from, bytes_be}
-use Rattle.protocol.specs.Heads.{word, negative, set_opening, count_opening, sparse_opening, range_flags, bounds, range_opening, element_in}
+use Rattle.protocol.specs.Heads.{word, negative, opening, set_opening, count_opening, sparse_opening, range_flags, bounds, range_opening, element_in}
 use Rattle.protocol.specs.Heads.{optional, plain_head, object_head, envelope_head, sparse_index, requires, sparse_head, dimension}
 use Rattle.protocol.specs.Constants.{ABSENT}
 use Rattle.protocol.specs.Nodes.{Node, leaf, enum, row, arrays, tuple, object, sparse, range, ref_at}
@@ -78,12 +79,12 @@ tail_within {s = s} {at = at} more b y u w =
 -- ---- the head of an element
 
 module _ (s : List ℕ) (i at n : ℕ) (more : List ℕ) where
-  sized_back : (start : ℕ) → n < 2 ^ 31 → start + n ≤ length s → element_in s i start n ≡ Present i start n
+  sized_back : (start : ℕ) → n < 2 ^ 31 → start + n ≤ length s → element_in s i start n ≡ Ok (Present i start n)
   unfolding element_in negative
   sized_back start small fit = pick_no _ _ _ (lt-leb (2 ^ 31) n small) ∙ pick_no _ _ _ (le-ltb (length s - start) n (omega arith))
 
   plain_back : (gap : ℕ) (z : List ℕ) → length z ≡ gap → n < 2 ^ 31 → n ≤ length more → Tail s at (z ++ (bytes_be 4 n ++ more))
-      → plain_head s gap i at ≡ Present i (at + gap + 4) n
+      → plain_head s gap i at ≡ Ok (Present i (at + gap + 4) n)
   unfolding plain_head
   plain_back gap z e small fit w =
       let w1 : Tail s (at + gap) (bytes_be 4 n ++ more) = rw e at (tail_next z (bytes_be 4 n ++ more) w) in
@@ -92,7 +93,7 @@ module _ (s : List ℕ) (i at n : ℕ) (more : List ℕ) where
       pick_no _ _ _ (le-ltb (length s - at) (gap + 4) (omega arith)) ∙ rw q (sized_back (at + gap + 4) small (omega arith))
 
   optional_back : (required : Bool) → n < 2 ^ 31 → n ≤ length more → Tail s (at + 4) (bytes_be 4 n ++ more)
-      → optional s required i (at + 8) (word s (at + 4)) ≡ Present i (at + 8) n
+      → optional s required i (at + 8) (word s (at + 4)) ≡ Ok (Present i (at + 8) n)
   unfolding optional
   optional_back required small fit w =
       let l = tail_length more (word_next n more w) in
@@ -100,7 +101,7 @@ module _ (s : List ℕ) (i at n : ℕ) (more : List ℕ) where
       rw q (pick_no _ _ _ (ne_eqb n ABSENT (λ e. omega arith)) ∙ sized_back (at + 8) small (omega arith))
 
   envelope_back : 12 + n < 2 ^ 31 → n ≤ length more → Tail s at (bytes_be 4 (12 + n) ++ (bytes_be 4 1 ++ (zeros 4 ++ (bytes_be 4 n ++ more))))
-      → envelope_head s i at ≡ Present i (at + 16) n
+      → envelope_head s i at ≡ Ok (Present i (at + 16) n)
   unfolding envelope_head negative
   envelope_back small fit w =
       let w1 = word_next (12 + n) _ w in
@@ -120,26 +121,26 @@ module _ (s : List ℕ) (i at n : ℕ) (more : List ℕ) where
 
 -- an element that is not there
 gone_back : (s : List ℕ) (i at : ℕ) (more : List ℕ) (required : Bool) → required ≡ false → Tail s (at + 4) (bytes_be 4 ABSENT ++ more)
-    → optional s required i (at + 8) (word s (at + 4)) ≡ Absent i (at + 8)
+    → optional s required i (at + 8) (word s (at + 4)) ≡ Ok (Absent i (at + 8))
 unfolding optional
 gone_back s i at more required free w =
     let q : word s (at + 4) ≡ ABSENT = word_is ABSENT more (lit< tt) w in
     rw (q, free) (pick_yes _ _ _ (eq-eqb ABSENT ABSENT refl) ∙ pick_no _ _ _ refl)
 
 -- the head, and where the element's data starts
-placed : (h : Head) (i a b n : ℕ) → h ≡ Present i a n → a ≡ b → h ≡ Present i b n
+placed : (h : Result Head ℕ) (i a b n : ℕ) → h ≡ Ok (Present i a n) → a ≡ b → h ≡ Ok (Present i b n)
 placed h i a b n e p = cc
 
-left : (h : Head) (i a b : ℕ) → h ≡ Absent i a → a ≡ b → h ≡ Absent i b
+left : (h : Result Head ℕ) (i a b : ℕ) → h ≡ Ok (Absent i a) → a ≡ b → h ≡ Ok (Absent i b)
 left h i a b e p = cc
 
 -- a present element, by its container
 module _ (s : List ℕ) (i at n : ℕ) (more : List ℕ) (small : 12 + n < 2 ^ 31) (fit : n ≤ length more) where
-  plain_row : (z : List ℕ) → Tail s at (z ++ (bytes_be 4 n ++ more)) → plain_head s (length z) i at ≡ Present i (at + length (z ++ bytes_be 4 n)) n
+  plain_row : (z : List ℕ) → Tail s at (z ++ (bytes_be 4 n ++ more)) → plain_head s (length z) i at ≡ Ok (Present i (at + length (z ++ bytes_be 4 n)) n)
   plain_row z w =
       placed _ i _ _ n (plain_back s i at n more (length z) z refl (omega arith) fit w) (omega (arith, length-append z (bytes_be 4 n), length_bytes 4 n))
 
-  pub row_present : (v : Node) → IsRow v → Tail s at (head_bytes v i n ++ more) → row_head v s i at ≡ Present i (at + length (head_bytes v i n)) n
+  pub row_present : (v : Node) → IsRow v → Tail s at (head_bytes v i n ++ more) → row_head v s i at ≡ Ok (Present i (at + length (head_bytes v i n)) n)
   unfolding IsRow row_head head_bytes object_head
   row_present (leaf f) x w = absurd x
   row_present enum x w = absurd x
@@ -159,7 +160,7 @@ module _ (s : List ℕ) (i at n : ℕ) (more : List ℕ) (small : 12 + n < 2 ^ 3
 
 -- an absent one
 module _ (s : List ℕ) (i at : ℕ) (more : List ℕ) where
-  pub row_absent : (v : Node) → IsRow v → may_lack v i ≡ true → Tail s at (head_bytes v i ABSENT ++ more) → row_head v s i at ≡ Absent i (at + length (head_bytes v i ABSENT))
+  pub row_absent : (v : Node) → IsRow v → may_lack v i ≡ true → Tail s at (head_bytes v i ABSENT ++ more) → row_head v s i at ≡ Ok (Absent i (at + length (head_bytes v i ABSENT)))
   unfolding IsRow row_head head_bytes may_lack object_head
   row_absent (leaf f) x may w = absurd x
   row_absent enum x may w = absurd x
@@ -194,11 +195,11 @@ module _ (s cards : List ℕ) (marks : List Bool) (i at n : ℕ) (more : List �
   head_eight : at + 8 ≡ at + length (bytes_be 4 i ++ bytes_be 4 n)
   head_eight = omega (arith, length-append (bytes_be 4 i) (bytes_be 4 n), length_bytes 4 i, length_bytes 4 n)
 
-  pub sparse_present : n < 2 ^ 31 → n ≤ length more → sparse_head s cards marks at ≡ Present i (at + length (bytes_be 4 i ++ bytes_be 4 n)) n
+  pub sparse_present : n < 2 ^ 31 → n ≤ length more → sparse_head s cards marks at ≡ Ok (Present i (at + length (bytes_be 4 i ++ bytes_be 4 n)) n)
   sparse_present few fit =
       placed _ i _ _ n (sparse_read ∙ optional_back s i at n more (requires (get_or cards i 0)) few fit after_index) head_eight
 
-  pub sparse_absent : n ≡ ABSENT → requires (get_or cards i 0) ≡ false → sparse_head s cards marks at ≡ Absent i (at + length (bytes_be 4 i ++ bytes_be 4 n))
+  pub sparse_absent : n ≡ ABSENT → requires (get_or cards i 0) ≡ false → sparse_head s cards marks at ≡ Ok (Absent i (at + length (bytes_be 4 i ++ bytes_be 4 n)))
   sparse_absent e free =
       left _ i _ _ (sparse_read ∙ gone_back s i at more (requires (get_or cards i 0)) free (rw e at after_index)) head_eight
 
@@ -235,13 +236,13 @@ module _ (n : ℕ) (more : List ℕ) where
   first_four : 4 ≤ length (bytes_be 4 n ++ more)
   first_four = omega (arith, length-append (bytes_be 4 n) more, length_bytes 4 n)
 
-  count_back : n < 2 ^ 32 → count_opening n (bytes_be 4 n ++ more) ≡ Elements n 0 (length (bytes_be 4 n))
+  count_back : n < 2 ^ 32 → count_opening n (bytes_be 4 n ++ more) ≡ Ok (opening n 0 (length (bytes_be 4 n)))
   unfolding count_opening
   count_back small =
       rw (length_bytes 4 n)
       (pick_no _ _ _ (le-ltb (length (bytes_be 4 n ++ more)) 4 first_four) ∙ pick_yes _ _ _ (eq-eqb _ _ (first_word small)))
 
-  sparse_back : n < 2 ^ 31 → sparse_opening (bytes_be 4 n ++ more) ≡ Elements n 0 (length (bytes_be 4 n))
+  sparse_back : n < 2 ^ 31 → sparse_opening (bytes_be 4 n ++ more) ≡ Ok (opening n 0 (length (bytes_be 4 n)))
   unfolding sparse_opening negative
   sparse_back small =
       rw (length_bytes 4 n)
@@ -250,7 +251,7 @@ module _ (n : ℕ) (more : List ℕ) where
 
 -- a set's or an array's with elements
 some_back : (s : List ℕ) (n : ℕ) (more : List ℕ) → 0 < n → n < 2 ^ 31 → Tail s 0 (bytes_be 4 1 ++ (zeros 8 ++ (bytes_be 4 n ++ (bytes_be 4 1 ++ more))))
-    → set_opening s ≡ Elements n 0 20
+    → set_opening s ≡ Ok (opening n 0 20)
 unfolding set_opening negative dimension
 some_back s n more many small w =
     let w1 : Tail s 12 (bytes_be 4 n ++ (bytes_be 4 1 ++ more)) = tail_next (zeros 8) (bytes_be 4 n ++ (bytes_be 4 1 ++ more)) (word_next 1 _ w) in
@@ -270,7 +271,7 @@ some_back s n more many small w =
     ∙ pick_no _ _ _ (le-ltb (length s) 20 (omega arith))
     ∙ pick_yes _ _ _ refl)
 
-none_back : (more : List ℕ) → set_opening (zeros 12 ++ more) ≡ Elements 0 0 12
+none_back : (more : List ℕ) → set_opening (zeros 12 ++ more) ≡ Ok (opening 0 0 12)
 unfolding set_opening word be be_from dimension
 none_back more =
     pick_no _ _ _ (le-ltb (length (zeros 12 ++ more)) 4 (omega arith))
@@ -281,7 +282,7 @@ none_back more =
 abbrev some_bytes : ℕ → List ℕ
 some_bytes n = bytes_be 4 1 ++ (zeros 8 ++ (bytes_be 4 n ++ bytes_be 4 1))
 
-set_back : (n : ℕ) (more : List ℕ) → n < 2 ^ 31 → set_opening (set_bytes n ++ more) ≡ Elements n 0 (length (set_bytes n))
+set_back : (n : ℕ) (more : List ℕ) → n < 2 ^ 31 → set_opening (set_bytes n ++ more) ≡ Ok (opening n 0 (length (set_bytes n)))
 unfolding set_bytes pick
 set_back zero more small = none_back more
 set_back (suc m) more small =
@@ -300,18 +301,19 @@ range_back : (f : ℕ) (more : List ℕ) → range_flags f ≡ true → range_op
 unfolding range_opening
 range_back f more e = pick_no _ _ _ (le-ltb (suc (length more)) 1 (omega arith)) ∙ pick_yes _ _ _ e
 
-bounds_start : (f n first at : ℕ) → bounds f ≡ Elements n first at → at ≡ 1
+bounds_start : (f : ℕ) (o : Opening) → bounds f ≡ Ok o → o.at ≡ 1
 unfolding bounds
-bounds_start f n first at =
-    let P : Opening → Type 0 = λ o. o ≡ Elements n first at → at ≡ 1 in
-    pick_case P _ _ _ (λ _ e. cc)
-    (λ _. pick_case P _ _ _ (λ _. pick_case P _ _ _ (λ _ e. cc) (λ _ e. cc)) (λ _. pick_case P _ _ _ (λ _ e. cc) (λ _ e. cc)))
+bounds_start f o e =
+    let P : Result Opening ℕ → Type 0 = λ r. IfOk r (λ x. x.at ≡ 1) in
+    IfOk-at_ok (λ (x : Opening). x.at ≡ 1) e
+    (pick_case P _ _ _ (λ _. refl)
+    (λ _. pick_case P _ _ _ (λ _. pick_case P _ _ _ (λ _. refl) (λ _. refl)) (λ _. pick_case P _ _ _ (λ _. refl) (λ _. refl))))
 
 -- ---- a container's head by its node
 
 -- the head o of a container whose entry is c: read back, without reserved fields, and as the supply says
 pub record Opens (v : Node) (src : List ℕ) (c : Claim) (o : List ℕ) (first : ℕ) : Type 0 where
-  pub opening : c.count < 2 ^ 31 → (d : List ℕ) → opening_of v (o ++ d) ≡ Elements c.count first (length o)
+  pub opening : c.count < 2 ^ 31 → (d : List ℕ) → opening_of v (o ++ d) ≡ Ok (opening c.count first (length o))
   pub zero_is : zero_opening v o ≡ o
   pub same : (t : List ℕ) (base n : ℕ) (d : List ℕ) → Tail t base (o ++ d) → SameBytes t src v base n c.start c.size
 
@@ -324,7 +326,7 @@ module _ (src : List ℕ) (c : Claim) (o : List ℕ) (first : ℕ) where
   count_front_lem n e =
       ⊎_elim (λ p. let h = p.1 in (eqb-true _ _ p.0, cc, cc)) (λ p. not_faulty p.1) (pick_split _ _ _ _ e)
 
-  count_opening_lem : (n : ℕ) → count_front n c ≡ front o first → c.count < 2 ^ 31 → (d : List ℕ) → count_opening n (o ++ d) ≡ Elements c.count first (length o)
+  count_opening_lem : (n : ℕ) → count_front n c ≡ front o first → c.count < 2 ^ 31 → (d : List ℕ) → count_opening n (o ++ d) ≡ Ok (opening c.count first (length o))
   count_opening_lem n e few d =
       let p = count_front_lem n e in
       rw (p.0, ← p.1, ← p.2) (count_back n d (omega (arith, p.0)))
@@ -332,7 +334,7 @@ module _ (src : List ℕ) (c : Claim) (o : List ℕ) (first : ℕ) where
   set_front : front (set_bytes c.count) 0 ≡ front o first → (set_bytes c.count ≡ o) × (0 ≡ first)
   set_front e = (cc, cc)
 
-  set_opening_lem : front (set_bytes c.count) 0 ≡ front o first → c.count < 2 ^ 31 → (d : List ℕ) → set_opening (o ++ d) ≡ Elements c.count first (length o)
+  set_opening_lem : front (set_bytes c.count) 0 ≡ front o first → c.count < 2 ^ 31 → (d : List ℕ) → set_opening (o ++ d) ≡ Ok (opening c.count first (length o))
   set_opening_lem e few d = let p = set_front e in rw (← p.0, ← p.1) (set_back c.count d few)
 
   set_is_zero : front (set_bytes c.count) 0 ≡ front o first → take 4 o ++ (zeros 8 ++ drop 12 o) ≡ o
@@ -344,7 +346,7 @@ module _ (src : List ℕ) (c : Claim) (o : List ℕ) (first : ℕ) where
     start : c.start < length src
     is : get_or src c.start 0 ≡ flag
     bytes : flag ∷ [] ≡ o
-    opening : (d : List ℕ) → range_opening (flag ∷ d) ≡ Elements c.count first 1
+    opening : (d : List ℕ) → range_opening (flag ∷ d) ≡ Ok (opening c.count first 1)
 
   range_flags_lem : range_front src c ≡ front o first → Flags
   unfolding range_front bounds_front
@@ -357,16 +359,16 @@ module _ (src : List ℕ) (c : Claim) (o : List ℕ) (first : ℕ) where
       flags : ℕ
       flags = get_or src c.start 0
 
-      go : c.start < length src → range_flags flags ≡ true → (b : Opening) → bounds flags ≡ b → bounds_front flags c.count b ≡ front o first → Flags
-      go l good (Wrong m) is e = not_faulty e
-      go l good (Elements m f at) is e =
+      go : c.start < length src → range_flags flags ≡ true → (b : Result Opening ℕ) → bounds flags ≡ b → bounds_front flags c.count b ≡ front o first → Flags
+      go l good (Err m) is e = not_faulty e
+      go l good (Ok o) is e =
           ⊎_elim
           (λ p.
           let h = p.1 in
-          let n : c.count ≡ m = eqb-true _ _ p.0 in
-          let a : f ≡ first = cc in
-          let one : at ≡ 1 = bounds_start flags m f at is in
-          record { flag = flags; start = l; is = refl; bytes = cc; opening = λ d. range_back flags d good ∙ is ∙ rw (n, a, one) })
+          let n : c.count ≡ o.count = eqb-true _ _ p.0 in
+          let a : o.first ≡ first = cc in
+          let one : o.at ≡ 1 = bounds_start flags o is in
+          record { flag = flags; start = l; is = refl; bytes = cc; opening = λ d. range_back flags d good ∙ is ∙ rw (n, ← a, ← one) })
           (λ p. not_faulty p.1)
           (pick_split _ _ _ _ e)
 

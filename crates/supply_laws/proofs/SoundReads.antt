@@ -11,6 +11,7 @@ use lib.Dec.{eqb}
 use lib.ListN.{length, drop, get_or, length-append}
 use lib.Seq.{get_or-drop}
 use borrow.Author.Tests.{eqb-true, ne_eqb, eq-eqb}
+use Rattle.std.specs.Prelude.{Result, Ok}
 use Rattle.wire.proofs.Picks.{pick_split}
 use Rattle.forms.specs.declared.Head.{Head}
 use Rattle.forms.specs.declared.Head.TheVariants.{Present, Absent}
@@ -171,10 +172,10 @@ module _ (look : ℕ → Node) (t src : List ℕ) where
 -- an order of indexes and a form of reading agree: what was written by the one is read by the other
 pub record Laws {S : Type 0} (order : Order S) (form : Form S) (v : Node) (s : List ℕ) : Type 0 where
   pub there : (st : S) (i at n : ℕ) (more : List ℕ) → order.admits st i ≡ true → i < 2 ^ 32 → 12 + n < 2 ^ 31 → n ≤ length more
-      → Tail s at (head_bytes v i n ++ more) → form.head st at ≡ Present i (at + length (head_bytes v i n)) n
+      → Tail s at (head_bytes v i n ++ more) → form.head st at ≡ Ok (Present i (at + length (head_bytes v i n)) n)
   pub not_there : (st : S) (i at : ℕ) (more : List ℕ) → order.admits st i ≡ true → i < 2 ^ 32 → may_lack v i ≡ true
-      → Tail s at (head_bytes v i ABSENT ++ more) → form.head st at ≡ Absent i (at + length (head_bytes v i ABSENT))
-  pub onward : (st : S) (h : Head) → form.next st h ≡ order.after st (index_of h)
+      → Tail s at (head_bytes v i ABSENT ++ more) → form.head st at ≡ Ok (Absent i (at + length (head_bytes v i ABSENT)))
+  pub onward : (st : S) (h : Result Head ℕ) → form.next st h ≡ order.after st (index_of h)
   pub ends : (st : S) → form.lacks st ≡ order.lacks st
 
 -- what a rule for values reads is what was made
@@ -188,7 +189,7 @@ module _ (look : ℕ → Node) (t src : List ℕ) (rule : Builder) (rules : Rule
   module _ {S : Type 0} (order : Order S) (form : Form S) (laws : Laws order form v s) where
     -- the head at `at`, and the element with the bytes b that it is of
     record Step (st after : S) (at : ℕ) (ws b mid : List ℕ) : Type 0 where
-      head : Head
+      head : Result Head ℕ
       is : form.head st at ≡ head
       onward : form.next st head ≡ after
       end : end_of head ≡ at + length b
@@ -207,9 +208,9 @@ module _ (look : ℕ → Node) (t src : List ℕ) (rule : Builder) (rules : Rule
           let h = head_bytes v c.index ABSENT in
           let start = at + length h in
           record {
-            head = Absent c.index start;
+            head = Ok (Absent c.index start);
             is = laws.not_there st c.index at y admitted index_small may w;
-            onward = laws.onward st (Absent c.index start);
+            onward = laws.onward st (Ok (Absent c.index start));
             end = refl;
             long = head_length v c.index ABSENT r ref;
             read =
@@ -230,9 +231,9 @@ module _ (look : ℕ → Node) (t src : List ℕ) (rule : Builder) (rules : Rule
           let l : start + length (d ++ y) ≡ length s = tail_length (d ++ y) w1 in
           let x = inner r c.index ws d mid small e (omega (arith, length-append d y)) (base + start) (y ++ more) (tail_within more d y stands w1) in
           record {
-            head = Present c.index start (length d);
+            head = Ok (Present c.index start (length d));
             is = laws.there st c.index at (length d) (d ++ y) admitted index_small (omega (arith, length-append d y)) (omega (arith, length-append d y)) w;
-            onward = laws.onward st (Present c.index start (length d));
+            onward = laws.onward st (Ok (Present c.index start (length d)));
             end = rw length-append (add_assoc at (length h) (length d));
             long = omega (arith, length-append h d, head_length v c.index (length d) r ref);
             read =

@@ -7,10 +7,10 @@ use mathlib.Core.Option.{Option, none, some}
 use Prim.Native.Nat.{ℕ, zero, suc, ◌+◌, ◌<◌}
 use lib.Dec.{lit<}
 use lib.ListN.{length, get_or}
+use Rattle.std.specs.Prelude.{Result, Ok, Err}
 use Rattle.wire.proofs.Numbers.{bytes_append, bytes_below}
 use Rattle.wire.proofs.Picks.{pick_case}
 use Rattle.forms.specs.declared.Opening.{Opening}
-use Rattle.forms.specs.declared.Opening.TheVariants.{Elements, Wrong}
 use Rattle.supply_laws.proofs.Fields.{Bytes, bytes_part}
 use Rattle.protocol.specs.Numbers.{bytes_be}
 use Rattle.protocol.specs.Constants.{ABSENT}
@@ -70,10 +70,10 @@ module _ (flags n : ℕ) (small : flags < 256) where
   flag_bytes zero = small
   flag_bytes (suc i) = lit< tt
 
-  bounds_bytes : (o : Opening) → FrontBytes (bounds_front flags n o)
+  bounds_bytes : (o : Result Opening ℕ) → FrontBytes (bounds_front flags n o)
   unfolding bounds_front
-  bounds_bytes (Wrong m) = tt
-  bounds_bytes (Elements m first at) = pick_case FrontBytes _ _ _ (λ _. flag_bytes) (λ _. tt)
+  bounds_bytes (Err m) = tt
+  bounds_bytes (Ok o) = pick_case FrontBytes _ _ _ (λ _. flag_bytes) (λ _. tt)
 
 -- ---- values
 

@@ -10,12 +10,11 @@ use native.Mathlib.Nat.{add-zero}
 use lib.Dec.{eqb}
 use lib.ListN.{length, take, drop, length-append, length-take, length-drop}
 use borrow.Author.Tests.{eqb-true, le-leb, eq-eqb, ne_eqb}
+use Rattle.std.specs.Prelude.{Result, Ok, Err}
 use Rattle.wire.proofs.Picks.{pick_case}
 use Rattle.forms.specs.declared.Opening.{Opening}
-use Rattle.forms.specs.declared.Opening.TheVariants.{Elements, Wrong}
 use Rattle.forms.specs.declared.Head.{Head}
-use Rattle.forms.specs.declared.Head.TheVariants.{Present, Absent, Fault}
-use Rattle.value_laws.proofs.Outcomes.{accepted_listed}
+use Rattle.forms.specs.declared.Head.TheVariants.{Present, Absent}
 use Rattle.value_laws.proofs.Widths.{elements_width}
 use Rattle.value_laws.proofs.Parts.{Stands, stands_whole, stands_part}
 use Rattle.supply_laws.proofs.Fields.{Bytes, bytes_part, HeadOf, Element, Again, row_again, sparse_again, Opens, Opened, opened}
@@ -138,8 +137,8 @@ module _ (look : ℕ → Node) (t src : List ℕ) where
       head_size_lem : (i start n : ℕ) → HeadOf v s at i start n → at + length (zero_head v (between s at start)) ≡ start
       head_size_lem i start n h = rw (← h.same) h.whole
 
-      absent_one : (i start : ℕ) → Again form order v s st at (Absent i start) → (o : Option ℕ) → ref_at v i ≡ o
-          → Member (zero_head v (between s at start)) start (form.next st (Absent i start)) (absent o i (base + start))
+      absent_one : (i start : ℕ) → Again form order v s st at (Ok (Absent i start)) → (o : Option ℕ) → ref_at v i ≡ o
+          → Member (zero_head v (between s at start)) start (form.next st (Ok (Absent i start))) (absent o i (base + start))
       unfolding absent Agrees width
       absent_one i start (lack, inside, el) none ref = tt
       absent_one i start (lack, inside, el) (some k) ref =
@@ -156,9 +155,9 @@ module _ (look : ℕ → Node) (t src : List ℕ) where
                 );
           }
 
-      present_made : (i start n k : ℕ) → Again form order v s st at (Present i start n) → ref_at v i ≡ some k → (part : List ℕ) → length part ≡ n
+      present_made : (i start n k : ℕ) → Again form order v s st at (Ok (Present i start n)) → ref_at v i ≡ some k → (part : List ℕ) → length part ≡ n
           → (o : ValueOutcome) → Completes i (build k i) (zeroing k part) (length part) o
-          → Member (zero_head v (between s at start) ++ zeroing k part) (start + n) (form.next st (Present i start n)) o
+          → Member (zero_head v (between s at start) ++ zeroing k part) (start + n) (form.next st (Ok (Present i start n))) o
       unfolding part_made headed pick
       present_made i start n k a ref part long (refused m p) h = tt
       present_made i start n k (inside, el) ref part long (accepted g) h =
@@ -175,8 +174,8 @@ module _ (look : ℕ → Node) (t src : List ℕ) where
                 );
           }
 
-      present_one : (i start n : ℕ) → Again form order v s st at (Present i start n) → (o : Option ℕ) → ref_at v i ≡ o
-          → Member (zero_head v (between s at start) ++ zero_part zeroing o (take n (drop start s))) (start + n) (form.next st (Present i start n))
+      present_one : (i start n : ℕ) → Again form order v s st at (Ok (Present i start n)) → (o : Option ℕ) → ref_at v i ≡ o
+          → Member (zero_head v (between s at start) ++ zero_part zeroing o (take n (drop start s))) (start + n) (form.next st (Ok (Present i start n)))
           (present rule o i (base + start) (take n (drop start s)))
       unfolding present zero_part
       present_one i start n a none ref = tt
@@ -187,11 +186,11 @@ module _ (look : ℕ → Node) (t src : List ℕ) where
           present_made i start n k a ref part long (rule k i (base + start) part)
           (known k i (base + start) part (stands_part t base s stands start n inside) (bytes_part s bytes start n) (omega arith))
 
-      member_one : (h : Head) → Again form order v s st at h → Member (zero_member zeroing v s at h) (end_of h) (form.next st h) (element_outcome rule (ref_at v) base s h)
+      member_one : (h : Result Head ℕ) → Again form order v s st at h → Member (zero_member zeroing v s at h) (end_of h) (form.next st h) (element_outcome rule (ref_at v) base s h)
       unfolding zero_member element_outcome end_of
-      member_one (Fault n) a = tt
-      member_one (Absent i start) a = absent_one i start a (ref_at v i) refl
-      member_one (Present i start n) a = present_one i start n a (ref_at v i) refl
+      member_one (Err n) a = tt
+      member_one (Ok (Absent i start)) a = absent_one i start a (ref_at v i) refl
+      member_one (Ok (Present i start n)) a = present_one i start n a (ref_at v i) refl
 
     -- the elements, where the heads that are read are the heads that are made
     module _ {S : Type 0} (form : Form S) (order : Order S) (lacks : (st : S) → order.lacks st ≡ form.lacks st)
@@ -293,22 +292,22 @@ module _ (look : ℕ → Node) (t src : List ℕ) where
         under_whole (build src look f) v k i base s is small (zero_opening v (take at s)) _ n at (elements_made order (build src look f) v n st) o.whole o.inside
         (λ d ws c same. p d ws _ (o.front d c same) ∙ rw c)
         x
-        (λ below e. rw e at (elements_width look f (ref_at v) base s form n st at (accepted_listed x below e)))
+        (elements_width look f (ref_at v) base s form n st at)
         (row_made_lem (value look f) (build src look f) (zero_value look f) known v base s stands bytes small form order lacks again n st at o.inside)
 
     row_whole : (v : Node) → look k ≡ v → ((d : Claim) (ws : List ℕ) → node_made src v (build src look f) d ws ≡ row_made (build src look f) v (front_of v src d) d ws)
-        → (o : Opening) → Opened v t src base s o → Done v (zero_row (zero_value look f) v o s) (row_rule v (value look f) o k i base s)
+        → (o : Result Opening ℕ) → Opened v t src base s o → Done v (zero_row (zero_value look f) v o s) (row_rule v (value look f) o k i base s)
     unfolding row_rule zero_row row_made
-    row_whole v is p (Wrong n) h = tt
-    row_whole v is p (Elements n first at) h =
-        container_whole (row_form v s) row_order (λ _. refl) v is (λ st at. row_again s bytes st at v) first n first at h (λ d ws b e. p d ws ∙ rw e)
+    row_whole v is p (Err n) h = tt
+    row_whole v is p (Ok o) h =
+        container_whole (row_form v s) row_order (λ _. refl) v is (λ st at. row_again s bytes st at v) o.first o.count o.first o.at h (λ d ws b e. p d ws ∙ rw e)
 
     sparse_whole : (refs cards : List ℕ) → look k ≡ sparse refs cards
-        → (o : Opening) → Opened (sparse refs cards) t src base s o → Done (sparse refs cards) (zero_sparse (zero_value look f) refs cards o s) (sparse_rule refs cards (value look f) o k i base s)
+        → (o : Result Opening ℕ) → Opened (sparse refs cards) t src base s o → Done (sparse refs cards) (zero_sparse (zero_value look f) refs cards o s) (sparse_rule refs cards (value look f) o k i base s)
     unfolding sparse_rule zero_sparse node_made sparse_made
-    sparse_whole refs cards is (Wrong n) h = tt
-    sparse_whole refs cards is (Elements n first at) h =
-        container_whole (sparse_form cards s) (sparse_order cards) (λ _. refl) (sparse refs cards) is (λ st at. sparse_again s bytes refs cards st at) no_marks n first at h (λ d ws b e. rw e)
+    sparse_whole refs cards is (Err n) h = tt
+    sparse_whole refs cards is (Ok o) h =
+        container_whole (sparse_form cards s) (sparse_order cards) (λ _. refl) (sparse refs cards) is (λ st at. sparse_again s bytes refs cards st at) no_marks o.count o.first o.at h (λ d ws b e. rw e)
 
     node_whole : (v : Node) → look k ≡ v → Done v (zero_node v (zero_value look f) s) (by_node v (value look f) k i base s)
     unfolding by_node zero_node node_made SameBytes

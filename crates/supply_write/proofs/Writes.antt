@@ -12,9 +12,8 @@ use Rattle.plan_nodes.proofs.Nodes.{at_root}
 use Rattle.plan_nodes.proofs.Roots.{root_none, root_some}
 use Rattle.supply_write.specs.Answers.{answer_of, Puts}
 use Rattle.supply_entries.specs.Emitting.{broken, stands, put_at, stand_of}
-use Rattle.supply_write.specs.declared.Answer.TheVariants.{Refused, Written}
+use Rattle.std.specs.Prelude.{Option, Some, None, Ok, Err}
 use Rattle.supply_entries.specs.declared.Built.{Built}
-use Rattle.supply_entries.specs.declared.Built.TheVariants.{Failed, Done}
 use Rattle.supply_entries.proofs.Stands.{put_small, Stood, stood, broken_is}
 use Rattle.protocol.specs.Numbers.{pick}
 use Rattle.protocol.specs.Plans.{look, without_type, plan_formed}
@@ -60,18 +59,18 @@ too_large b [] h = rw (lt-ltb 65535 (length b) h)
 too_large b (w ∷ ws) h = refl
 
 -- the output of a building that is known to be whole
-output_is : (r : Built) (list : List ℕ) (b ws out : List ℕ) (n : ℕ) (out' : List ℕ) → stand_of r list out' ≡ stands ws n (sets out 0 b) → out' ≡ sets out 0 b
+output_is : (r : Option Built) (list : List ℕ) (b ws out : List ℕ) (n : ℕ) (out' : List ℕ) → stand_of r list out' ≡ stands ws n (sets out 0 b) → out' ≡ sets out 0 b
 unfolding stand_of
-output_is Failed list b ws out n out' e = let z : ◌≡◌ {A = ℕ} 0 1 = cc in absurd (omega arith)
-output_is (Done word at) list b ws out n out' e = cc
+output_is None list b ws out n out' e = cc
+output_is (Some built) list b ws out n out' e = cc
 
 module _ (p ws src out : List ℕ) where
   -- a refusal of a number
-  refused_with : (n : ℕ) → write_of p ws src (length out) ≡ refused_put n → Puts (write_of p ws src (length out)) (Refused n) out out
+  refused_with : (n : ℕ) → write_of p ws src (length out) ≡ refused_put n → Puts (write_of p ws src (length out)) (Err n) out out
   unfolding answer_of output_after
   refused_with n e = rw e (record { answer = refl; output = refl })
 
-  pub puts_unformed : plan_formed p ≡ false → Puts (write_of p ws src (length out)) (Refused 33) out out
+  pub puts_unformed : plan_formed p ≡ false → Puts (write_of p ws src (length out)) (Err 33) out out
   unfolding write_of pick
   puts_unformed e = refused_with 33 (rw e)
 
@@ -80,11 +79,11 @@ module _ (p ws src out : List ℕ) where
     unfolding write_of pick
     formed_is = rw f
 
-    unsupplied : supplied_by (made_by p ws src) ≡ refused_put 34 → Puts (write_of p ws src (length out)) (Refused 34) out out
+    unsupplied : supplied_by (made_by p ws src) ≡ refused_put 34 → Puts (write_of p ws src (length out)) (Err 34) out out
     unfolding output_roomed
     unsupplied e = refused_with 34 (formed_is ∙ rw e)
 
-    pub puts_broken : (none : List ℕ) → broken ≡ put_at (made_by p ws src) 0 none → Puts (write_of p ws src (length out)) (Refused 34) out out
+    pub puts_broken : (none : List ℕ) → broken ≡ put_at (made_by p ws src) 0 none → Puts (write_of p ws src (length out)) (Err 34) out out
     unfolding supplied_by
     puts_broken none q =
         unsupplied (broken_is (λ m. supplied_by m ≡ refused_put 34) (made_by p ws src) 0 none q refl (λ b us h. too_large b us (omega arith)))
@@ -96,7 +95,7 @@ module _ (p ws src out : List ℕ) where
       pub whole_small : at ≤ 65535
       whole_small = s.small
 
-      pub puts_left : 0 < length us → Puts (write_of p ws src (length out)) (Refused 34) out out
+      pub puts_left : 0 < length us → Puts (write_of p ws src (length out)) (Err 34) out out
       puts_left h = unsupplied (rw s.is (left_over s.body us h))
 
       module _ (z : length us ≡ 0) where
@@ -106,25 +105,25 @@ module _ (p ws src out : List ℕ) where
         supplied_is : supplied_by (made_by p ws src) ≡ put_out s.body
         supplied_is = ap supplied_by s.is ∙ fits s.body us z (omega (arith, s.next, s.small))
 
-        pub puts_full : length out < at → Puts (write_of p ws src (length out)) (Refused 32) out out
+        pub puts_full : length out < at → Puts (write_of p ws src (length out)) (Err 32) out out
         unfolding output_roomed pick
         puts_full h =
             let l : length out < length s.body = omega (arith, size) in
             refused_with 32 (formed_is ∙ rw (supplied_is, lt-ltb (length out) (length s.body) l))
 
         module _ (h : at ≤ length out) (out' : List ℕ) where
-          puts_sets : out' ≡ sets out 0 s.body → Puts (write_of p ws src (length out)) (Written at) out out'
+          puts_sets : out' ≡ sets out 0 s.body → Puts (write_of p ws src (length out)) (Ok at) out out'
           unfolding output_roomed pick answer_of output_after
           puts_sets o =
               let l : length s.body ≤ length out = omega (arith, size) in
               rw (formed_is, supplied_is, le-ltb (length out) (length s.body) l)
               (record {
-                answer = ap Written (sym size);
+                answer = ap Ok (sym size);
                 output = o ∙ sets-eq s.body out 0 (omega arith) ∙ ap (λ (n : ℕ). s.body ++ drop n out) (zero-add (length s.body));
               })
 
           -- put out by a second pass
-          pub puts_whole : (r : Built) → stand_of r ws out' ≡ put_at (made_by p ws src) 0 out → Puts (write_of p ws src (length out)) (Written at) out out'
+          pub puts_whole : (r : Option Built) → stand_of r ws out' ≡ put_at (made_by p ws src) 0 out → Puts (write_of p ws src (length out)) (Ok at) out out'
           puts_whole r e =
               puts_sets (output_is r ws s.body us out (0 + length s.body) out' (e ∙ rw s.is (put_small s.body us 0 out (omega (arith, size, s.small)))))
 
@@ -134,5 +133,5 @@ module _ (p ws src out : List ℕ) where
               let n : length s.body ≤ length none = omega (arith, size, ap length s.output, length-sets none 0 s.body) in
               ap (take at) (s.output ∙ sets-eq s.body none 0 (omega arith)) ∙ take_at s.body (drop (0 + length s.body) none) at size
 
-          pub puts_copied : at ≤ length none' → out' ≡ sets out 0 (take at none') → Puts (write_of p ws src (length out)) (Written at) out out'
+          pub puts_copied : at ≤ length none' → out' ≡ sets out 0 (take at none') → Puts (write_of p ws src (length out)) (Ok at) out out'
           puts_copied l o = puts_sets (o ∙ ap (sets out 0) (copied l))

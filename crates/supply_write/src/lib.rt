@@ -2,7 +2,7 @@
 // change no byte of the output (R1.1).
 #![tactic(auto)]
 
-ghost use Rattle.std.specs.Prelude.{◌≡◌, true, length};
+ghost use Rattle.std.specs.Prelude.{◌≡◌, ◌≤◌, true, length};
 ghost use Rattle.plan_nodes.specs.Memo.{Memo};
 ghost use Rattle.supply_entries.specs.Emitting.{put_at, stand_of};
 ghost use Rattle.supply_write.specs.Answers.{Puts};
@@ -10,51 +10,47 @@ ghost use Rattle.protocol.specs.Plans.{look, plan_formed};
 ghost use Rattle.plan_nodes.specs.Readers.{At};
 ghost use Rattle.protocol.specs.Building.{build_of, made_by, write_of};
 
-use supply_entries::{Built, Read, list};
+use forms::fault::Fault;
+use plan_nodes::needs::Need;
+use supply_entries::{Built, list};
 
-// What writing a value gives: refused, with the number; or the bytes of the value.
-#[derive(Clone, Copy)]
-pub enum Answer {
-    Refused { no: u32 },
-    Written { bytes: u32 },
-}
-
-// How many words the short table of required elements has: two for each of 32 sparse objects. Few plans have so many.
-const SHORT: usize = 64;
+// How many sparse objects the short table of required elements has room for. Few plans have so many.
+const SHORT: usize = 32;
 
 // The value of a node that is the top of its plan, from the list's first entry, whose index is 0 (R6.3). The top may not be absent (R8.8).
 // `needs` says how many elements of the plan's sparse objects are required.
 fn build_top(
     plan: &[u32],
-    needs: &[u32],
+    needs: &[Need],
     node: usize,
     src: &[u8],
     list: &[u32],
     out: &mut [u8],
-) -> Built
+) -> Option<Built>
     requires { (At plan.now node) × (Memo plan.now needs.now) }
     ensures { stand_of result list.now out.new ≡ put_at (build_of src.now (look plan.now) node 0 list.now) 0 out.old }
 {
-    let Read::Whole(entry) = list::next_entry(list, 0) else {
-        return Built::Failed;
-    };
-    if entry.index != 0 {
-        return Built::Failed;
-    }
-    if entry.size == constants::ABSENT {
-        return Built::Failed;
+    let entry = list::next_entry(list, 0)?;
+    if entry.index != 0 || entry.size == constants::ABSENT {
+        return None;
     }
     supply_build::build_value(plan, needs, node, src, list, entry, 0, out, 0)
 }
 
 // The value of a well-formed plan. No type has no node, and the supply of no words (R8.11).
-fn build_whole(plan: &[u32], needs: &[u32], src: &[u8], list: &[u32], out: &mut [u8]) -> Built
+fn build_whole(
+    plan: &[u32],
+    needs: &[Need],
+    src: &[u8],
+    list: &[u32],
+    out: &mut [u8],
+) -> Option<Built>
     requires { (plan_formed plan.now ≡ true) × (Memo plan.now needs.now) }
     ensures { stand_of result list.now out.new ≡ put_at (made_by plan.now list.now src.now) 0 out.old }
 {
     let root = plan[1] as usize;
     if root == 0 {
-        return Built::Done { word: 0, at: 0 };
+        return Some(Built { word: 0, at: 0 });
     }
     build_top(plan, needs, root, src, list, out)
 }
@@ -63,108 +59,90 @@ fn build_whole(plan: &[u32], needs: &[u32], src: &[u8], list: &[u32], out: &mut 
 // that is larger than the scratch room is put out by a second pass.
 fn write_value(
     plan: &[u32],
-    needs: &[u32],
+    needs: &[Need],
     list: &[u32],
     src: &[u8],
     scratch: &mut [u8],
     out: &mut [u8],
-) -> Answer
+) -> Result<u32, Fault>
     requires { (plan_formed plan.now ≡ true) × (Memo plan.now needs.now) }
     ensures { Puts (write_of plan.now list.now src.now (length out.old)) result out.old out.new }
 {
-    let built = build_whole(plan, needs, src, list, scratch);
-    let Built::Done { word, at } = built else {
-        return Answer::Refused {
-            no: constants::NO_VALUE,
-        };
-    };
-    if word < list.len() {
-        return Answer::Refused {
-            no: constants::NO_VALUE,
-        };
+    let built = build_whole(plan, needs, src, list, scratch).ok_or(Fault::NO_VALUE)?;
+    if built.word < list.len() {
+        return Err(Fault::NO_VALUE);
     }
-    if out.len() < at {
-        return Answer::Refused {
-            no: constants::OUTPUT_ROOM,
-        };
+    if out.len() < built.at {
+        return Err(Fault::OUTPUT_ROOM);
     }
-    if scratch.len() < at {
+    if scratch.len() < built.at {
         build_whole(plan, needs, src, list, out);
-        return Answer::Written { bytes: at as u32 };
+    } else {
+        wire::copy::put_bytes(&scratch[..built.at], out, 0);
     }
-    wire::copy::put_bytes(&scratch[..at], out, 0);
-    Answer::Written { bytes: at as u32 }
+    Ok(built.at as u32)
 }
 
-// The same with scratch room of three sizes, by the sizes of the list and of the source: to clear much of it would cost a small value more
-// than the value itself.
-fn write_small(plan: &[u32], needs: &[u32], list: &[u32], src: &[u8], out: &mut [u8]) -> Answer
-    requires { (plan_formed plan.now ≡ true) × (Memo plan.now needs.now) }
+// The same with scratch room of a size. Each size has a frame of its own, so that only the room that is used is cleared and takes stack.
+#[inline(never)]
+fn write_with<const ROOM: usize>(
+    plan: &[u32],
+    needs: &[Need],
+    list: &[u32],
+    src: &[u8],
+    out: &mut [u8],
+) -> Result<u32, Fault>
+    requires { (plan_formed plan.now ≡ true) × (Memo plan.now needs.now) × (ROOM ≤ 65535) }
     ensures { Puts (write_of plan.now list.now src.now (length out.old)) result out.old out.new }
 {
-    let mut scratch = [0u8; 4096];
+    let mut scratch = [0u8; ROOM];
     write_value(plan, needs, list, src, &mut scratch, out)
 }
 
-fn write_middle(plan: &[u32], needs: &[u32], list: &[u32], src: &[u8], out: &mut [u8]) -> Answer
+// The same with the scratch room that is likely to be enough, by the sizes of the list and of the source: to clear much of it would cost a
+// small value more than the value itself. Most entries, of five words, make a head of at most ten bytes, and most values use no byte of the
+// source twice. Only the time depends on it.
+fn write_sized(
+    plan: &[u32],
+    needs: &[Need],
+    list: &[u32],
+    src: &[u8],
+    out: &mut [u8],
+) -> Result<u32, Fault>
     requires { (plan_formed plan.now ≡ true) × (Memo plan.now needs.now) }
     ensures { Puts (write_of plan.now list.now src.now (length out.old)) result out.old out.new }
 {
-    let mut scratch = [0u8; 16384];
-    write_value(plan, needs, list, src, &mut scratch, out)
-}
-
-fn write_large(plan: &[u32], needs: &[u32], list: &[u32], src: &[u8], out: &mut [u8]) -> Answer
-    requires { (plan_formed plan.now ≡ true) × (Memo plan.now needs.now) }
-    ensures { Puts (write_of plan.now list.now src.now (length out.old)) result out.old out.new }
-{
-    let mut scratch = [0u8; constants::MOST_VALUE];
-    write_value(plan, needs, list, src, &mut scratch, out)
-}
-
-// The same with the scratch room that is likely to be enough: most entries, of five words, make a head of at most ten bytes, and most values
-// use no byte of the source twice. Only the time depends on it.
-fn write_sized(plan: &[u32], needs: &[u32], list: &[u32], src: &[u8], out: &mut [u8]) -> Answer
-    requires { (plan_formed plan.now ≡ true) × (Memo plan.now needs.now) }
-    ensures { Puts (write_of plan.now list.now src.now (length out.old)) result out.old out.new }
-{
-    if list.len() <= 1024 {
-        if src.len() <= 2048 {
-            return write_small(plan, needs, list, src, out);
-        }
+    if list.len() <= 1024 && src.len() <= 2048 {
+        return write_with::<4096>(plan, needs, list, src, out);
     }
-    if list.len() <= 4096 {
-        if src.len() <= 8192 {
-            return write_middle(plan, needs, list, src, out);
-        }
+    if list.len() <= 4096 && src.len() <= 8192 {
+        return write_with::<16384>(plan, needs, list, src, out);
     }
-    write_large(plan, needs, list, src, out)
+    write_with::<{ constants::MOST_VALUE }>(plan, needs, list, src, out)
 }
 
 // The same with room in the table for all the sparse objects that a plan can have: 1,024 nodes.
-fn write_many(plan: &[u32], list: &[u32], src: &[u8], out: &mut [u8]) -> Answer
+fn write_many(plan: &[u32], list: &[u32], src: &[u8], out: &mut [u8]) -> Result<u32, Fault>
     requires { plan_formed plan.now ≡ true }
     ensures { Puts (write_of plan.now list.now src.now (length out.old)) result out.old out.new }
 {
-    let mut table = [0u32; 2 * constants::MOST_BLOCKS];
-    let words = 2 * plan_nodes::needs::fill(plan, &mut table);
-    write_sized(plan, &table[..words], list, src, out)
+    let mut table = [Need::NONE; constants::MOST_BLOCKS];
+    let count = plan_nodes::needs::fill(plan, &mut table);
+    write_sized(plan, &table[..count], list, src, out)
 }
 
 // Writes the value of a plan that has the supply of a list and source bytes, in the order of R1.10. The plan is checked once and its table is
-// made once. A short table takes little time to clear; one that is filled to its end may have lost a pair, and then a long one is made.
-pub fn write(plan: &[u32], list: &[u32], src: &[u8], out: &mut [u8]) -> Answer
+// made once. A short table takes little time to clear; one that is filled to its end may have lost a need, and then a long one is made.
+pub fn write(plan: &[u32], list: &[u32], src: &[u8], out: &mut [u8]) -> Result<u32, Fault>
     ensures { Puts (write_of plan.now list.now src.now (length out.old)) result out.old out.new }
 {
-    if plan_check::plan_ok(plan) {
-        let mut table = [0u32; SHORT];
-        let words = 2 * plan_nodes::needs::fill(plan, &mut table);
-        if words < SHORT {
-            return write_sized(plan, &table[..words], list, src, out);
-        }
+    if !plan_check::plan_ok(plan) {
+        return Err(Fault::BAD_PLAN);
+    }
+    let mut table = [Need::NONE; SHORT];
+    let count = plan_nodes::needs::fill(plan, &mut table);
+    if count == SHORT {
         return write_many(plan, list, src, out);
     }
-    Answer::Refused {
-        no: constants::BAD_PLAN,
-    }
+    write_sized(plan, &table[..count], list, src, out)
 }

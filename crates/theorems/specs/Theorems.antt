@@ -1,11 +1,12 @@
 -- What this library promises, on one page, in the order of the rules, R1 to R10. It must be believed together with crates/protocol, whose
 -- definitions it cites. Of other crates it cites two contracts of inner calls: find_number/specs/Number (`Gives`), and run_compiled/specs/Follows
 -- with run_plan/specs/Run. Each promise is a type with a name, and proofs/Theorems proves it.
-use Rattle.std.specs.Prelude.{◌≡◌, true, false, List, [], ◌++◌, map, ◌⊎◌, ◌↔◌, ℕ, ◌+◌, ◌-◌, ◌*◌, ◌/◌, ◌%◌, ◌^◌, ◌<◌, ◌≤◌, length, get_or, take, drop}
+use Rattle.std.specs.Prelude.{◌≡◌, true, false, List, [], ◌++◌, map, ◌⊎◌, ◌↔◌, ℕ, ◌+◌, ◌-◌, ◌*◌, ◌/◌, ◌%◌, ◌^◌, ◌<◌, ◌≤◌, length, get_or, take, drop, Result}
 use Rattle.std.specs.Float.{Format}
 use Rattle.std.specs.Float.Ieee.{ones, hid, top, of_bits, to_bits}
 use Rattle.find_number.specs.Number.{Gives}
 use Rattle.find_number.specs.declared.Number.{Number}
+use Rattle.forms.specs.declared.fault.Refusal.{Refusal}
 use Rattle.run_compiled.specs.Follows.{Follows}
 use Rattle.run_compiled.specs.contracts.compile_and_run as compile_and_run_contract
 use Rattle.run_compiled.proofs.compile_and_run.Symbol as compile_and_run_code
@@ -210,7 +211,7 @@ OneEntry = (p s : List ℕ) (f : Forest) → Words p → checked p s ≡ accepte
 
 -- The contract of an element's number leaves one answer (R7.8 to R7.11).
 abbrev pub OneNumber : Type 0
-OneNumber = (x : Numbered) (r r' : Number) → Gives x r → Gives x r' → r ≡ r'
+OneNumber = (x : Numbered) (r r' : Result Number Refusal) → Gives x r → Gives x r' → r ≡ r'
 
 -- A float that is no NaN keeps every bit (R7.10). A NaN is carried as its bits.
 abbrev pub FloatKept : Type 0

@@ -6,184 +6,152 @@ use mathlib.Core.List.{List}
 use Prim.Native.Nat.{ℕ, ◌+◌, ◌-◌, ◌^◌, ◌<◌, ◌≤◌}
 use native.Mathlib.Omega.{arith}
 use lib.ListN.{length, get_or}
+use Rattle.std.specs.Prelude.{Ok, IfOk}
+use Rattle.std.proofs.lemmas.Result.{IfOk-at_ok}
 use Rattle.value_heads.specs.Heads.{Inside}
-use Rattle.value_heads.specs.Faults.{head_fault}
-use Rattle.value_heads.specs.Bounds.{Opened, From, Indexed, Fresh, Refuses}
-use Rattle.forms.specs.declared.Opening.TheVariants.{Elements, Wrong}
+use Rattle.value_heads.specs.Bounds.{Opened, From, Indexed, Fresh}
+use Rattle.forms.specs.declared.Opening.{Opening}
 use Rattle.forms.specs.declared.Head.{Head}
-use Rattle.forms.specs.declared.Head.TheVariants.{Present, Absent, Fault}
-use Rattle.forms.specs.declared.Index.TheVariants.{Known}
+use Rattle.forms.specs.declared.Head.TheVariants.{Present, Absent}
 use Rattle.value_heads.proofs.Cases.{set_cases, count_cases, sparse_opening_cases, range_cases, optional_cases, plain_cases, object_cases, envelope_cases, index_cases, sparse_cases}
-use Rattle.protocol.specs.Heads.{word, set_opening, count_opening, sparse_opening, range_opening, optional, plain_head, object_head, envelope_head, sparse_index, sparse_head, end_of}
+use Rattle.protocol.specs.Heads.{set_opening, count_opening, sparse_opening, range_opening, optional, plain_head, object_head, envelope_head, sparse_index, sparse_head, end_of}
 
 -- ---- a container's head
 
 module _ (s : List ℕ) where
-  pub set_inside : Opened (length s) (set_opening s)
-  unfolding Opened
-  set_inside = set_cases (Opened (length s)) (λ _ h. h) s (λ h. (omega arith, h)) (λ h _ _. (omega arith, omega arith))
+  pub set_inside : IfOk (set_opening s) (Opened (length s))
+  set_inside = set_cases (λ r. IfOk r (Opened (length s))) (λ _. tt) s (λ h. (omega arith, h)) (λ h _ _. (omega arith, omega arith))
 
-  pub count_inside : (n : ℕ) → Opened (length s) (count_opening n s)
-  unfolding Opened
-  count_inside n = count_cases (Opened (length s)) (λ _ h. h) n s (λ h. (omega arith, h))
+  pub count_inside : (n : ℕ) → IfOk (count_opening n s) (Opened (length s))
+  count_inside n = count_cases (λ r. IfOk r (Opened (length s))) (λ _. tt) n s (λ h. (omega arith, h))
 
-  pub sparse_opening_inside : Opened (length s) (sparse_opening s)
-  unfolding Opened
-  sparse_opening_inside = sparse_opening_cases (Opened (length s)) (λ _ h. h) s (λ h _. (omega arith, h))
+  pub sparse_opening_inside : IfOk (sparse_opening s) (Opened (length s))
+  sparse_opening_inside = sparse_opening_cases (λ r. IfOk r (Opened (length s))) (λ _. tt) s (λ h _. (omega arith, h))
 
-  pub range_inside : Opened (length s) (range_opening s)
-  unfolding Opened
-  range_inside = range_cases (Opened (length s)) (λ _ h. h) s (λ _ _ h _. (omega arith, h))
-
--- no refusal is a head
-no_elements : {A : Type 0} {m n first at : ℕ} → Wrong m ≡ Elements n first at → A
-no_elements e = let z : ◌≡◌ {A = ℕ} 0 1 = cc in absurd (omega arith)
+  pub range_inside : IfOk (range_opening s) (Opened (length s))
+  range_inside = range_cases (λ r. IfOk r (Opened (length s))) (λ _. tt) s (λ _ _ h _. (omega arith, h))
 
 -- ---- what an accepted head of each container says: the number of elements, the index of the first, and where it stands
 
-abbrev SetOpened : List ℕ → ℕ → ℕ → ℕ → Type 0
-SetOpened s n first at = (n < 2 ^ 31) × (first ≡ 0) × (at ≤ length s) × (((n ≡ 0) × (at ≡ 12)) ⊎ ((1 ≤ n) × (at ≡ 20)))
+abbrev SetOpened : List ℕ → Opening → Type 0
+SetOpened s o = (o.count < 2 ^ 31) × (o.first ≡ 0) × (o.at ≤ length s) × (((o.count ≡ 0) × (o.at ≡ 12)) ⊎ ((1 ≤ o.count) × (o.at ≡ 20)))
 
-set_none : (s : List ℕ) (n first at : ℕ) → 12 ≤ length s → n ≡ 0 → first ≡ 0 → at ≡ 12 → SetOpened s n first at
-set_none s n first at h a b d = (omega arith, b, omega arith, inl (a, d))
+pub set_opened : (s : List ℕ) (o : Opening) → set_opening s ≡ Ok o
+    → (o.count < 2 ^ 31) × (o.first ≡ 0) × (o.at ≤ length s) × (((o.count ≡ 0) × (o.at ≡ 12)) ⊎ ((1 ≤ o.count) × (o.at ≡ 20)))
+set_opened s o e = IfOk-at_ok (SetOpened s) e
+    (set_cases (λ r. IfOk r (SetOpened s)) (λ _. tt) s
+    (λ h. (omega arith, refl, h, inl (refl, refl)))
+    (λ h some few. (few, refl, h, inr (some, refl))))
 
-set_some : (s : List ℕ) (n first at m : ℕ) → 20 ≤ length s → 0 < m → m < 2 ^ 31 → n ≡ m → first ≡ 0 → at ≡ 20 → SetOpened s n first at
-set_some s n first at m h some few a b d = (omega arith, b, omega arith, inr (omega arith, d))
+pub count_opened : (n : ℕ) (s : List ℕ) (o : Opening) → count_opening n s ≡ Ok o → (o.count ≡ n) × (o.first ≡ 0) × (o.at ≡ 4) × (4 ≤ length s)
+count_opened n s o e = IfOk-at_ok (λ (x : Opening). (x.count ≡ n) × (x.first ≡ 0) × (x.at ≡ 4) × (4 ≤ length s)) e
+    (count_cases (λ r. IfOk r (λ x. (x.count ≡ n) × (x.first ≡ 0) × (x.at ≡ 4) × (4 ≤ length s))) (λ _. tt) n s
+    (λ h. (refl, refl, refl, h)))
 
-pub set_opened : (s : List ℕ) (n first at : ℕ) → set_opening s ≡ Elements n first at
-    → (n < 2 ^ 31) × (first ≡ 0) × (at ≤ length s) × (((n ≡ 0) × (at ≡ 12)) ⊎ ((1 ≤ n) × (at ≡ 20)))
-set_opened s n first at =
-    set_cases (λ o. o ≡ Elements n first at → SetOpened s n first at) (λ _ _ e. no_elements e) s
-    (λ h e. set_none s n first at h (cc) (cc) (cc))
-    (λ h some few e. set_some s n first at (word s 12) h some few (cc) (cc) (cc))
+pub sparse_opened : (s : List ℕ) (o : Opening) → sparse_opening s ≡ Ok o → (o.count < 2 ^ 31) × (o.first ≡ 0) × (o.at ≡ 4) × (4 ≤ length s)
+sparse_opened s o e = IfOk-at_ok (λ (x : Opening). (x.count < 2 ^ 31) × (x.first ≡ 0) × (x.at ≡ 4) × (4 ≤ length s)) e
+    (sparse_opening_cases (λ r. IfOk r (λ x. (x.count < 2 ^ 31) × (x.first ≡ 0) × (x.at ≡ 4) × (4 ≤ length s))) (λ _. tt) s
+    (λ h few. (few, refl, refl, h)))
 
-pub count_opened : (n : ℕ) (s : List ℕ) (m first at : ℕ) → count_opening n s ≡ Elements m first at → (m ≡ n) × (first ≡ 0) × (at ≡ 4) × (4 ≤ length s)
-count_opened n s m first at =
-    count_cases (λ o. o ≡ Elements m first at → (m ≡ n) × (first ≡ 0) × (at ≡ 4) × (4 ≤ length s)) (λ _ _ e. no_elements e) n s
-    (λ h e. (cc, cc, cc, h))
-
-pub sparse_opened : (s : List ℕ) (n first at : ℕ) → sparse_opening s ≡ Elements n first at → (n < 2 ^ 31) × (first ≡ 0) × (at ≡ 4) × (4 ≤ length s)
-sparse_opened s n first at =
-    sparse_opening_cases (λ o. o ≡ Elements n first at → (n < 2 ^ 31) × (first ≡ 0) × (at ≡ 4) × (4 ≤ length s)) (λ _ _ e. no_elements e) s
-    (λ h few e. (let a : n ≡ word s 0 = cc in omega arith, cc, cc, h))
-
-pub range_opened : (s : List ℕ) (n first at : ℕ) → range_opening s ≡ Elements n first at → (first + n ≤ 2) × (at ≡ 1) × (1 ≤ length s)
-range_opened s n first at =
-    range_cases (λ o. o ≡ Elements n first at → (first + n ≤ 2) × (at ≡ 1) × (1 ≤ length s)) (λ _ _ e. no_elements e) s
-    (λ m f h two e. (let a : n ≡ m = cc in let b : first ≡ f = cc in omega arith, cc, h))
+pub range_opened : (s : List ℕ) (o : Opening) → range_opening s ≡ Ok o → (o.first + o.count ≤ 2) × (o.at ≡ 1) × (1 ≤ length s)
+range_opened s o e = IfOk-at_ok (λ (x : Opening). (x.first + x.count ≤ 2) × (x.at ≡ 1) × (1 ≤ length s)) e
+    (range_cases (λ r. IfOk r (λ x. (x.first + x.count ≤ 2) × (x.at ≡ 1) × (1 ≤ length s))) (λ _. tt) s
+    (λ m f h two. (two, refl, h)))
 
 -- ---- an element of a set, an array, a range or a tuple
 
 module _ (s : List ℕ) (gap i at : ℕ) where
-  pub plain_inside : at ≤ length s → Inside (length s) at (plain_head s gap i at)
+  pub plain_inside : at ≤ length s → IfOk (plain_head s gap i at) (Inside (length s) at)
   unfolding Inside
-  plain_inside h = plain_cases (Inside (length s) at) (λ _ _. tt) s gap i at (λ whole _ fit. (omega arith, omega arith))
+  plain_inside h = plain_cases (λ r. IfOk r (Inside (length s) at)) (λ _. tt) s gap i at (λ whole _ fit. (omega arith, omega arith))
 
   -- the reserved bytes and the length
-  pub plain_from_gap : From (at + gap + 4) (plain_head s gap i at)
+  pub plain_from_gap : IfOk (plain_head s gap i at) (From (at + gap + 4))
   unfolding From
-  plain_from_gap = plain_cases (From (at + gap + 4)) (λ _ _. tt) s gap i at (λ _ _ _. omega arith)
+  plain_from_gap = plain_cases (λ r. IfOk r (From (at + gap + 4))) (λ _. tt) s gap i at (λ _ _ _. omega arith)
 
-  pub plain_from_lem : From (at + 4) (plain_head s gap i at)
+  pub plain_from_lem : IfOk (plain_head s gap i at) (From (at + 4))
   unfolding From
-  plain_from_lem = plain_cases (From (at + 4)) (λ _ _. tt) s gap i at (λ _ _ _. omega arith)
+  plain_from_lem = plain_cases (λ r. IfOk r (From (at + 4))) (λ _. tt) s gap i at (λ _ _ _. omega arith)
 
-  pub plain_index : Indexed i (plain_head s gap i at)
+  pub plain_index : IfOk (plain_head s gap i at) (Indexed i)
   unfolding Indexed
-  plain_index = plain_cases (Indexed i) (λ _ _. tt) s gap i at (λ _ _ _. refl)
-
-  pub plain_refuses : Refuses (plain_head s gap i at)
-  unfolding Refuses
-  plain_refuses = plain_cases Refuses (λ _ h. h) s gap i at (λ _ _ _. tt)
+  plain_index = plain_cases (λ r. IfOk r (Indexed i)) (λ _. tt) s gap i at (λ _ _ _. refl)
 
 -- ---- an element of an object
 
 module _ (s : List ℕ) (required : Bool) (i at : ℕ) where
-  pub object_inside : at ≤ length s → Inside (length s) at (object_head s required i at)
+  pub object_inside : at ≤ length s → IfOk (object_head s required i at) (Inside (length s) at)
   unfolding Inside
   object_inside h =
-      object_cases (Inside (length s) at) (λ _ _. tt) s required i at (λ whole _. (omega arith, omega arith)) (λ whole _ fit. (omega arith, omega arith))
+      object_cases (λ r. IfOk r (Inside (length s) at)) (λ _. tt) s required i at (λ whole _. (omega arith, omega arith)) (λ whole _ fit. (omega arith, omega arith))
 
-  pub object_from : From (at + 8) (object_head s required i at)
+  pub object_from : IfOk (object_head s required i at) (From (at + 8))
   unfolding From
-  object_from = object_cases (From (at + 8)) (λ _ _. tt) s required i at (λ _ _. omega arith) (λ _ _ _. omega arith)
+  object_from = object_cases (λ r. IfOk r (From (at + 8))) (λ _. tt) s required i at (λ _ _. omega arith) (λ _ _ _. omega arith)
 
-  pub object_index : Indexed i (object_head s required i at)
+  pub object_index : IfOk (object_head s required i at) (Indexed i)
   unfolding Indexed
-  object_index = object_cases (Indexed i) (λ _ _. tt) s required i at (λ _ _. refl) (λ _ _ _. refl)
-
-  pub object_refuses : Refuses (object_head s required i at)
-  unfolding Refuses
-  object_refuses = object_cases Refuses (λ _ h. h) s required i at (λ _ _. tt) (λ _ _ _. tt)
+  object_index = object_cases (λ r. IfOk r (Indexed i)) (λ _. tt) s required i at (λ _ _. refl) (λ _ _ _. refl)
 
 -- ---- an element of a set of arrays
 
 module _ (s : List ℕ) (i at : ℕ) where
-  pub envelope_inside : at ≤ length s → Inside (length s) at (envelope_head s i at)
+  pub envelope_inside : at ≤ length s → IfOk (envelope_head s i at) (Inside (length s) at)
   unfolding Inside
-  envelope_inside h = envelope_cases (Inside (length s) at) (λ _ _. tt) s i at (λ whole _ fit. (omega arith, omega arith))
+  envelope_inside h = envelope_cases (λ r. IfOk r (Inside (length s) at)) (λ _. tt) s i at (λ whole _ fit. (omega arith, omega arith))
 
-  pub envelope_from : From (at + 16) (envelope_head s i at)
+  pub envelope_from : IfOk (envelope_head s i at) (From (at + 16))
   unfolding From
-  envelope_from = envelope_cases (From (at + 16)) (λ _ _. tt) s i at (λ _ _ _. omega arith)
+  envelope_from = envelope_cases (λ r. IfOk r (From (at + 16))) (λ _. tt) s i at (λ _ _ _. omega arith)
 
-  pub envelope_index : Indexed i (envelope_head s i at)
+  pub envelope_index : IfOk (envelope_head s i at) (Indexed i)
   unfolding Indexed
-  envelope_index = envelope_cases (Indexed i) (λ _ _. tt) s i at (λ _ _ _. refl)
-
-  pub envelope_refuses : Refuses (envelope_head s i at)
-  unfolding Refuses
-  envelope_refuses = envelope_cases Refuses (λ _ h. h) s i at (λ _ _ _. tt)
+  envelope_index = envelope_cases (λ r. IfOk r (Indexed i)) (λ _. tt) s i at (λ _ _ _. refl)
 
 -- ---- an element of a sparse object
 
-pub optional_index : (s : List ℕ) (r : Bool) (i start size : ℕ) → Indexed i (optional s r i start size)
+pub optional_index : (s : List ℕ) (r : Bool) (i start size : ℕ) → IfOk (optional s r i start size) (Indexed i)
 unfolding Indexed
-optional_index s r i start size = optional_cases (Indexed i) (λ _ _. tt) s r i start size (λ _. refl) (λ _ _. refl)
+optional_index s r i start size = optional_cases (λ r. IfOk r (Indexed i)) (λ _. tt) s r i start size (λ _. refl) (λ _ _. refl)
 
 module _ (s cards : List ℕ) (marks : List Bool) (at : ℕ) where
-  pub sparse_inside : at ≤ length s → Inside (length s) at (sparse_head s cards marks at)
+  pub sparse_inside : at ≤ length s → IfOk (sparse_head s cards marks at) (Inside (length s) at)
   unfolding Inside
   sparse_inside h =
-      sparse_cases (Inside (length s) at) (λ _ _. tt) s cards marks at
+      sparse_cases (λ r. IfOk r (Inside (length s) at)) (λ _. tt) s cards marks at
       (λ whole _ _ _. (omega arith, omega arith)) (λ whole _ _ _ fit. (omega arith, omega arith))
 
-  pub sparse_from_lem : From (at + 8) (sparse_head s cards marks at)
+  pub sparse_from_lem : IfOk (sparse_head s cards marks at) (From (at + 8))
   unfolding From
-  sparse_from_lem = sparse_cases (From (at + 8)) (λ _ _. tt) s cards marks at (λ _ _ _ _. omega arith) (λ _ _ _ _ _. omega arith)
+  sparse_from_lem = sparse_cases (λ r. IfOk r (From (at + 8))) (λ _. tt) s cards marks at (λ _ _ _ _. omega arith) (λ _ _ _ _ _. omega arith)
 
   -- the index is known and new
-  pub sparse_index_below : Fresh (length cards) marks (sparse_head s cards marks at)
+  pub sparse_index_below : IfOk (sparse_head s cards marks at) (Fresh (length cards) marks)
   unfolding Fresh
   sparse_index_below =
-      sparse_cases (Fresh (length cards) marks) (λ _ _. tt) s cards marks at (λ _ few new _. (few, new)) (λ _ few new _ _. (few, new))
-
-  pub sparse_refuses : Refuses (sparse_head s cards marks at)
-  unfolding Refuses
-  sparse_refuses = sparse_cases Refuses (λ _ h. h) s cards marks at (λ _ _ _ _. tt) (λ _ _ _ _ _. tt)
+      sparse_cases (λ r. IfOk r (Fresh (length cards) marks)) (λ _. tt) s cards marks at (λ _ few new _. (few, new)) (λ _ few new _ _. (few, new))
 
 -- an index that is known is below the number of cardinalities and new, and the head is whole
-pub known_new : (s : List ℕ) (n : ℕ) (marks : List Bool) (at i : ℕ) → sparse_index s n marks at ≡ Known i
+pub known_new : (s : List ℕ) (n : ℕ) (marks : List Bool) (at i : ℕ) → sparse_index s n marks at ≡ Ok i
     → (i < n) × (get_or marks i false ≡ false) × (8 ≤ length s - at)
-known_new s n marks at i =
-    index_cases (λ x. x ≡ Known i → (i < n) × (get_or marks i false ≡ false) × (8 ≤ length s - at)) s n marks at
-    (λ m _ e. let z : ◌≡◌ {A = ℕ} 0 1 = cc in absurd (omega arith))
-    (λ whole few new e. let a : word s at ≡ i = cc in (omega arith, rw a at new, whole))
+known_new s n marks at i e =
+    IfOk-at_ok (λ (j : ℕ). (j < n) × (get_or marks j false ≡ false) × (8 ≤ length s - at)) e
+    (index_cases (λ r. IfOk r (λ j. (j < n) × (get_or marks j false ≡ false) × (8 ≤ length s - at))) s n marks at (λ _. tt)
+    (λ whole few new. (few, new, whole)))
 
 -- ---- any head that leads inside n bytes, after `at`
 
-pub inside_end : (n at : ℕ) (h : Head) → Inside n at h → end_of h ≤ n
+pub inside_end : (n at : ℕ) (h : Head) → Inside n at h → end_of (Ok h) ≤ n
 unfolding Inside end_of
 inside_end n at (Present i start size) p = p.1
 inside_end n at (Absent i start) p = p.1
-inside_end n at (Fault m) p = omega arith
 
--- where the head ends at k or later and is no refusal, so does the element
-pub from_end : (k : ℕ) (h : Head) → From k h → Refuses h → head_fault h ≡ 0 → k ≤ end_of h
-unfolding From Refuses head_fault end_of
-from_end k (Present i start size) p r e = omega arith
-from_end k (Absent i start) p r e = p
-from_end k (Fault m) p r e = absurd (omega arith)
+-- where the head ends at k or later, so does the element
+pub from_end : (k : ℕ) (h : Head) → From k h → k ≤ end_of (Ok h)
+unfolding From end_of
+from_end k (Present i start size) p = omega arith
+from_end k (Absent i start) p = p
 
 pub present_size : (n at : ℕ) (h : Head) → Inside n at h → (i start size : ℕ) → h ≡ Present i start size → (at < start) × (start + size ≤ n) × (size ≤ n)
 unfolding Inside

@@ -1,7 +1,6 @@
--- The laws that other crates cite: what each head can be, and where it leads; the required elements of a sparse object, counted; the marks of
--- its indexes; and what a head is where one of its cases was taken out.
+-- The laws that other crates cite: what each head can be, and where it leads; the required elements of a sparse object, counted; and the marks
+-- of its indexes.
 pub mod Cases
 pub mod Bounds
 pub mod Counts
 pub mod Marks
-pub mod Told

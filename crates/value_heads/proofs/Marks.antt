@@ -1,23 +1,20 @@
 -- The marks of a sparse object's indexes, one index after the other.
 use mathlib.Core.Path.{◌≡◌, refl, ap, sym, ◌∙◌}
-use mathlib.Core.Bool.{Bool, true, false}
+use mathlib.Core.Bool.{Bool, true, false, ◌||◌, or-false}
 use mathlib.Core.List.{List, [], ◌∷◌, ◌++◌}
-use Prim.Native.Nat.{ℕ, zero, suc, ◌+◌, ◌-◌, ◌<◌, ◌≤◌}
+use Prim.Native.Nat.{ℕ, ◌+◌, ◌<◌, ◌≤◌}
 use native.Mathlib.Omega.{arith}
+use native.Mathlib.Numerals.{add-one}
 use native.Mathlib.Nat.{zero-add}
-use native.Mathlib.Numerals.{sub-one}
-use denote.Enum.Declared.{tag_of}
-use types.Run.{OneOf}
+use lib.Dec.{leb}
 use lib.ListN.{length, get_or, set, length-set, get_or-eq_default}
 use lib.Seq.{append_snoc, set_out}
+use Rattle.std.specs.Prelude.{Ok, Err, IfOk}
+use Rattle.std.proofs.lemmas.Result.{IfOk-at_ok}
 use borrow.Author.Tests.{le-leb, lt-leb}
 use Rattle.value_heads.specs.Marks.{marked, repeats, after_head, from_index, indexes_in, indexes_apart}
 use Rattle.forms.specs.declared.Head.{Head}
-use Rattle.forms.specs.declared.Head.TheVariants.{Present}
-use Rattle.forms.specs.declared.Index.{Index}
-use Rattle.forms.specs.declared.Index.TheVariants.{Known, Bad}
-use Rattle.forms.specs.contracts.Head.{the_type}
-use Rattle.value_heads.proofs.Told.{not_present}
+use Rattle.forms.specs.declared.Head.TheVariants.{Present, Absent}
 use Rattle.value_heads.proofs.Cases.{optional_cases}
 use Rattle.value_heads.proofs.Bounds.{known_new}
 use Rattle.protocol.specs.Numbers.{pick}
@@ -49,12 +46,10 @@ repeats_snoc marks (j ∷ is) i =
 
 -- ---- the loop over the indexes of a stretch
 
-either_turned : (a b c : Bool) → pick a true (pick b true c) ≡ pick (pick b true a) true c
+either_turned : (a b c : Bool) → pick a true (pick b true c) ≡ pick (a || b) true c
 unfolding pick
-either_turned true true c = refl
-either_turned true false c = refl
-either_turned false true c = refl
-either_turned false false c = refl
+either_turned true b c = refl
+either_turned false b c = refl
 
 -- what is left of the indexes leads to the same marks
 abbrev pub Marking : List Bool → List ℕ → List Bool → Bool → List ℕ → Type 0
@@ -67,11 +62,11 @@ marking_start marks is e = (e, refl, refl)
 
 module _ (marks₀ : List Bool) (is : List ℕ) (marks : List Bool) (twice : Bool) (rest : List ℕ) (m : Marking marks₀ is marks twice rest) where
   -- the next index, which had been given or not
-  pub marking_next : (i : ℕ) (next : List ℕ) → rest ≡ i ∷ next → (t : Bool) → t ≡ pick (get_or marks i false) true twice → Marking marks₀ is (set marks i true) t next
+  pub marking_next : (i : ℕ) (next : List ℕ) → rest ≡ i ∷ next → Marking marks₀ is (set marks i true) (twice || get_or marks i false) next
   unfolding repeats marked
-  marking_next i next e t et = (
+  marking_next i next e = (
     length-set marks i true ∙ m.0,
-    (rw e at m.1) ∙ either_turned twice (get_or marks i false) (repeats (set marks i true) next) ∙ ap (λ (b : Bool). pick b true (repeats (set marks i true) next)) (sym et),
+    (rw e at m.1) ∙ either_turned twice (get_or marks i false) (repeats (set marks i true) next),
     rw e at m.2,
   )
 
@@ -81,7 +76,7 @@ module _ (marks₀ : List Bool) (is : List ℕ) (marks : List Bool) (twice : Boo
   marking_past i next e h =
       let long : length marks ≤ i = omega (arith, m.0) in
       let none : get_or marks i false ≡ false = get_or-eq_default marks false long in
-      rw (set_out marks i true long) at (marking_next i next e twice (rw none))
+      rw (set_out marks i true long, none, or-false) at (marking_next i next e)
 
   pub marking_done : rest ≡ [] → (twice ≡ repeats marks₀ is) × (marks ≡ marked marks₀ is)
   unfolding repeats marked
@@ -91,69 +86,65 @@ module _ (marks₀ : List Bool) (is : List ℕ) (marks : List Bool) (twice : Boo
 
 -- ---- the indexes of a stretch, one more
 
-module _ (s : List ℕ) where
-  pub in_none : (n at : ℕ) → n ≤ 0 → indexes_in s n at ≡ []
+pub in_none : (s : List ℕ) (m at : ℕ) → m ≡ 0 → indexes_in s m at ≡ []
+unfolding indexes_in
+in_none s m at z = rw z
+
+-- the next element, by its index
+module _ (s : List ℕ) (m r at : ℕ) (z : m ≡ r + 1) where
+  in_next : indexes_in s m at ≡ from_index (indexes_in s r) s at (sparse_index s 512 [] at)
   unfolding indexes_in
-  in_none zero at h = refl
-  in_none (suc n) at h = absurd (omega arith)
+  in_next = rw (z, add-one)
 
-  -- the next element, by its index
-  module _ (n at : ℕ) (z : 0 < n) (x : Index) (ex : x ≡ sparse_index s 512 [] at) where
-    in_next : indexes_in s n at ≡ from_index (indexes_in s (n - 1)) s at x
-    unfolding indexes_in
-    in_next = go n z
-      where
-        go : (m : ℕ) → 0 < m → indexes_in s m at ≡ from_index (indexes_in s (m - 1)) s at x
-        go zero h = absurd (omega arith)
-        go (suc m) h = rw (sub-one, ex)
+  pub in_bad : (q : ℕ) → Err q ≡ sparse_index s 512 [] at → indexes_in s m at ≡ []
+  unfolding from_index
+  in_bad q e = in_next ∙ rw (← e)
 
-    pub in_bad : (m : ℕ) → x ≡ Bad m → indexes_in s n at ≡ []
-    unfolding from_index
-    in_bad m e = in_next ∙ rw e
+  -- and by its head
+  module _ (i : ℕ) (e : Ok i ≡ sparse_index s 512 [] at) where
+    pub in_refused : (q : ℕ) → Err q ≡ optional s false i (at + 8) (word s (at + 4)) → indexes_in s m at ≡ i ∷ []
+    unfolding from_index after_head
+    in_refused q eh = in_next ∙ rw (← e, ← eh)
 
-    pub in_known : (i : ℕ) → x ≡ Known i → (h : Head) → h ≡ optional s false i (at + 8) (word s (at + 4)) → indexes_in s n at ≡ i ∷ after_head (indexes_in s (n - 1)) h
-    unfolding from_index
-    in_known i e h eh = in_next ∙ rw (e, eh)
+    module _ (h : Head) (eh : Ok h ≡ optional s false i (at + 8) (word s (at + 4))) where
+      pub in_absent : (j start : ℕ) → h ≡ Absent j start → indexes_in s m at ≡ i ∷ []
+      unfolding from_index after_head
+      in_absent j start eq = in_next ∙ rw (← e, ← eh, eq)
 
-    -- its index has a mark, and its head is whole
-    pub in_whole : (i : ℕ) → x ≡ Known i → at ≤ length s → (i < 512) × (at + 8 ≤ length s)
-    in_whole i e h = let k = known_new s 512 [] at i (sym ex ∙ e) in (k.0, omega (arith, k.2))
+      pub in_there : (j start size : ℕ) → h ≡ Present j start size → indexes_in s m at ≡ i ∷ indexes_in s r (start + size)
+      unfolding from_index after_head
+      in_there j start size eq = in_next ∙ rw (← e, ← eh, eq)
 
--- and by its head
-pub there_inside : (s : List ℕ) (q : Bool) (i from n j start size : ℕ) → from ≤ length s → (h : Head) → h ≡ optional s q i from n → h ≡ Present j start size → start + size ≤ length s
-there_inside s q i from n j start size inside h eh e =
-    optional_cases (λ x. x ≡ Present j start size → start + size ≤ length s)
-    (λ _ _ y. let z : ◌≡◌ {A = ℕ} 0 1 = cc in absurd (omega arith)) s q i from n
-    (λ _ y. let z : ◌≡◌ {A = ℕ} 0 1 = cc in absurd (omega arith))
-    (λ few fits y.
-    let a : from ≡ start = cc in
-    let b : n ≡ size = cc in
-    omega (arith, a, b))
-    (sym eh ∙ e)
+-- an index that is known has a mark, and its head is whole
+pub in_whole : (s : List ℕ) (at i : ℕ) → Ok i ≡ sparse_index s 512 [] at → at ≤ length s → (i < 512) × (at + 8 ≤ length s)
+in_whole s at i e h = let k = known_new s 512 [] at i (sym e) in (k.0, omega (arith, k.2))
 
-pub after_there : (f : ℕ → List ℕ) (h : Head) (i start size : ℕ) → h ≡ Present i start size → after_head f h ≡ f (start + size)
-unfolding after_head
-after_there f h i start size e = rw e
+-- an element that is there ends within the bytes
+abbrev Ends : ℕ → Head → Type 0
+Ends n (Present i start size) = start + size ≤ n
+Ends n (Absent i start) = start ≤ n
 
-pub after_none : (f : ℕ → List ℕ) (h : Head) → OneOf (1 ∷ 2 ∷ []) (tag_of the_type h) → after_head f h ≡ []
-unfolding after_head
-after_none f = not_present (λ h. after_head f h ≡ []) (λ i start. refl) (λ n. refl)
+pub there_inside : (s : List ℕ) (q : Bool) (i from n : ℕ) (h : Head) (j start size : ℕ) → from ≤ length s → Ok h ≡ optional s q i from n → h ≡ Present j start size → start + size ≤ length s
+there_inside s q i from n h j start size inside eh e = rw e at (IfOk-at_ok (Ends (length s)) (sym eh)
+    (optional_cases (λ r. IfOk r (Ends (length s))) (λ _. tt) s q i from n (λ _. inside) (λ few fits. omega arith)))
 
 module _ (l : List ℕ) (step : ℕ) where
-  pub apart_none : (n at : ℕ) → n ≤ 0 → indexes_apart l step n at ≡ []
+  pub apart_none : (m at : ℕ) → m ≡ 0 → indexes_apart l step m at ≡ []
   unfolding indexes_apart
-  apart_none zero at h = refl
-  apart_none (suc n) at h = absurd (omega arith)
+  apart_none m at z = rw z
 
-  pub apart_past : (n at : ℕ) → length l ≤ at → indexes_apart l step n at ≡ []
-  unfolding indexes_apart pick
-  apart_past zero at h = refl
-  apart_past (suc n) at h = rw (le-leb (length l) at h)
+  module _ (m r at : ℕ) (z : m ≡ r + 1) where
+    apart_next : indexes_apart l step m at ≡ pick (leb (length l) at) [] (get_or l at 0 ∷ indexes_apart l step r (at + step))
+    unfolding indexes_apart
+    apart_next = rw (z, add-one)
 
-  pub apart_more : (n at : ℕ) → 0 < n → at < length l → indexes_apart l step n at ≡ get_or l at 0 ∷ indexes_apart l step (n - 1) (at + step)
-  unfolding indexes_apart pick
-  apart_more zero at z h = absurd (omega arith)
-  apart_more (suc n) at z h = rw (lt-leb (length l) at h, sub-one)
+    pub apart_past : length l ≤ at → indexes_apart l step m at ≡ []
+    unfolding pick
+    apart_past h = apart_next ∙ rw (le-leb (length l) at h)
+
+    pub apart_more : at < length l → indexes_apart l step m at ≡ get_or l at 0 ∷ indexes_apart l step r (at + step)
+    unfolding pick
+    apart_more h = apart_next ∙ rw (lt-leb (length l) at h)
 
 -- ---- a stretch that grows at its end: whatever comes after it
 

@@ -2,7 +2,7 @@
 -- where an element stands. That the count tells whether a required one is lacking (R5.14) is proved (proofs/Counts).
 use Rattle.std.specs.Prelude.{ℕ, zero, suc, ◌+◌, ◌<◌, ◌≤◌, Bool, false, List, get_or}
 use Rattle.forms.specs.declared.Head.{Head}
-use Rattle.forms.specs.declared.Head.TheVariants.{Present, Absent, Fault}
+use Rattle.forms.specs.declared.Head.TheVariants.{Present, Absent}
 use Rattle.protocol.specs.Numbers.{pick}
 use Rattle.protocol.specs.Heads.{requires}
 
@@ -19,4 +19,3 @@ given cards marks (suc n) = given cards marks n + pick (requires (get_or cards n
 unfoldable pub Inside : ℕ → ℕ → Head → Type 0
 Inside n at (Present i start size) = (at < start) × (start + size ≤ n)
 Inside n at (Absent i start) = (at < start) × (start ≤ n)
-Inside n at (Fault m) = Unit {0}

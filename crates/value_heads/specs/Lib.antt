@@ -1,6 +1,5 @@
--- Heads counts the required elements of a sparse object, Faults gives the refusals' numbers, Bounds says what holds of every head that was
--- read, and Marks which indexes of a sparse object were seen.
+-- Heads counts the required elements of a sparse object, Bounds says what holds of every head that was read, and Marks which indexes of a
+-- sparse object were seen.
 pub mod Heads
-pub mod Faults
 pub mod Bounds
 pub mod Marks

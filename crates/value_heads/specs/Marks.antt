@@ -1,10 +1,8 @@
 -- Nobody has to believe these definitions: they are the marks of a sparse object's indexes (R5.10) as the code sets them, those of a stretch of
 -- elements one after the other.
-use Rattle.std.specs.Prelude.{ℕ, zero, suc, ◌+◌, Bool, true, false, List, [], ◌∷◌, leb, length, get_or, set}
+use Rattle.std.specs.Prelude.{ℕ, zero, suc, ◌+◌, Bool, true, false, List, [], ◌∷◌, leb, length, get_or, Result, Ok, Err, set}
 use Rattle.forms.specs.declared.Head.{Head}
-use Rattle.forms.specs.declared.Head.TheVariants.{Present, Absent, Fault}
-use Rattle.forms.specs.declared.Index.{Index}
-use Rattle.forms.specs.declared.Index.TheVariants.{Known, Bad}
+use Rattle.forms.specs.declared.Head.TheVariants.{Present, Absent}
 use Rattle.protocol.specs.Numbers.{pick}
 use Rattle.protocol.specs.Heads.{word, optional, sparse_index}
 
@@ -21,14 +19,14 @@ repeats marks (i ∷ is) = pick (get_or marks i false) true (repeats (set marks 
 -- ---- the indexes of a stretch of elements
 
 -- what comes after an element: the rest from where it ends, if it is there
-unfoldable pub after_head : (ℕ → List ℕ) → Head → List ℕ
-after_head rest (Present i start size) = rest (start + size)
-after_head rest (Absent i start) = []
-after_head rest (Fault n) = []
+unfoldable pub after_head : (ℕ → List ℕ) → Result Head ℕ → List ℕ
+after_head rest (Ok (Present i start size)) = rest (start + size)
+after_head rest (Ok (Absent i start)) = []
+after_head rest (Err n) = []
 
-unfoldable pub from_index : (ℕ → List ℕ) → List ℕ → ℕ → Index → List ℕ
-from_index rest s at (Bad n) = []
-from_index rest s at (Known i) = i ∷ after_head rest (optional s false i (at + 8) (word s (at + 4)))
+unfoldable pub from_index : (ℕ → List ℕ) → List ℕ → ℕ → Result ℕ ℕ → List ℕ
+from_index rest s at (Err n) = []
+from_index rest s at (Ok i) = i ∷ after_head rest (optional s false i (at + 8) (word s (at + 4)))
 
 -- of n elements in a sparse object's bytes that are there, one after the other from a position on
 unfoldable pub indexes_in : List ℕ → ℕ → ℕ → List ℕ

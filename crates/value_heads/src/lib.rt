@@ -1,4 +1,4 @@
-// The heads of containers and of their elements, read from a container's own bytes. Each read answers an enum.
+// The heads of containers and of their elements, read from a container's own bytes.
 #![tactic(auto)]
 
 pub mod element;

@@ -1,14 +1,14 @@
 // The indexes of a sparse object's elements, which the wire gives.
 ghost use Rattle.std.specs.Prelude.{◌≡◌, true, false, [], ◌≤◌, ◌<◌, length, get_or, set, replicate};
 ghost use Rattle.value_heads.specs.Marks.{marked, repeats, indexes_in, indexes_apart};
-ghost use Rattle.protocol.specs.Numbers.{pick};
 ghost use Rattle.protocol.specs.Heads.{sparse_index};
 
 use crate::element::sparse_length;
-use forms::{Head, Index};
+use forms::Head;
+use forms::fault::Fault;
 
 // Which indexes of a sparse object were given, and whether one of those that came last had been given before. The marks are read and written
-// by the methods here alone: each takes the set by value and returns it with the mark (R9.11).
+// by the methods here alone. Kept: each takes the set by value and returns it with the mark, a form that was asked for (R9.11).
 #[derive(Drop)]
 pub struct Seen {
     pub marks: [bool; constants::MOST_ITEMS],
@@ -45,26 +45,20 @@ impl Seen {
     {
         let mut marks = self.marks;
         let mut twice = false;
-        let mut left = n;
         let mut pos = at;
-        while 0 < left {
-            let index = sparse_index(s, constants::MOST_ITEMS, pos);
-            let Index::Known(i) = index else {
-                return Seen { marks, twice };
+        for _ in 0..n {
+            let Ok(i) = sparse_index(s, constants::MOST_ITEMS, pos) else {
+                break;
             };
-            twice = either(twice, marks[i]);
+            twice |= marks[i];
             marks[i] = true;
-            let head = sparse_length(s, false, i, pos);
-            let Head::Present {
-                index: _,
-                start,
-                size,
-            } = head
-            else {
-                return Seen { marks, twice };
+            let Ok(head) = sparse_length(s, false, i, pos) else {
+                break;
+            };
+            let Head::Present { start, size, .. } = head else {
+                break;
             };
             pos = start + size;
-            left -= 1;
         }
         Seen { marks, twice }
     }
@@ -76,46 +70,35 @@ impl Seen {
     {
         let mut marks = self.marks;
         let mut twice = false;
-        let mut left = n;
         let mut word = first;
-        while 0 < left {
+        for _ in 0..n {
             if list.len() <= word {
-                return Seen { marks, twice };
+                break;
             }
             let i = list[word] as usize;
             if i < constants::MOST_ITEMS {
-                twice = either(twice, marks[i]);
+                twice |= marks[i];
                 marks[i] = true;
             }
             word += step;
-            left -= 1;
         }
         Seen { marks, twice }
     }
 }
 
-// Whether one of two holds.
-fn either(a: bool, b: bool) -> bool
-    ensures { result ≡ pick b true a }
-{
-    if b {
-        return true;
-    }
-    a
-}
-
 // The index of the element at `at`, of n, before it is looked for among the marks. The head must be whole (20) and the index known
 // (25).
-pub fn sparse_index(s: &[u8], n: usize, at: usize) -> Index
+#[tactic(auto, using(std::proofs::lemmas::Bool::Decides::nat_tests), unfolding(protocol::specs::Numbers::pick, protocol::specs::Heads::word, protocol::specs::Heads::sparse_index))]
+pub fn sparse_index(s: &[u8], n: usize, at: usize) -> Result<usize, Fault>
     requires { (at ≤ length s.now) × (n ≤ 512) }
     ensures { result ≡ sparse_index s.now n [] at }
 {
     if s.len() - at < 8 {
-        return Index::Bad(constants::CONTAINER_END);
+        return Err(Fault::CONTAINER_END);
     }
     let i = wire::be::u32_at(s, at) as usize;
     if n <= i {
-        return Index::Bad(constants::INDEX_OUTSIDE);
+        return Err(Fault::INDEX_OUTSIDE);
     }
-    Index::Known(i)
+    Ok(i)
 }

@@ -6,12 +6,12 @@ use mathlib.Core.Option.{Option, none, some}
 use Prim.Native.Nat.{ℕ, zero, suc, ◌+◌, ◌*◌, ◌≤◌, zero-le}
 use native.Mathlib.Omega.{arith}
 use lib.ListN.{length, take, drop, length-take, length-drop}
+use Rattle.std.specs.Prelude.{Result, Ok, Err, IfOk}
 use Rattle.wire.proofs.Picks.{pick_case}
 use Rattle.value_heads.specs.Bounds.{Opened}
 use Rattle.forms.specs.declared.Opening.{Opening}
-use Rattle.forms.specs.declared.Opening.TheVariants.{Elements, Wrong}
 use Rattle.forms.specs.declared.Head.{Head}
-use Rattle.forms.specs.declared.Head.TheVariants.{Present, Absent, Fault}
+use Rattle.forms.specs.declared.Head.TheVariants.{Present, Absent}
 use Rattle.value_laws.proofs.Outcomes.{entries_of, entries_then_le}
 use Rattle.value_laws.proofs.HeadSizes.{Spaced, sparse_spaced, row_spaced, node_opened}
 use Rattle.protocol.specs.Heads.{end_of}
@@ -48,18 +48,18 @@ module _ (rule : Rule) (small : (k i base : ℕ) (s : List ℕ) → Fits (length
 
   module _ (ref : ℕ → Option ℕ) (base : ℕ) (s : List ℕ) where
     -- an element and the rest, from `at` on
-    step_fits : (at : ℕ) (h : Head) → at ≤ length s → Spaced (length s) at h → (rest : ValueOutcome) → (end_of h ≤ length s → 4 * entries_of rest + end_of h ≤ length s)
+    step_fits : (at : ℕ) (h : Result Head ℕ) → at ≤ length s → IfOk h (Spaced (length s) at) → (rest : ValueOutcome) → (end_of h ≤ length s → 4 * entries_of rest + end_of h ≤ length s)
         → 4 * entries_of (then (element_outcome rule ref base s h) rest) + at ≤ length s
     unfolding element_outcome end_of then
-    step_fits at (Fault n) le d rest e = omega arith
-    step_fits at (Absent i start) le d rest e =
+    step_fits at (Err n) le d rest e = omega arith
+    step_fits at (Ok (Absent i start)) le d rest e =
         omega (arith, entries_then_le (absent (ref i) i (base + start)) rest, absent_fits (ref i) i (base + start), e d.1)
-    step_fits at (Present i start size) le d rest e =
+    step_fits at (Ok (Present i start size)) le d rest e =
         let part : List ℕ = take size (drop start s) in
         let len : length part ≤ size = simp (length-take, length-drop) (omega arith) in
         omega (arith, entries_then_le (present rule (ref i) i (base + start) part) rest, present_fits (ref i) i (base + start) part, e d.1)
 
-    module _ {S : Type 0} (form : Form S) (spaced : (st : S) (at : ℕ) → Spaced (length s) at (form.head st at)) where
+    module _ {S : Type 0} (form : Form S) (spaced : (st : S) (at : ℕ) → IfOk (form.head st at) (Spaced (length s) at)) where
       pub elements_fit : (n : ℕ) (st : S) (at : ℕ) → at ≤ length s → 4 * entries_of (elements form rule ref base s n st at) + at ≤ length s
       unfolding elements container_end entry_count
       elements_fit zero st at le =
@@ -71,16 +71,16 @@ module _ (rule : Rule) (small : (k i base : ℕ) (s : List ℕ) → Fits (length
       below_fits k i n st at le = under_fits (entry_of k i base (length s)) (length s) (elements form rule ref base s n st at) (omega (arith, elements_fit n st at le))
 
   module _ (k i base : ℕ) (s : List ℕ) where
-    row_fits : (v : Node) (o : Opening) → Opened (length s) o → Fits (length s + 4) (row_rule v rule o k i base s)
-    unfolding row_rule Opened
-    row_fits v (Wrong n) h = zero-le
-    row_fits v (Elements n first at) h = below_fits (ref_at v) base s (row_form v s) (λ i at. row_spaced s at v i) k i n first at h.1
+    row_fits : (v : Node) (o : Result Opening ℕ) → IfOk o (Opened (length s)) → Fits (length s + 4) (row_rule v rule o k i base s)
+    unfolding row_rule
+    row_fits v (Err n) h = zero-le
+    row_fits v (Ok o) h = below_fits (ref_at v) base s (row_form v s) (λ i at. row_spaced s at v i) k i o.count o.first o.at h.1
 
-    sparse_fits : (refs cards : List ℕ) (o : Opening) → Opened (length s) o → Fits (length s + 4) (sparse_rule refs cards rule o k i base s)
-    unfolding sparse_rule Opened
-    sparse_fits refs cards (Wrong n) h = zero-le
-    sparse_fits refs cards (Elements n first at) h =
-        below_fits (ref_at (sparse refs cards)) base s (sparse_form cards s) (λ marks at. sparse_spaced s at cards marks) k i n no_marks at h.1
+    sparse_fits : (refs cards : List ℕ) (o : Result Opening ℕ) → IfOk o (Opened (length s)) → Fits (length s + 4) (sparse_rule refs cards rule o k i base s)
+    unfolding sparse_rule
+    sparse_fits refs cards (Err n) h = zero-le
+    sparse_fits refs cards (Ok o) h =
+        below_fits (ref_at (sparse refs cards)) base s (sparse_form cards s) (λ marks at. sparse_spaced s at cards marks) k i o.count no_marks o.at h.1
 
     by_node_fits : (v : Node) → Fits (length s + 4) (by_node v rule k i base s)
     unfolding by_node

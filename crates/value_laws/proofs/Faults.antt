@@ -9,12 +9,11 @@ use native.Mathlib.Omega.{arith}
 use lib.Dec.{lit≤}
 use lib.ListN.{length, take, drop, get_or, get_elem?, length-take, length-drop}
 use borrow.Author.Tests.{leb-false}
+use Rattle.std.specs.Prelude.{Result, Ok, Err, IfOk}
 use Rattle.wire.proofs.Picks.{pick_case}
 use Rattle.forms.specs.declared.Opening.{Opening}
-use Rattle.forms.specs.declared.Opening.TheVariants.{Elements, Wrong}
 use Rattle.forms.specs.declared.Head.{Head}
-use Rattle.forms.specs.declared.Head.TheVariants.{Present, Absent, Fault}
-use Rattle.forms.specs.declared.Index.{Index}
+use Rattle.forms.specs.declared.Head.TheVariants.{Present, Absent}
 use Rattle.value_laws.proofs.HeadSizes.{Spaced, row_spaced, sparse_spaced}
 use Rattle.protocol.specs.Heads.{word, bounds, set_opening, count_opening, sparse_opening, range_opening, element_in, optional, plain_head}
 use Rattle.protocol.specs.Heads.{object_head, envelope_head, sparse_index, requires, sparse_rest, sparse_head, dimension}
@@ -41,13 +40,13 @@ Has (some r) = Unit {0}
 -- ---- heads
 
 -- a fault, or an element whose index has P
-abbrev Numbered : (P : ℕ → Type 0) → Head → Type 0
-Numbered P (Fault n) = ValueFault n
-Numbered P (Absent i at) = P i
-Numbered P (Present i at size) = P i
+abbrev Numbered : (P : ℕ → Type 0) → Result Head ℕ → Type 0
+Numbered P (Err n) = ValueFault n
+Numbered P (Ok (Absent i at)) = P i
+Numbered P (Ok (Present i at size)) = P i
 
 module _ (P : ℕ → Type 0) (s : List ℕ) where
-  abbrev H : Head → Type 0
+  abbrev H : Result Head ℕ → Type 0
   H = Numbered P
 
   sized_numbered : (i start size : ℕ) → P i → H (element_in s i start size)
@@ -81,19 +80,19 @@ module _ (P : ℕ → Type 0) (s : List ℕ) where
   sparse_numbered : (cards : List ℕ) (marks : List Bool) (at : ℕ) → ((i : ℕ) → i < length cards → P i) → H (sparse_head s cards marks at)
   unfolding sparse_head sparse_rest sparse_index
   sparse_numbered cards marks at x =
-      let Q : Index → Type 0 = λ j. H (sparse_rest s cards at j) in
+      let Q : Result ℕ ℕ → Type 0 = λ j. H (sparse_rest s cards at j) in
       pick_case Q _ _ _ (λ _. (lit≤ tt, lit≤ tt))
       (λ _. pick_case Q _ _ _ (λ _. (lit≤ tt, lit≤ tt))
       (λ few. pick_case Q _ _ _ (λ _. (lit≤ tt, lit≤ tt))
       (λ _. optional_numbered (requires (get_or cards (word s at) 0)) (word s at) _ _ (x (word s at) (leb-false _ _ few)))))
 
 -- a fault, or elements whose number and first index have P
-abbrev Opens : (P : ℕ → ℕ → Type 0) → Opening → Type 0
-Opens P (Wrong n) = ValueFault n
-Opens P (Elements n first at) = P n first
+abbrev Opens : (P : ℕ → ℕ → Type 0) → Result Opening ℕ → Type 0
+Opens P (Err n) = ValueFault n
+Opens P (Ok o) = P o.count o.first
 
 module _ (P : ℕ → ℕ → Type 0) (s : List ℕ) where
-  abbrev O : Opening → Type 0
+  abbrev O : Result Opening ℕ → Type 0
   O = Opens P
 
   set_opens : ((n first : ℕ) → P n first) → O (set_opening s)
@@ -164,15 +163,15 @@ module _ (all : ℕ) where
     present_judged (some k) inner i start s fit x = inner k refl i start s fit
 
     module _ (ref : ℕ → Option ℕ) (inner : (i r : ℕ) → ref i ≡ some r → JudgedBy rule r) (base : ℕ) (s : List ℕ) (fit : base + length s ≤ all) where
-      member_judged : (at : ℕ) (h : Head) → Spaced (length s) at h → Numbered (λ i. Has (ref i)) h → J (element_outcome rule ref base s h)
+      member_judged : (at : ℕ) (h : Result Head ℕ) → IfOk h (Spaced (length s) at) → Numbered (λ i. Has (ref i)) h → J (element_outcome rule ref base s h)
       unfolding element_outcome
-      member_judged at (Fault n) d x = (x, omega arith)
-      member_judged at (Absent i start) d x = absent_judged (ref i) i (base + start) x
-      member_judged at (Present i start size) d x =
+      member_judged at (Err n) d x = (x, omega arith)
+      member_judged at (Ok (Absent i start)) d x = absent_judged (ref i) i (base + start) x
+      member_judged at (Ok (Present i start size)) d x =
           present_judged (ref i) (inner i) i (base + start) (take size (drop start s)) (simp (length-take, length-drop) (omega arith)) x
 
       -- where n elements are left, the next has a node, and so have those after it
-      module _ {S : Type 0} (form : Form S) (spaced : (st : S) (at : ℕ) → Spaced (length s) at (form.head st at)) (Left : ℕ → S → Type 0)
+      module _ {S : Type 0} (form : Form S) (spaced : (st : S) (at : ℕ) → IfOk (form.head st at) (Spaced (length s) at)) (Left : ℕ → S → Type 0)
           (step : (n : ℕ) (st : S) (at : ℕ) → Left (suc n) st → Numbered (λ i. Has (ref i)) (form.head st at) × Left n (form.next st (form.head st at))) where
         elements_judged : (n : ℕ) (st : S) (at : ℕ) → Left n st → J (elements form rule ref base s n st at)
         unfolding elements container_end
@@ -208,23 +207,23 @@ Covered (range r) = Unit {0}
 
 module _ (all : ℕ) (rule : Rule) (k i base : ℕ) (s : List ℕ) (fit : base + length s ≤ all) where
   row_judged : (v : Node) → ((j r : ℕ) → ref_at v j ≡ some r → JudgedBy all rule r)
-      → ((j at : ℕ) → Has (ref_at v j) → Numbered (λ i. Has (ref_at v i)) (row_head v s j at)) → (o : Opening) → Opens (Led v) o
+      → ((j at : ℕ) → Has (ref_at v j) → Numbered (λ i. Has (ref_at v i)) (row_head v s j at)) → (o : Result Opening ℕ) → Opens (Led v) o
       → Judged all (row_rule v rule o k i base s)
   unfolding row_rule
-  row_judged v inner heads (Wrong n) x = (x, omega arith)
-  row_judged v inner heads (Elements n first at) x =
+  row_judged v inner heads (Err n) x = (x, omega arith)
+  row_judged v inner heads (Ok o) x =
       under_judged all _ _
       (elements_judged all rule (ref_at v) inner base s fit (row_form v s) (λ j at. row_spaced s at v j) (Led v)
-      (λ n j at y. (heads j at (y j (omega arith) (omega arith)), λ m a b. y m (omega arith) (omega arith))) n first at x)
+      (λ n j at y. (heads j at (y j (omega arith) (omega arith)), λ m a b. y m (omega arith) (omega arith))) o.count o.first o.at x)
 
   sparse_judged : (refs cards : List ℕ) → ((j r : ℕ) → ref_at (sparse refs cards) j ≡ some r → JudgedBy all rule r) → length cards ≤ length refs
-      → (o : Opening) → Opens (λ n first. Unit {0}) o → Judged all (sparse_rule refs cards rule o k i base s)
+      → (o : Result Opening ℕ) → Opens (λ n first. Unit {0}) o → Judged all (sparse_rule refs cards rule o k i base s)
   unfolding sparse_rule ref_at
-  sparse_judged refs cards inner each (Wrong n) x = (x, omega arith)
-  sparse_judged refs cards inner each (Elements n first at) x =
+  sparse_judged refs cards inner each (Err n) x = (x, omega arith)
+  sparse_judged refs cards inner each (Ok o) x =
       under_judged all _ _
       (elements_judged all rule (ref_at (sparse refs cards)) inner base s fit (sparse_form cards s) (λ marks at. sparse_spaced s at cards marks)
-      (λ n marks. Unit {0}) (λ n marks at y. (sparse_numbered _ s cards marks at (λ j lt. elem_has refs j (omega arith)), tt)) n no_marks at tt)
+      (λ n marks. Unit {0}) (λ n marks at y. (sparse_numbered _ s cards marks at (λ j lt. elem_has refs j (omega arith)), tt)) o.count no_marks o.at tt)
 
   by_node_judged : (v : Node) → Covered v → ((j r : ℕ) → ref_at v j ≡ some r → JudgedBy all rule r) → Judged all (by_node v rule k i base s)
   unfolding by_node opening_of row_head ref_at

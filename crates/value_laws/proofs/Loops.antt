@@ -6,6 +6,7 @@ use mathlib.Core.Option.{Option}
 use Prim.Native.Nat.{ℕ, suc}
 use lib.ListN.{length}
 use borrow.Author.Tests.{eq-eqb, ne_eqb}
+use Rattle.std.specs.Prelude.{Result}
 use Rattle.wire.proofs.Picks.{pick_yes, pick_no}
 use Rattle.forms.specs.declared.Head.{Head}
 use Rattle.protocol.specs.Heads.{end_of}
@@ -14,7 +15,7 @@ use Rattle.protocol.specs.Answers.{refused, accepted}
 use Rattle.protocol.specs.Values.{then, Rule, element_outcome, Form, container_end, elements}
 
 module _ {S : Type 0} (form : Form S) (rule : Rule) (ref : ℕ → Option ℕ) (base : ℕ) (s : List ℕ) (n : ℕ) (st : S) (at : ℕ) where
-  pub elements_next : (m : ℕ) (h : Head) → n ≡ suc m → h ≡ form.head st at
+  pub elements_next : (m : ℕ) (h : Result Head ℕ) → n ≡ suc m → h ≡ form.head st at
       → elements form rule ref base s n st at ≡ then (element_outcome rule ref base s h) (elements form rule ref base s m (form.next st h) (end_of h))
   unfolding elements
   elements_next m h e d = rw (e, d)

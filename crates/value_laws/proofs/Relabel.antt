@@ -7,10 +7,10 @@ use mathlib.Core.Option.{Option, none, some}
 use Prim.Native.Nat.{ℕ, zero, suc, ◌+◌, ◌<◌, ◌^◌}
 use native.Mathlib.Omega.{arith}
 use lib.ListN.{length, take, drop, get_elem?, length-map}
+use Rattle.std.specs.Prelude.{Result, Ok, Err}
 use Rattle.forms.specs.declared.Opening.{Opening}
-use Rattle.forms.specs.declared.Opening.TheVariants.{Elements, Wrong}
 use Rattle.forms.specs.declared.Head.{Head}
-use Rattle.forms.specs.declared.Head.TheVariants.{Present, Absent, Fault}
+use Rattle.forms.specs.declared.Head.TheVariants.{Present, Absent}
 use Rattle.protocol.specs.Numbers.{pick}
 use Rattle.protocol.specs.Heads.{end_of}
 use Rattle.protocol.specs.Nodes.{Node, leaf, enum, row, arrays, tuple, object, sparse, range, ref_at, rename}
@@ -85,11 +85,11 @@ module _ (ρ : ℕ → ℕ) where
 
     module _ (ref ref' : ℕ → Option ℕ) (same : (i : ℕ) → ref' i ≡ Option.map ρ (ref i)) (agree : (i r : ℕ) → ref i ≡ some r → Agree rule rule' r)
         (base : ℕ) (s : List ℕ) where
-      member_renamed : (h : Head) → element_outcome rule' ref' base s h ≡ renamed ρ (element_outcome rule ref base s h)
+      member_renamed : (h : Result Head ℕ) → element_outcome rule' ref' base s h ≡ renamed ρ (element_outcome rule ref base s h)
       unfolding element_outcome renamed
-      member_renamed (Fault n) = refl
-      member_renamed (Absent i at) = rw (same i) (absent_renamed (ref i) i (base + at))
-      member_renamed (Present i at size) = rw (same i) (present_renamed (ref i) (agree i) i (base + at) (take size (drop at s)))
+      member_renamed (Err n) = refl
+      member_renamed (Ok (Absent i at)) = rw (same i) (absent_renamed (ref i) i (base + at))
+      member_renamed (Ok (Present i at size)) = rw (same i) (present_renamed (ref i) (agree i) i (base + at) (take size (drop at s)))
 
       module _ {S : Type 0} (form : Form S) where
         elements_renamed : (n : ℕ) (st : S) (at : ℕ) → elements form rule' ref' base s n st at ≡ renamed ρ (elements form rule ref base s n st at)
@@ -104,18 +104,18 @@ module _ (ρ : ℕ → ℕ) where
         below_renamed k i n st at = rw (elements_renamed n st at) (sym (renamed_under k i base (length s) (elements form rule ref base s n st at)))
 
     module _ (v : Node) (agree : (i r : ℕ) → ref_at v i ≡ some r → Agree rule rule' r) (k i base : ℕ) (s : List ℕ) where
-      row_renamed : row_head (rename ρ v) ≡ row_head v → (o : Opening) → row_rule (rename ρ v) rule' o (ρ k) i base s ≡ renamed ρ (row_rule v rule o k i base s)
+      row_renamed : row_head (rename ρ v) ≡ row_head v → (o : Result Opening ℕ) → row_rule (rename ρ v) rule' o (ρ k) i base s ≡ renamed ρ (row_rule v rule o k i base s)
       unfolding row_rule renamed
-      row_renamed heads (Wrong n) = refl
-      row_renamed heads (Elements n first at) =
-          rw heads (below_renamed (ref_at v) (ref_at (rename ρ v)) (ref_renamed v) agree base s (row_form v s) k i n first at)
+      row_renamed heads (Err n) = refl
+      row_renamed heads (Ok o) =
+          rw heads (below_renamed (ref_at v) (ref_at (rename ρ v)) (ref_renamed v) agree base s (row_form v s) k i o.count o.first o.at)
 
-    sparse_renamed : (refs cards : List ℕ) → ((i r : ℕ) → ref_at (sparse refs cards) i ≡ some r → Agree rule rule' r) → (o : Opening) (k i base : ℕ) (s : List ℕ)
+    sparse_renamed : (refs cards : List ℕ) → ((i r : ℕ) → ref_at (sparse refs cards) i ≡ some r → Agree rule rule' r) → (o : Result Opening ℕ) (k i base : ℕ) (s : List ℕ)
         → sparse_rule (map ρ refs) cards rule' o (ρ k) i base s ≡ renamed ρ (sparse_rule refs cards rule o k i base s)
     unfolding sparse_rule renamed rename
-    sparse_renamed refs cards agree (Wrong n) k i base s = refl
-    sparse_renamed refs cards agree (Elements n first at) k i base s =
-        below_renamed (ref_at (sparse refs cards)) (ref_at (sparse (map ρ refs) cards)) (ref_renamed (sparse refs cards)) agree base s (sparse_form cards s) k i n no_marks at
+    sparse_renamed refs cards agree (Err n) k i base s = refl
+    sparse_renamed refs cards agree (Ok o) k i base s =
+        below_renamed (ref_at (sparse refs cards)) (ref_at (sparse (map ρ refs) cards)) (ref_renamed (sparse refs cards)) agree base s (sparse_form cards s) k i o.count no_marks o.at
 
     by_node_renamed : (v : Node) → ((i r : ℕ) → ref_at v i ≡ some r → Agree rule rule' r) → (k i base : ℕ) (s : List ℕ)
         → by_node (rename ρ v) rule' (ρ k) i base s ≡ renamed ρ (by_node v rule k i base s)

@@ -3,22 +3,17 @@
 // time alone: what is left after it leads to the same place.
 #![tactic(auto)]
 
-ghost use Rattle.std.specs.Prelude.{◌≡◌, ◌+◌, ◌*◌, ◌^◌, ◌<◌, ◌≤◌, length, take, drop, get_or, true};
+ghost use Rattle.std.specs.Prelude.{◌≡◌, ◌+◌, ◌*◌, ◌^◌, ◌<◌, ◌≤◌, length, take, drop, get_or, true, IfSome};
+ghost use Rattle.std.proofs.Math.Option.{some};
 ghost use Rattle.value_parts.specs.Walk.{Holds, leaf_good, leaf_kind};
-ghost use Rattle.value_leaves.specs.Leaves.{FixedAt, SameAt, Ordered, Stretched, leaf_at, fixed_leaf, given_at, Gathers, gap_of};
+ghost use Rattle.value_leaves.specs.Leaves.{fixed_of, FixedAt, told_size, told_of, ToldAt, Ordered, Stretched, leaf_at, fixed_leaf, given_at, Gathers, gap_of};
+ghost use Rattle.protocol.specs.Nodes.{ref_at};
 ghost use Rattle.protocol.specs.Plans.{look};
 ghost use Rattle.plan_nodes.specs.Readers.{At};
 
-use forms::{Head, Index};
+use forms::{Head, Span};
 use value_heads::sparse::Seen;
-use value_parts::{Gathered, entry, gather, node};
-
-// An element that is a leaf, is there and is permitted: where its bytes start, and how many they are. Or another.
-#[derive(Clone, Copy)]
-pub enum Leaf {
-    Good { start: usize, size: usize },
-    Other,
-}
+use value_parts::{Gathered, entry, node};
 
 // Where a stretch of elements ends: how many of the container's elements are left, where the next one's head stands, and the words of the
 // list so far.
@@ -29,91 +24,86 @@ pub struct Stretch {
     pub at: usize,
 }
 
-// An element of a sparse object that is a leaf, is there and is permitted: its index, its node, where its bytes start and how many they are.
-// Or another.
+// An element of a sparse object that is a leaf, is there and is permitted.
 #[derive(Clone, Copy)]
-pub enum Given {
-    Whole {
-        index: usize,
-        node: usize,
-        start: usize,
-        size: usize,
-    },
-    Unknown,
+pub struct Given {
+    pub index: usize,
+    pub node: usize,
+    pub bytes: Span,
 }
 
-// How the leaves of a set are told: by their size, and whether they are a time of day.
+// How the values of a leaf are told where they are any bytes of a size, or a time of day.
 #[derive(Clone, Copy)]
-struct Same {
-    size: usize,
-    timed: bool,
+pub enum Told {
+    Size(usize),
+    Time,
 }
 
-// The size of a leaf whose values are any bytes of that size, and 0 for every other node.
-fn fixed_at(plan: &[u32], node: usize) -> usize
+// The size of a leaf whose values are any bytes of that size.
+fn fixed_at(plan: &[u32], node: usize) -> Option<usize>
     requires { At plan.now node }
-    ensures { FixedAt plan.now node result }
+    ensures is { result ≡ fixed_of (look plan.now node) }
+    ensures rule { IfSome result (FixedAt plan.now node) }
 {
-    let kind = plan_nodes::node::kind_at(plan, node);
-    if kind == constants::KIND_LEAF {
-        return value_scalars::format::fixed_size(plan_nodes::node::second_at(plan, node) as u32);
+    if plan_nodes::node::kind_at(plan, node) != constants::KIND_LEAF {
+        return None;
     }
-    0
+    match value_scalars::format::fixed_size(plan_nodes::node::second_at(plan, node) as u32) {
+        0 => None,
+        size => Some(size),
+    }
 }
 
-// How the leaves of a set are told, if they are any bytes of a size or a time of day; of every other node size 0.
-fn same_at(plan: &[u32], node: usize) -> Same
+// How the values of a leaf are told; of another node, nothing.
+fn told_at(plan: &[u32], node: usize) -> Option<Told>
     requires { At plan.now node }
-    ensures { SameAt plan.now node result.size result.timed }
+    ensures is { result ≡ told_of (look plan.now node) }
+    ensures rule { IfSome result (ToldAt plan.now node) }
 {
-    let kind = plan_nodes::node::kind_at(plan, node);
-    if kind != constants::KIND_LEAF {
-        return Same {
-            size: 0,
-            timed: false,
-        };
+    if plan_nodes::node::kind_at(plan, node) == constants::KIND_LEAF
+        && plan_nodes::node::second_at(plan, node) as u32 == constants::FORMAT_LOCAL_TIME
+    {
+        return Some(Told::Time);
     }
-    let format = plan_nodes::node::second_at(plan, node) as u32;
-    if format == constants::FORMAT_LOCAL_TIME {
-        return Same {
-            size: 8,
-            timed: true,
-        };
-    }
-    Same {
-        size: value_scalars::format::fixed_size(format),
-        timed: false,
-    }
+    let size = fixed_at(plan, node)?;
+    Some(Told::Size(size))
 }
 
-// The element at `pos`, its length before it, where it is of this size and permitted; none is of size 0.
-fn fixed_leaf(part: &[u8], pos: usize, same: Same) -> Leaf
-    requires { (pos ≤ length part.now) × (same.size ≤ 16) × (same.timed ≡ true → same.size ≡ 8) }
-    ensures { result ≡ fixed_leaf part.now pos same.size same.timed }
-{
-    let size = same.size;
-    if size == 0 {
-        return Leaf::Other;
-    }
-    if part.len() - pos < size + 4 {
-        return Leaf::Other;
-    }
-    if wire::be::u32_at(part, pos) != size as u32 {
-        return Leaf::Other;
-    }
-    let start = pos + 4;
-    if same.timed {
-        if !value_scalars::in_day(part, start) {
-            return Leaf::Other;
+impl Told {
+    // The size of values that are so told.
+    fn size(self) -> usize
+        ensures { result ≡ told_size self }
+    {
+        match self {
+            Told::Size(size) => size,
+            Told::Time => 8,
         }
     }
-    Leaf::Good { start, size }
 }
 
-// Elements of a set or an array, which share one node and so one format.
+// The element at `pos`, its length before it, where it is so told and permitted.
+fn fixed_leaf(part: &[u8], pos: usize, told: Told) -> Option<Span>
+    requires { (pos ≤ length part.now) × (told_size told ≤ 16) }
+    ensures { result ≡ fixed_leaf part.now pos told }
+{
+    let len = told.size();
+    if part.len() - pos < len + 4 || wire::be::u32_at(part, pos) != len as u32 {
+        return None;
+    }
+    let start = pos + 4;
+    match told {
+        Told::Size(_) => Some(Span { start, len }),
+        Told::Time if value_scalars::in_day(part, start) => Some(Span { start, len }),
+        Told::Time => None,
+    }
+}
+
+// Elements of a set or an array, which share the node `child` and are all told by it.
 fn same_leaves(
     plan: &[u32],
     node: usize,
+    child: usize,
+    told: Told,
     count: usize,
     first: usize,
     base: usize,
@@ -123,27 +113,26 @@ fn same_leaves(
     at: usize,
 ) -> Stretch
     requires { (At plan.now node) × (get_or plan.now node 0 ≡ 2) × (first + count < 2 ^ 32) × (base + length part.now ≤ 65535)
-        × (from ≤ length part.now) × (4 * at ≤ 5 * (base + from) + 20) }
+        × (from ≤ length part.now) × (4 * at ≤ 5 * (base + from) + 20) × (ref_at (look plan.now node) first ≡ some child) × (ToldAt plan.now child told) }
     ensures { Stretched plan.now node base part.now (first + count) count first from at list.old result.left result.pos result.at list.new }
 {
-    let child = plan_nodes::node::ref_of(plan, node, first);
-    let same = same_at(plan, child);
-    let mut left = count;
-    let mut i = first;
+    let end = first + count;
     let mut pos = from;
     let mut to = at;
-    while 0 < left {
-        let leaf = fixed_leaf(part, pos, same);
-        let Leaf::Good { start, size } = leaf else {
+    for i in first..end {
+        let Some(Span { start, len }) = fixed_leaf(part, pos, told) else {
+            let left = end - i;
             return Stretch { left, pos, at: to };
         };
-        entry::put_entry(list, to, child, i, base + start, size, 0);
+        entry::put_entry(list, to, child, i, base + start, len, 0);
         to += constants::ENTRY_WORDS;
-        pos = start + size;
-        i += 1;
-        left -= 1;
+        pos = start + len;
     }
-    Stretch { left, pos, at: to }
+    Stretch {
+        left: 0,
+        pos,
+        at: to,
+    }
 }
 
 // Whether a leaf of `size` bytes from `start` on is permitted. A fixed size is told without the call of a function that knows all formats.
@@ -151,53 +140,44 @@ fn is_good(plan: &[u32], node: usize, kind: u32, part: &[u8], start: usize, size
     requires { (At plan.now node) × (kind ≡ get_or plan.now node 0) × (leaf_kind kind ≡ true) × (start + size ≤ length part.now) }
     ensures { result ≡ leaf_good (look plan.now node) (take size (drop start part.now)) }
 {
-    let fixed = fixed_at(plan, node);
-    if 0 < fixed {
-        return size == fixed;
+    match fixed_at(plan, node) {
+        Some(fixed) => size == fixed,
+        None => node::leaf_ok(plan, node, kind, &part[start..start + size]),
     }
-    let end = start + size;
-    node::leaf_ok(plan, node, kind, &part[start..end])
 }
 
 // How many reserved bytes stand before an element's length: four in a tuple or an object.
 fn gap_of(kind: u32) -> usize
     ensures { result ≡ gap_of kind }
 {
-    if kind == constants::KIND_TUPLE {
-        return 4;
+    if kind == constants::KIND_TUPLE || kind == constants::KIND_OUTPUT_OBJECT {
+        4
+    } else {
+        0
     }
-    if kind == constants::KIND_OUTPUT_OBJECT {
-        return 4;
-    }
-    0
 }
 
 // The element at `pos`, its length after `gap` reserved bytes, where it is there, is a leaf and is permitted. A negative length is, without
 // its sign, larger than what is left, so one test tells both: a row is listed in an eighth less of the time.
-fn leaf_at(plan: &[u32], child: usize, part: &[u8], gap: usize, pos: usize) -> Leaf
+fn leaf_at(plan: &[u32], child: usize, part: &[u8], gap: usize, pos: usize) -> Option<Span>
     requires { (At plan.now child) × (pos ≤ length part.now) × (length part.now ≤ 65535) × (gap ≤ 16) }
     ensures { result ≡ leaf_at (look plan.now child) part.now gap pos }
 {
     let kind = plan_nodes::node::kind_at(plan, child);
-    if !node::is_leaf(kind) {
-        return Leaf::Other;
-    }
-    if part.len() - pos < gap + 4 {
-        return Leaf::Other;
+    if !node::is_leaf(kind) || part.len() - pos < gap + 4 {
+        return None;
     }
     let field = pos + gap;
     let start = field + 4;
-    let size = wire::be::u32_at(part, field) as usize;
-    if part.len() - start < size {
-        return Leaf::Other;
+    let len = wire::be::u32_at(part, field) as usize;
+    if part.len() - start < len || !is_good(plan, child, kind, part, start, len) {
+        return None;
     }
-    if is_good(plan, child, kind, part, start, size) {
-        return Leaf::Good { start, size };
-    }
-    Leaf::Other
+    Some(Span { start, len })
 }
 
 // Elements of any container but a set of arrays, each with the node that its index has.
+// Kept for speed: a loop of its own beside that of `same_leaves`, so that an element is read without a call in both.
 fn other_leaves(
     plan: &[u32],
     node: usize,
@@ -214,23 +194,24 @@ fn other_leaves(
     ensures { Stretched plan.now node base part.now (first + count) count first from at list.old result.left result.pos result.at list.new }
 {
     let gap = gap_of(plan_nodes::node::kind_at(plan, node));
-    let mut left = count;
-    let mut i = first;
+    let end = first + count;
     let mut pos = from;
     let mut to = at;
-    while 0 < left {
+    for i in first..end {
         let child = plan_nodes::node::ref_of(plan, node, i);
-        let leaf = leaf_at(plan, child, part, gap, pos);
-        let Leaf::Good { start, size } = leaf else {
+        let Some(Span { start, len }) = leaf_at(plan, child, part, gap, pos) else {
+            let left = end - i;
             return Stretch { left, pos, at: to };
         };
-        entry::put_entry(list, to, child, i, base + start, size, 0);
+        entry::put_entry(list, to, child, i, base + start, len, 0);
         to += constants::ENTRY_WORDS;
-        pos = start + size;
-        i += 1;
-        left -= 1;
+        pos = start + len;
     }
-    Stretch { left, pos, at: to }
+    Stretch {
+        left: 0,
+        pos,
+        at: to,
+    }
 }
 
 // A stretch of leaves in a container whose elements come in order.
@@ -259,46 +240,44 @@ pub fn walk_leaves(
     }
     if kind == constants::KIND_SET_OR_ARRAY {
         let child = plan_nodes::node::ref_of(plan, node, first);
-        let same = same_at(plan, child);
-        if 0 < same.size {
-            return same_leaves(plan, node, count, first, base, from, part, list, at);
+        if let Some(told) = told_at(plan, child) {
+            return same_leaves(
+                plan, node, child, told, count, first, base, from, part, list, at,
+            );
         }
     }
     other_leaves(plan, node, count, first, base, from, part, list, at)
 }
 
 // The element of a sparse object at `pos`, where its index is known, it is there, is a leaf and is permitted.
-fn given_leaf(plan: &[u32], node: usize, part: &[u8], pos: usize) -> Given
+fn given_leaf(plan: &[u32], node: usize, part: &[u8], pos: usize) -> Option<Given>
     requires { (At plan.now node) × (get_or plan.now node 0 ≡ 6) × (pos ≤ length part.now) }
     ensures { result ≡ given_at plan.now node part.now pos }
 {
-    let known = node::index_at(plan, node, part, pos);
-    let Index::Known(index) = known else {
-        return Given::Unknown;
+    let Ok(index) = node::index_at(plan, node, part, pos) else {
+        return None;
     };
-    let head = node::sparse_head(plan, node, part, index, pos);
+    let Ok(head) = node::sparse_head(plan, node, part, index, pos) else {
+        return None;
+    };
     let Head::Present {
         index: _,
         start,
         size,
     } = head
     else {
-        return Given::Unknown;
+        return None;
     };
     let child = plan_nodes::node::ref_of(plan, node, index);
     let kind = plan_nodes::node::kind_at(plan, child);
-    if !node::is_leaf(kind) {
-        return Given::Unknown;
+    if !node::is_leaf(kind) || !is_good(plan, child, kind, part, start, size) {
+        return None;
     }
-    if is_good(plan, child, kind, part, start, size) {
-        return Given::Whole {
-            index,
-            node: child,
-            start,
-            size,
-        };
-    }
-    Given::Unknown
+    Some(Given {
+        index,
+        node: child,
+        bytes: Span { start, len: size },
+    })
 }
 
 // The leaves that a sparse object starts with: in most such objects, all of its elements. Their indexes are marked at the end, all at once,
@@ -324,25 +303,25 @@ pub fn sparse_leaves(
     let mut pos = from;
     let mut to = at;
     while n < most {
-        let leaf = given_leaf(plan, node, part, pos);
-        let Given::Whole {
-            index,
-            node: child,
-            start,
-            size,
-        } = leaf
+        let Some(
+            Given {
+                index,
+                node: child,
+                bytes,
+            },
+        ) = given_leaf(plan, node, part, pos)
         else {
             break;
         };
         n += 1;
         given = node::count_given(plan, node, index, given);
-        entry::put_entry(list, to, child, index, base + start, size, 0);
+        entry::put_entry(list, to, child, index, base + bytes.start, bytes.len, 0);
         to += constants::ENTRY_WORDS;
-        pos = start + size;
+        pos = bytes.start + bytes.len;
     }
     if n == 0 {
-        return gather(Seen::new(), given, count, pos, to);
+        return Gathered::new(Seen::new(), given, count, pos, to);
     }
     let seen = Seen::new().mark_elements(part, n, from);
-    gather(seen, given, count - n, pos, to)
+    Gathered::new(seen, given, count - n, pos, to)
 }

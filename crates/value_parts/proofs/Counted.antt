@@ -18,15 +18,6 @@ use Rattle.protocol.specs.Values.{no_marks}
 use Rattle.protocol.specs.Plans.{cards_at}
 use Rattle.plan_nodes.specs.Readers.{At}
 
--- one more where it is required
-pub one_yes : (n : ℕ) (r : Bool) → r ≡ true → n + 1 ≡ n + pick r 1 0
-unfolding pick
-one_yes n r e = rw e
-
-pub one_no : (n : ℕ) (r : Bool) → r ≡ false → n ≡ n + pick r 1 0
-unfolding pick
-one_no n r e = rw e (omega arith)
-
 module _ (p : List ℕ) (k : ℕ) where
   pub counted_none : (marks : List Bool) → marks ≡ no_marks → Counted p k marks 0
   counted_none marks e =

@@ -1,86 +1,79 @@
 -- What holds of the heads that a walk reads, and the laws of a value by its node.
 use mathlib.Core.Path.{◌≡◌, refl, sym, ◌∙◌}
 use mathlib.Core.Bool.{Bool, true, false}
-use mathlib.Core.List.{List, [], ◌∷◌}
+use mathlib.Core.List.{List, []}
 use mathlib.Core.Logic.{⊎_elim}
 use mathlib.Core.Option.{Option, some}
 use Prim.Native.Nat.{ℕ, zero, suc, ◌+◌, ◌-◌, ◌*◌, ◌^◌, ◌<◌, ◌≤◌}
 use native.Mathlib.Omega.{arith}
 use native.Mathlib.Nat.{add-sub_cancel_left}
-use denote.Enum.Declared.{tag_of}
-use types.Run.{OneOf}
 use lib.ListN.{length, get_or, set as store, take, drop, get_elem?, length-take, length-drop}
 use lib.Seq.{sets}
+use Rattle.std.specs.Prelude.{Result, Ok, Err, IfOk}
+use Rattle.std.proofs.lemmas.Result.{IfOk-at_ok}
 use Rattle.wire.proofs.Picks.{same_or_not}
-use Rattle.forms.specs.declared.Index.{Index}
-use Rattle.forms.specs.declared.Index.TheVariants.{Known}
 use Rattle.value_heads.specs.Heads.{Inside}
-use Rattle.value_heads.specs.Bounds.{From, Indexed, Fresh, Refuses}
-use Rattle.value_heads.specs.Faults.{head_fault, opening_fault}
+use Rattle.value_heads.specs.Bounds.{From, Indexed, Fresh}
 use Rattle.forms.specs.declared.Head.{Head}
-use Rattle.forms.specs.declared.Head.TheVariants.{Present, Absent, Fault}
+use Rattle.forms.specs.declared.Head.TheVariants.{Present, Absent}
 use Rattle.forms.specs.declared.Opening.{Opening}
-use Rattle.forms.specs.declared.Opening.TheVariants.{Elements, Wrong}
-use Rattle.forms.specs.contracts.Head.{the_type}
-use Rattle.value_heads.proofs.Told.{is_fault}
+use Rattle.forms.specs.declared.fault.Refusal.{Refusal}
 use Rattle.value_heads.proofs.Bounds.{known_new, optional_index, set_opened, count_opened, range_opened, sparse_opened, inside_end}
 use Rattle.value_heads.proofs.Bounds.{plain_inside, plain_from_lem, plain_index, object_inside, object_from, object_index, envelope_inside}
-use Rattle.value_heads.proofs.Bounds.{envelope_from, envelope_index, sparse_inside, sparse_from_lem, sparse_index_below, plain_refuses}
-use Rattle.value_heads.proofs.Bounds.{object_refuses, envelope_refuses, sparse_refuses}
+use Rattle.value_heads.proofs.Bounds.{envelope_from, envelope_index, sparse_inside, sparse_from_lem, sparse_index_below}
 use Rattle.value_laws.proofs.Fuel.{value_step}
+use Rattle.value_laws.proofs.Widths.{elements_width}
 use Rattle.plan_nodes.specs.Readers.{Refers, KindAt, At}
 use Rattle.plan_nodes.proofs.Looks.{elem_at, elem_in, refs_length, cards_length, look_leaf, look_row, look_arrays, look_tuple, look_object, look_sparse, look_range, look_enum, tuple_length}
 use Rattle.plan_nodes.proofs.Nodes.{at_ref, at_few, at_tuple_size}
-use Rattle.value_parts.specs.Walk.{stopped, reached, walk_of, led, leaf_kind, leaf_good, end_step, Within, WithinHead, IsRow, Container, Holds, HeadIn}
-use Rattle.value_parts.specs.declared.Step.{Step}
-use Rattle.value_parts.specs.declared.Step.TheVariants.{Refused, Reached}
+use Rattle.value_parts.specs.Walk.{stopped, reached, led, leaf_kind, leaf_good, end_step, Within, WithinHead, IsRow, Container, Holds, HeadIn}
 use Rattle.value_parts.proofs.Nodes.{scalar_kind, leaf_not, head_twice, head_new}
-use Rattle.value_parts.proofs.Walks.{under_go, alone, single, elements_width}
+use Rattle.value_parts.proofs.Walks.{under_go, alone}
 use Rattle.protocol.specs.Numbers.{pick}
 use Rattle.protocol.specs.Heads.{sparse_index, optional, word, set_opening, count_opening, sparse_head, requires, index_of, end_of}
 use Rattle.protocol.specs.Nodes.{Node, leaf, enum, row, arrays, tuple, object, sparse, range, ref_at}
 use Rattle.protocol.specs.Lists.{entry_words, entry_of}
-use Rattle.protocol.specs.Values.{Rule, absent, present, element_outcome, elements, row_form, sparse_form, no_marks, opening_of, row_head, leaf_rule, row_rule, sparse_rule, by_node, value_of}
+use Rattle.protocol.specs.Values.{Rule, absent, present, element_outcome, elements, row_form, sparse_form, no_marks, opening_of, row_head, leaf_rule, row_rule, sparse_rule, by_node, value_of, fuel}
 use Rattle.protocol.specs.Plans.{look, cards_at, refs_at}
 
 -- ---- the heads of elements in order
 
 -- a head of 4 bytes or more, of the element with an index
-headed : (v : Node) (n at i : ℕ) (h : Head) → Inside n at h → From (at + 4) h → Indexed i h → Refuses h → Refers v i → i < 2 ^ 32 → HeadIn v n at h
-unfolding Indexed Refuses index_of head_fault
-headed v n at i (Present j start size) a b e f r l = record { inside = a; from = b; refers = λ _. rw e r; small = rw e l }
-headed v n at i (Absent j start) a b e f r l = record { inside = a; from = b; refers = λ _. rw e r; small = rw e l }
-headed v n at i (Fault m) a b e f r l = record { inside = a; from = b; refers = λ q. absurd (omega arith); small = omega arith }
+headed : (v : Node) (n at i : ℕ) (r : Result Head ℕ) → IfOk r (Inside n at) → IfOk r (From (at + 4)) → IfOk r (Indexed i) → Refers v i → i < 2 ^ 32 → IfOk r (HeadIn v n at)
+unfolding Indexed index_of
+headed v n at i (Ok (Present j start size)) a b e r l = record { inside = a; from = b; refers = rw e r; small = rw e l }
+headed v n at i (Ok (Absent j start)) a b e r l = record { inside = a; from = b; refers = rw e r; small = rw e l }
+headed v n at i (Err m) a b e r l = tt
 
 -- a later start is a start
-later : (k n : ℕ) (h : Head) → k ≤ n → From n h → From k h
+later : (k n : ℕ) (r : Result Head ℕ) → k ≤ n → IfOk r (From n) → IfOk r (From k)
 unfolding From
-later k n (Present i start size) g f = omega arith
-later k n (Absent i start) g f = omega arith
-later k n (Fault m) g f = tt
+later k n (Ok (Present i start size)) g f = omega arith
+later k n (Ok (Absent i start)) g f = omega arith
+later k n (Err m) g f = tt
 
 module _ (s : List ℕ) (i at : ℕ) (inside : at ≤ length s) (small : i < 2 ^ 32) where
-  pub row_headed : (v : Node) → IsRow v → Refers v i → HeadIn v (length s) at (row_head v s i at)
+  pub row_headed : (v : Node) → IsRow v → Refers v i → IfOk (row_head v s i at) (HeadIn v (length s) at)
   unfolding IsRow row_head
   row_headed (leaf f) x r = absurd x
   row_headed enum x r = absurd x
-  row_headed (row k) x r = headed _ _ _ i _ (plain_inside s 0 i at inside) (plain_from_lem s 0 i at) (plain_index s 0 i at) (plain_refuses s 0 i at) r small
+  row_headed (row k) x r = headed _ _ _ i _ (plain_inside s 0 i at inside) (plain_from_lem s 0 i at) (plain_index s 0 i at) r small
   row_headed (arrays k) x r =
-      headed _ _ _ i _ (envelope_inside s i at inside) (later (at + 4) (at + 16) _ (omega arith) (envelope_from s i at)) (envelope_index s i at) (envelope_refuses s i at) r small
-  row_headed (tuple refs) x r = headed _ _ _ i _ (plain_inside s 4 i at inside) (plain_from_lem s 4 i at) (plain_index s 4 i at) (plain_refuses s 4 i at) r small
+      headed _ _ _ i _ (envelope_inside s i at inside) (later (at + 4) (at + 16) _ (omega arith) (envelope_from s i at)) (envelope_index s i at) r small
+  row_headed (tuple refs) x r = headed _ _ _ i _ (plain_inside s 4 i at inside) (plain_from_lem s 4 i at) (plain_index s 4 i at) r small
   row_headed (object refs cards) x r =
       let q = requires (get_or cards i 0) in
-      headed _ _ _ i _ (object_inside s q i at inside) (later (at + 4) (at + 8) _ (omega arith) (object_from s q i at)) (object_index s q i at) (object_refuses s q i at) r small
+      headed _ _ _ i _ (object_inside s q i at inside) (later (at + 4) (at + 8) _ (omega arith) (object_from s q i at)) (object_index s q i at) r small
   row_headed (sparse refs cards) x r = absurd x
-  row_headed (range k) x r = headed _ _ _ i _ (plain_inside s 0 i at inside) (plain_from_lem s 0 i at) (plain_index s 0 i at) (plain_refuses s 0 i at) r small
+  row_headed (range k) x r = headed _ _ _ i _ (plain_inside s 0 i at inside) (plain_from_lem s 0 i at) (plain_index s 0 i at) r small
 
 -- ---- the heads of a sparse object's elements
 
-fresh : (v : Node) (n at m : ℕ) (marks : List Bool) (h : Head) → m ≤ 512 → Holds v m → Inside n at h → From (at + 4) h → Fresh m marks h → Refuses h → HeadIn v n at h
-unfolding Fresh Refuses index_of head_fault
-fresh v n at m marks (Present j start size) l r a b e f = record { inside = a; from = b; refers = λ _. r j e.0; small = omega (arith, e.0) }
-fresh v n at m marks (Absent j start) l r a b e f = record { inside = a; from = b; refers = λ _. r j e.0; small = omega (arith, e.0) }
-fresh v n at m marks (Fault q) l r a b e f = record { inside = a; from = b; refers = λ z. absurd (omega arith); small = omega arith }
+fresh : (v : Node) (n at m : ℕ) (marks : List Bool) (r : Result Head ℕ) → m ≤ 512 → Holds v m → IfOk r (Inside n at) → IfOk r (From (at + 4)) → IfOk r (Fresh m marks) → IfOk r (HeadIn v n at)
+unfolding Fresh index_of
+fresh v n at m marks (Ok (Present j start size)) l r a b e = record { inside = a; from = b; refers = r j e.0; small = omega (arith, e.0) }
+fresh v n at m marks (Ok (Absent j start)) l r a b e = record { inside = a; from = b; refers = r j e.0; small = omega (arith, e.0) }
+fresh v n at m marks (Err q) l r a b e = tt
 
 module _ (p : List ℕ) (k : ℕ) (a : At p k) (e : get_or p k 0 ≡ 6) where
   pub sparse_holds : Holds (look p k) (length (cards_at p k))
@@ -92,27 +85,27 @@ module _ (p : List ℕ) (k : ℕ) (a : At p k) (e : get_or p k 0 ≡ 6) where
   pub few_cards : length (cards_at p k) ≤ 512
   few_cards = rw (cards_length p k) (at_few p k a (omega arith) (omega arith))
 
-  pub sparse_headed : (s : List ℕ) (marks : List Bool) (at : ℕ) → at ≤ length s → HeadIn (look p k) (length s) at (sparse_head s (cards_at p k) marks at)
+  pub sparse_headed : (s : List ℕ) (marks : List Bool) (at : ℕ) → at ≤ length s → IfOk (sparse_head s (cards_at p k) marks at) (HeadIn (look p k) (length s) at)
   sparse_headed s marks at h =
       fresh _ _ _ (length (cards_at p k)) marks _ few_cards sparse_holds (sparse_inside s (cards_at p k) marks at h)
-      (later (at + 4) (at + 8) _ (omega arith) (sparse_from_lem s (cards_at p k) marks at)) (sparse_index_below s (cards_at p k) marks at) (sparse_refuses s (cards_at p k) marks at)
+      (later (at + 4) (at + 8) _ (omega arith) (sparse_from_lem s (cards_at p k) marks at)) (sparse_index_below s (cards_at p k) marks at)
 
 -- ---- a container's elements have nodes
 
-pub opening_holds : (v : Node) (s : List ℕ) (n first at : ℕ) → IsRow v → opening_of v s ≡ Elements n first at → Holds v (first + n)
+pub opening_holds : (v : Node) (s : List ℕ) (o : Opening) → IsRow v → opening_of v s ≡ Ok o → Holds v (o.first + o.count)
 unfolding IsRow opening_of ref_at
-opening_holds (leaf f) s n first at x e i h = absurd x
-opening_holds enum s n first at x e i h = absurd x
-opening_holds (row r) s n first at x e i h = record { to = r; is = refl }
-opening_holds (arrays r) s n first at x e i h = record { to = r; is = refl }
-opening_holds (tuple refs) s n first at x e i h =
-    let o = count_opened (length refs) s n first at e in
-    record { to = get_or refs i 0; is = elem_at refs i (omega (arith, o.0, o.1)) }
-opening_holds (object refs cards) s n first at x e i h =
-    let o = count_opened (length refs) s n first at e in
-    record { to = get_or refs i 0; is = elem_at refs i (omega (arith, o.0, o.1)) }
-opening_holds (sparse refs cards) s n first at x e i h = absurd x
-opening_holds (range r) s n first at x e i h = record { to = r; is = refl }
+opening_holds (leaf f) s o x e i h = absurd x
+opening_holds enum s o x e i h = absurd x
+opening_holds (row r) s o x e i h = record { to = r; is = refl }
+opening_holds (arrays r) s o x e i h = record { to = r; is = refl }
+opening_holds (tuple refs) s o x e i h =
+    let q = count_opened (length refs) s o e in
+    record { to = get_or refs i 0; is = elem_at refs i (omega (arith, q.0, q.1)) }
+opening_holds (object refs cards) s o x e i h =
+    let q = count_opened (length refs) s o e in
+    record { to = get_or refs i 0; is = elem_at refs i (omega (arith, q.0, q.1)) }
+opening_holds (sparse refs cards) s o x e i h = absurd x
+opening_holds (range r) s o x e i h = record { to = r; is = refl }
 
 -- ---- a node's kind
 
@@ -172,26 +165,26 @@ module _ (p : List ℕ) (k : ℕ) (a : At p k) (kind : ℕ) (c : Container p k k
       refl
 
   -- how far an opening leads
-  module _ (s : List ℕ) (n first from : ℕ) where
-    few : (m : ℕ) → m ≤ 512 → count_opening m s ≡ Elements n first from → (first + n < 2 ^ 32) × (from ≤ length s)
-    few m h o = let c = count_opened m s n first from o in (omega (arith, c.0, c.1), omega (arith, c.2, c.3))
+  module _ (s : List ℕ) (o : Opening) where
+    few : (m : ℕ) → m ≤ 512 → count_opening m s ≡ Ok o → (o.first + o.count < 2 ^ 32) × (o.at ≤ length s)
+    few m h e = let c = count_opened m s o e in (omega (arith, c.0, c.1), omega (arith, c.2, c.3))
 
-    many : set_opening s ≡ Elements n first from → (first + n < 2 ^ 32) × (from ≤ length s)
-    many o = let c = set_opened s n first from o in (omega (arith, c.0, c.1), c.2)
+    many : set_opening s ≡ Ok o → (o.first + o.count < 2 ^ 32) × (o.at ≤ length s)
+    many e = let c = set_opened s o e in (omega (arith, c.0, c.1), c.2)
 
-    pub opened : opening_of (look p k) s ≡ Elements n first from → (first + n < 2 ^ 32) × (from ≤ length s)
+    pub opened : opening_of (look p k) s ≡ Ok o → (o.first + o.count < 2 ^ 32) × (o.at ≤ length s)
     unfolding opening_of
-    opened o =
-        kinds (λ m. get_or p k 0 ≡ m → (first + n < 2 ^ 32) × (from ≤ length s)) (get_or p k 0) low high
-        (λ e. many (rw (look_row p k e) at o))
-        (λ e. many (rw (look_arrays p k e) at o))
-        (λ e. few _ (rw (tuple_length p k (get_or p (k + 1) 0) (at_tuple_size p k a e)) (at_few p k a (omega arith) (omega arith))) (rw (look_tuple p k e) at o))
-        (λ e. few _ (rw (refs_length p k) (at_few p k a (omega arith) (omega arith))) (rw (look_object p k e) at o))
-        (λ e. let c = sparse_opened s n first from (rw (look_sparse p k e) at o) in (omega (arith, c.0, c.1), omega (arith, c.2, c.3)))
-        (λ e. let c = range_opened s n first from (rw (look_range p k e) at o) in (omega (arith, c.0), omega (arith, c.1, c.2)))
+    opened q =
+        kinds (λ m. get_or p k 0 ≡ m → (o.first + o.count < 2 ^ 32) × (o.at ≤ length s)) (get_or p k 0) low high
+        (λ e. many (rw (look_row p k e) at q))
+        (λ e. many (rw (look_arrays p k e) at q))
+        (λ e. few _ (rw (tuple_length p k (get_or p (k + 1) 0) (at_tuple_size p k a e)) (at_few p k a (omega arith) (omega arith))) (rw (look_tuple p k e) at q))
+        (λ e. few _ (rw (refs_length p k) (at_few p k a (omega arith) (omega arith))) (rw (look_object p k e) at q))
+        (λ e. let c = sparse_opened s o (rw (look_sparse p k e) at q) in (omega (arith, c.0, c.1), omega (arith, c.2, c.3)))
+        (λ e. let c = range_opened s o (rw (look_range p k e) at q) in (omega (arith, c.0), omega (arith, c.1, c.2)))
         refl
 
-  module _ (i base : ℕ) (s : List ℕ) (at : ℕ) (l : List ℕ) (x : Opening) (ex : x ≡ opening_of (look p k) s) where
+  module _ (i base : ℕ) (s : List ℕ) (at : ℕ) (l : List ℕ) (x : Result Opening ℕ) (ex : x ≡ opening_of (look p k) s) where
     value_sparse_is : get_or p k 0 ≡ 6 → value_of (look p) k i base s ≡ sparse_rule (refs_at p k) (cards_at p k) (value_of (look p)) x k i base s
     unfolding by_node
     value_sparse_is e = step_is p k a i base s ∙ rw (ex, look_sparse p k e)
@@ -200,8 +193,8 @@ module _ (p : List ℕ) (k : ℕ) (a : At p k) (kind : ℕ) (c : Container p k k
     value_row_is e = step_is p k a i base s ∙ by_row (look p k) (value_of (look p)) k i base s (is_row e) ∙ rw ex
 
     -- a head that is refused
-    pub value_wrong : (n : ℕ) → x ≡ Wrong n → stopped (opening_fault x) base ≡ led (value_of (look p) k i base s) at l
-    unfolding opening_fault led row_rule sparse_rule
+    pub value_wrong : (n : ℕ) → x ≡ Err n → stopped n base ≡ led (value_of (look p) k i base s) at l
+    unfolding led row_rule sparse_rule
     value_wrong n e =
         ⊎_elim
         (λ (f : get_or p k 0 ≡ 6). rw (value_sparse_is f, e))
@@ -209,20 +202,20 @@ module _ (p : List ℕ) (k : ℕ) (a : At p k) (kind : ℕ) (c : Container p k k
         (same_or_not (get_or p k 0) 6)
 
     -- the elements of a container, once its own entry is put
-    module _ (n first from : ℕ) (e : x ≡ Elements n first from) (l₁ : List ℕ) (el : l₁ ≡ sets l at (entry_words (entry_of k i base (length s)) n)) where
+    module _ (o : Opening) (e : x ≡ Ok o) (l₁ : List ℕ) (el : l₁ ≡ sets l at (entry_words (entry_of k i base (length s)) o.count)) where
       pub value_sparse : get_or p k 0 ≡ 6
-          → led (elements (sparse_form (cards_at p k) s) (value_of (look p)) (ref_at (look p k)) base s n no_marks from) (at + 5) l₁ ≡ led (value_of (look p) k i base s) at l
-      unfolding sparse_rule
+          → led (elements (sparse_form (cards_at p k) s) (value_of (look p)) (ref_at (look p k)) base s o.count no_marks o.at) (at + 5) l₁ ≡ led (value_of (look p) k i base s) at l
+      unfolding sparse_rule value_of
       value_sparse f =
           rw (value_sparse_is f, e, look_sparse p k f)
-          (sym (under_go (entry_of k i base (length s)) n _ at l l₁ (elements_width (value_of (look p)) (single (look p)) _ base s (sparse_form (cards_at p k) s) n no_marks from) el))
+          (sym (under_go (entry_of k i base (length s)) o.count _ at l l₁ (elements_width (look p) fuel _ base s (sparse_form (cards_at p k) s) o.count no_marks o.at) el))
 
       pub value_row : (get_or p k 0 ≡ 6 → ⊥)
-          → led (elements (row_form (look p k) s) (value_of (look p)) (ref_at (look p k)) base s n first from) (at + 5) l₁ ≡ led (value_of (look p) k i base s) at l
-      unfolding row_rule
+          → led (elements (row_form (look p k) s) (value_of (look p)) (ref_at (look p k)) base s o.count o.first o.at) (at + 5) l₁ ≡ led (value_of (look p) k i base s) at l
+      unfolding row_rule value_of
       value_row f =
           rw (value_row_is f, e)
-          (sym (under_go (entry_of k i base (length s)) n _ at l l₁ (elements_width (value_of (look p)) (single (look p)) _ base s (row_form (look p k) s) n first from) el))
+          (sym (under_go (entry_of k i base (length s)) o.count _ at l l₁ (elements_width (look p) fuel _ base s (row_form (look p k) s) o.count o.first o.at) el))
 
 -- ---- a leaf's content
 
@@ -238,18 +231,12 @@ module _ (p : List ℕ) (k : ℕ) (a : At p k) (x : leaf_kind (get_or p k 0) ≡
 -- ---- one element, by its head
 
 module _ (rule : Rule) (ref : ℕ → Option ℕ) (base : ℕ) (s : List ℕ) (h : Head) (at : ℕ) (l : List ℕ) where
-  pub member_fault : OneOf (1 ∷ 2 ∷ []) (tag_of the_type h) → OneOf (0 ∷ 2 ∷ []) (tag_of the_type h) → (x : Step) → x ≡ Refused (head_fault h) base
-      → walk_of x l ≡ led (element_outcome rule ref base s h) at l
-  unfolding element_outcome led walk_of head_fault
-  member_fault present absent x =
-      is_fault (λ q. x ≡ Refused (head_fault q) base → walk_of x l ≡ led (element_outcome rule ref base s q) at l) (λ n e. rw e) h present absent
-
   module _ (i start k : ℕ) (r : ref i ≡ some k) where
-    pub member_absent : h ≡ Absent i start → led (absent (some k) i (base + start)) at l ≡ led (element_outcome rule ref base s h) at l
+    pub member_absent : h ≡ Absent i start → led (absent (some k) i (base + start)) at l ≡ led (element_outcome rule ref base s (Ok h)) at l
     unfolding element_outcome
     member_absent e = rw (e, r)
 
-    pub member_present : (size : ℕ) → h ≡ Present i start size → led (rule k i (base + start) (take (start + size - start) (drop start s))) at l ≡ led (element_outcome rule ref base s h) at l
+    pub member_present : (size : ℕ) → h ≡ Present i start size → led (rule k i (base + start) (take (start + size - start) (drop start s))) at l ≡ led (element_outcome rule ref base s (Ok h)) at l
     unfolding element_outcome present
     member_present size e = rw (e, r, add-sub_cancel_left)
 
@@ -257,47 +244,37 @@ module _ (rule : Rule) (ref : ℕ → Option ℕ) (base : ℕ) (s : List ℕ) (h
 
 module _ (v : Node) (n at : ℕ) (h : Head) (x : HeadIn v n at h) where
   pub absent_in : (i start : ℕ) → h ≡ Absent i start → (Refers v i) × (at + 4 ≤ start) × (start ≤ n) × (i < 2 ^ 32)
-  unfolding Inside From head_fault index_of
-  absent_in i start e =
-      let a = rw e at x.inside in
-      let b = rw e at x.from in
-      let c = rw e at x.refers in
-      let d = rw e at x.small in
-      (c refl, b, a.1, d)
+  unfolding Inside From index_of
+  absent_in i start e = let a = rw e at x.inside in (rw e at x.refers, rw e at x.from, a.1, rw e at x.small)
 
   pub present_in : (i start size : ℕ) → h ≡ Present i start size → (Refers v i) × (at + 4 ≤ start) × (start + size ≤ n) × (i < 2 ^ 32)
-  unfolding Inside From head_fault index_of
-  present_in i start size e =
-      let a = rw e at x.inside in
-      let b = rw e at x.from in
-      let c = rw e at x.refers in
-      let d = rw e at x.small in
-      (c refl, b, a.1, d)
+  unfolding Inside From index_of
+  present_in i start size e = let a = rw e at x.inside in (rw e at x.refers, rw e at x.from, a.1, rw e at x.small)
 
-  pub end_in : end_of h ≤ n
+  pub end_in : end_of (Ok h) ≤ n
   end_in = inside_end n at h x.inside
 
 -- an element that is there: what holds at its end holds at its head's
-pub within_present : (base : ℕ) (h : Head) (i start size m : ℕ) (r : Step) → h ≡ Present i start size → m ≡ size → Within (base + start + m) r → WithinHead base h r
-unfolding Within WithinHead head_fault end_of
-within_present base h i start size m (Refused q p) e g w = tt
-within_present base h i start size m (Reached at) e g w = rw e (refl, omega arith)
+pub within_present : (base : ℕ) (h : Head) (i start size m : ℕ) (r : Result ℕ Refusal) → h ≡ Present i start size → m ≡ size → Within (base + start + m) r → WithinHead base h r
+unfolding Within WithinHead end_of
+within_present base h i start size m (Err q) e g w = tt
+within_present base h i start size m (Ok at) e g w = rw e (omega arith)
 
-pub within_absent : (base : ℕ) (h : Head) (i start pos at : ℕ) (r : Step) → r ≡ Reached (at + 5) → h ≡ Absent i start → pos + 4 ≤ start → 4 * at ≤ 5 * (base + pos) + 20 → WithinHead base h r
-unfolding WithinHead head_fault end_of
-within_absent base h i start pos at r x e g w = rw (x, e) (refl, omega arith)
+pub within_absent : (base : ℕ) (h : Head) (i start pos at : ℕ) (r : Result ℕ Refusal) → r ≡ Ok (at + 5) → h ≡ Absent i start → pos + 4 ≤ start → 4 * at ≤ 5 * (base + pos) + 20 → WithinHead base h r
+unfolding WithinHead end_of
+within_absent base h i start pos at r x e g w = rw (x, e) (omega arith)
 
-pub reached_in : (base : ℕ) (h : Head) (r : Step) (at : ℕ) → r ≡ Reached at → WithinHead base h r → (head_fault h ≡ 0) × (4 * at ≤ 5 * (base + end_of h) + 20)
+pub reached_in : (base : ℕ) (h : Head) (r : Result ℕ Refusal) (at : ℕ) → r ≡ Ok at → WithinHead base h r → 4 * at ≤ 5 * (base + end_of (Ok h)) + 20
 unfolding WithinHead
 reached_in base h r at e w = rw e at w
 
 -- a refusal, wherever it comes from
-pub fault_within : (base : ℕ) (h : Head) (r : Step) (n p : ℕ) → r ≡ Refused n p → WithinHead base h r
+pub fault_within : (base : ℕ) (h : Head) (r : Result ℕ Refusal) (q : Refusal) → r ≡ Err q → WithinHead base h r
 unfolding WithinHead
-fault_within base h r n p x = rw x tt
+fault_within base h r q x = rw x tt
 
 -- the end of a container's elements
-pub end_within : (w b : Bool) (e base at : ℕ) (x : Step) → x ≡ end_step w b base at → 4 * at ≤ 5 * e + 20 → Within e x
+pub end_within : (w b : Bool) (e base at : ℕ) (x : Result ℕ Refusal) → x ≡ end_step w b base at → 4 * at ≤ 5 * e + 20 → Within e x
 unfolding Within end_step pick
 end_within true true e base at x ex h = rw ex tt
 end_within true false e base at x ex h = rw ex h
@@ -315,9 +292,9 @@ inner_kind p k kind c x =
     let b = leaf_not kind 8 x refl in
     record { is = c.is; low = omega (arith, c.low, a); high = omega (arith, c.high, b) }
 
-pub refused_within : (e : ℕ) (r : Step) (n p : ℕ) → r ≡ Refused n p → Within e r
+pub refused_within : (e : ℕ) (r : Result ℕ Refusal) (q : Refusal) → r ≡ Err q → Within e r
 unfolding Within
-refused_within e r n p x = rw x tt
+refused_within e r q x = rw x tt
 
 -- an object's element with a node is one of its own
 pub object_below : (p : List ℕ) (k i : ℕ) → get_or p k 0 ≡ 5 → Refers (look p k) i → i < get_or p (k + 1) 0
@@ -328,45 +305,46 @@ object_below p k i e r =
 
 -- a head that was read in a row, with some elements left
 pub row_at : (p : List ℕ) (k : ℕ) → At p k → (kind : ℕ) → Container p k kind → (get_or p k 0 ≡ 6 → ⊥) → (m : ℕ) → Holds (look p k) m → m < 2 ^ 32
-    → (s : List ℕ) (i left at : ℕ) (h : Head) → i + left ≡ m → 0 < left → at ≤ length s → h ≡ row_head (look p k) s i at → HeadIn (look p k) (length s) at h
+    → (s : List ℕ) (i left at : ℕ) (h : Head) → i + left ≡ m → 0 < left → at ≤ length s → Ok h ≡ row_head (look p k) s i at → HeadIn (look p k) (length s) at h
 row_at p k a kind c n m r few s i left at h e z b x =
-    rw x (row_headed s i at b (omega arith) (look p k) (is_row p k a kind c n) (r i (omega arith)))
+    IfOk-at_ok (HeadIn (look p k) (length s) at) (sym x) (row_headed s i at b (omega arith) (look p k) (is_row p k a kind c n) (r i (omega arith)))
 
 -- the head of a sparse object's element with an index that is new: what it is, what holds of it, and the marks after it
 pub record NewHead (p : List ℕ) (k : ℕ) (s : List ℕ) (marks : List Bool) (at i : ℕ) (h : Head) : Type 0 where
-  pub is : h ≡ sparse_head s (cards_at p k) marks at
+  pub is : Ok h ≡ sparse_head s (cards_at p k) marks at
   pub inside : HeadIn (look p k) (length s) at h
-  pub next : head_fault h ≡ 0 → store marks i true ≡ store marks (index_of h) true
+  pub next : store marks i true ≡ store marks (index_of (Ok h)) true
 
 -- an index of a sparse object that was read without the marks
-module _ (p : List ℕ) (k : ℕ) (a : At p k) (e : get_or p k 0 ≡ 6) (s : List ℕ) (at n i : ℕ) (en : n ≡ get_or p (k + 1) 0) (x : Index) (ex : x ≡ sparse_index s n [] at) (f : x ≡ Known i) where
+module _ (p : List ℕ) (k : ℕ) (a : At p k) (e : get_or p k 0 ≡ 6) (s : List ℕ) (at n i : ℕ) (en : n ≡ get_or p (k + 1) 0) (f : Ok i ≡ sparse_index s n [] at) where
   pub known_in : at ≤ length s → (i < get_or p (k + 1) 0) × (i < 512) × (at + 8 ≤ length s)
   known_in b =
-      let h = known_new s n [] at i (sym ex ∙ f) in
+      let h = known_new s n [] at i (sym f) in
       let few = at_few p k a (omega arith) (omega arith) in
       (omega (arith, h.0), omega (arith, h.0), omega (arith, h.2))
 
   module _ (marks : List Bool) where
-    pub sparse_twice : get_or marks i false ≡ true → sparse_head s (cards_at p k) marks at ≡ Fault 26
-    sparse_twice g = head_twice s (cards_at p k) marks at n (en ∙ sym (cards_length p k)) i (sym f ∙ ex) g
+    pub sparse_twice : get_or marks i false ≡ true → sparse_head s (cards_at p k) marks at ≡ Err 26
+    sparse_twice g = head_twice s (cards_at p k) marks at n (en ∙ sym (cards_length p k)) i f g
 
-    module _ (g : get_or marks i false ≡ false) (h : Head) (eh : h ≡ optional s (requires (get_or (cards_at p k) i 0)) i (at + 8) (word s (at + 4))) where
-      sparse_new : h ≡ sparse_head s (cards_at p k) marks at
-      sparse_new = eh ∙ sym (head_new s (cards_at p k) marks at n (en ∙ sym (cards_length p k)) i (sym f ∙ ex) g)
+    module _ (g : get_or marks i false ≡ false) where
+      -- a refusal or a head
+      pub sparse_new : (r : Result Head ℕ) → r ≡ optional s (requires (get_or (cards_at p k) i 0)) i (at + 8) (word s (at + 4)) → r ≡ sparse_head s (cards_at p k) marks at
+      sparse_new r er = er ∙ sym (head_new s (cards_at p k) marks at n (en ∙ sym (cards_length p k)) i f g)
 
-      marked : (q : Head) → Indexed i q → Refuses q → head_fault q ≡ 0 → store marks i true ≡ store marks (index_of q) true
-      unfolding Indexed Refuses head_fault index_of
-      marked (Present j start size) y r z = rw y
-      marked (Absent j start) y r z = rw y
-      marked (Fault m) y r z = absurd (omega arith)
+      module _ (h : Head) (eh : Ok h ≡ optional s (requires (get_or (cards_at p k) i 0)) i (at + 8) (word s (at + 4))) where
+        marked : (q : Head) → Indexed i q → store marks i true ≡ store marks (index_of (Ok q)) true
+        unfolding Indexed index_of
+        marked (Present j start size) y = rw y
+        marked (Absent j start) y = rw y
 
-      pub sparse_turn : at ≤ length s → NewHead p k s marks at i h
-      sparse_turn b =
-          record {
-            is = sparse_new;
-            inside = rw sparse_new (sparse_headed p k a e s marks at b);
-            next = marked h (rw eh (optional_index s _ i (at + 8) _)) (rw sparse_new (sparse_refuses s (cards_at p k) marks at));
-          }
+        pub sparse_turn : at ≤ length s → NewHead p k s marks at i h
+        sparse_turn b =
+            record {
+              is = sparse_new (Ok h) eh;
+              inside = IfOk-at_ok (HeadIn (look p k) (length s) at) (sym (sparse_new (Ok h) eh)) (sparse_headed p k a e s marks at b);
+              next = marked h (IfOk-at_ok (Indexed i) (sym eh) (optional_index s _ i (at + 8) _));
+            }
 
 pub part_size : (s : List ℕ) (start size : ℕ) → start + size ≤ length s → length (take (start + size - start) (drop start s)) ≡ size
 part_size s start size h = rw add-sub_cancel_left (simp (length-take, length-drop) (omega arith))

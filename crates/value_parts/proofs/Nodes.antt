@@ -8,10 +8,7 @@ use native.Mathlib.Omega.{arith}
 use lib.ListN.{length, get_or, take, drop}
 use borrow.Author.Tests.{ne_eqb}
 use Rattle.wire.proofs.Picks.{same_or_not}
-use Rattle.value_heads.specs.Faults.{index_fault}
-use Rattle.forms.specs.declared.Head.TheVariants.{Fault}
-use Rattle.forms.specs.declared.Index.{Index}
-use Rattle.forms.specs.declared.Index.TheVariants.{Known, Bad}
+use Rattle.std.specs.Prelude.{Ok, Err}
 use Rattle.value_heads.proofs.Cases.{sparse_bad, sparse_known, index_bad, index_marked}
 use Rattle.plan_nodes.specs.Readers.{At}
 use Rattle.plan_nodes.proofs.Looks.{look_leaf, look_enum, look_row, look_arrays, look_tuple, look_object, look_sparse, look_range, tuple_length, refs_length}
@@ -115,12 +112,11 @@ module _ (p : List ℕ) (k kind : ℕ) (c : Container p k kind) (s : List ℕ) w
 -- ---- the head of an element of a sparse object: its index is read without the marks, and then looked for among them
 
 module _ (s cards : List ℕ) (marks : List Bool) (at n : ℕ) (en : n ≡ length cards) where
-  pub head_bad : (x : Index) (m f : ℕ) → x ≡ sparse_index s n [] at → x ≡ Bad m → f ≡ index_fault x → sparse_head s cards marks at ≡ Fault f
-  unfolding index_fault
-  head_bad x m f e b ef = rw (ef, b) (sparse_bad s cards marks at m (rw (← en) (index_bad s n marks at m (sym e ∙ b))))
+  pub head_bad : (m : ℕ) → Err m ≡ sparse_index s n [] at → sparse_head s cards marks at ≡ Err m
+  head_bad m e = sparse_bad s cards marks at m (rw (← en) (index_bad s n marks at m (sym e)))
 
-  module _ (i : ℕ) (e : Known i ≡ sparse_index s n [] at) where
-    pub head_twice : get_or marks i false ≡ true → sparse_head s cards marks at ≡ Fault 26
+  module _ (i : ℕ) (e : Ok i ≡ sparse_index s n [] at) where
+    pub head_twice : get_or marks i false ≡ true → sparse_head s cards marks at ≡ Err 26
     unfolding pick
     head_twice g = sparse_bad s cards marks at 26 (rw (← en) (index_marked s n marks at i true (sym e) g))
 

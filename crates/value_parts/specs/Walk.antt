@@ -1,14 +1,12 @@
 -- Nobody has to believe these definitions: they are the rules of values as the code goes by them, the list by the number of its words so far.
 -- A refusal says nothing of the list.
-use Rattle.std.specs.Prelude.{◌≡◌, ℕ, ◌+◌, ◌*◌, ◌^◌, ◌<◌, ◌≤◌, Bool, true, false, List, eqb, length, get_or}
+use Rattle.std.specs.Prelude.{◌≡◌, ℕ, ◌+◌, ◌*◌, ◌^◌, ◌<◌, ◌≤◌, Bool, true, false, List, eqb, length, get_or, Result, Ok, Err}
 use Rattle.std.proofs.lemmas.List.Edits.{sets}
 use Rattle.value_heads.specs.Heads.{Inside}
 use Rattle.value_heads.specs.Bounds.{From}
-use Rattle.value_heads.specs.Faults.{head_fault}
 use Rattle.forms.specs.declared.Head.{Head}
+use Rattle.forms.specs.declared.fault.Refusal.{Refusal}
 use Rattle.plan_nodes.specs.Readers.{Refers}
-use Rattle.value_parts.specs.declared.Step.{Step}
-use Rattle.value_parts.specs.declared.Step.TheVariants.{Refused, Reached}
 use Rattle.protocol.specs.Lists.{words}
 use Rattle.protocol.specs.Values.{ValueOutcome}
 use Rattle.protocol.specs.Answers.{refused, accepted}
@@ -17,14 +15,18 @@ use Rattle.protocol.specs.Numbers.{pick}
 use Rattle.protocol.specs.Scalars.{scalar, enumeration}
 use Rattle.protocol.specs.Heads.{index_of, end_of}
 
+-- a refusal with a number and a place
+abbrev pub refusal : ℕ → ℕ → Refusal
+refusal n p = record { fault = n; place = p }
+
 -- where a walk ends
 pub data Walk : Type 0 where
   stopped : ℕ → ℕ → Walk
   reached : ℕ → List ℕ → Walk
 
-unfoldable pub walk_of : Step → List ℕ → Walk
-walk_of (Refused n p) l = stopped n p
-walk_of (Reached at) l = reached at l
+unfoldable pub walk_of : Result ℕ Refusal → List ℕ → Walk
+walk_of (Err r) l = stopped r.fault r.place
+walk_of (Ok at) l = reached at l
 
 -- where an outcome leads, from k words on: the list by `sets`, whose stores past the end do nothing
 unfoldable pub led : ValueOutcome → ℕ → List ℕ → Walk
@@ -32,13 +34,13 @@ led (refused n p) k l = stopped n p
 led (accepted f) k l = reached (k + length (words f)) (sets l k (words f))
 
 -- the end of a container's elements (R5.14): whether no byte is left over, and whether a required index is lacking
-unfoldable pub end_step : Bool → Bool → ℕ → ℕ → Step
-end_step whole lacks base at = pick whole (pick lacks (Refused 27 base) (Reached at)) (Refused 21 base)
+unfoldable pub end_step : Bool → Bool → ℕ → ℕ → Result ℕ Refusal
+end_step whole lacks base at = pick whole (pick lacks (Err (refusal 27 base)) (Ok at)) (Err (refusal 21 base))
 
 -- by the byte at e, at most 1 + e / 4 entries of five words (R6.10): each has at least four bytes of its own
-unfoldable pub Within : ℕ → Step → Type 0
-Within e (Refused q p) = Unit {0}
-Within e (Reached at) = 4 * at ≤ 5 * e + 20
+unfoldable pub Within : ℕ → Result ℕ Refusal → Type 0
+Within e (Err r) = Unit {0}
+Within e (Ok at) = 4 * at ≤ 5 * e + 20
 
 -- a leaf's kinds: a scalar's and an enumeration's (R4.2)
 unfoldable pub leaf_kind : ℕ → Bool
@@ -80,10 +82,10 @@ Holds v n = (i : ℕ) → i < n → Refers v i
 pub record HeadIn (v : Node) (n at : ℕ) (h : Head) : Type 0 where
   pub inside : Inside n at h
   pub from : From (at + 4) h
-  pub refers : head_fault h ≡ 0 → Refers v (index_of h)
-  pub small : index_of h < 2 ^ 32
+  pub refers : Refers v (index_of (Ok h))
+  pub small : index_of (Ok h) < 2 ^ 32
 
--- an element that was reached is no refusal, and its words are few enough for its end
-unfoldable pub WithinHead : ℕ → Head → Step → Type 0
-WithinHead base h (Refused q p) = Unit {0}
-WithinHead base h (Reached at) = (head_fault h ≡ 0) × (4 * at ≤ 5 * (base + end_of h) + 20)
+-- the words of an element that was reached are few enough for its end
+unfoldable pub WithinHead : ℕ → Head → Result ℕ Refusal → Type 0
+WithinHead base h (Err r) = Unit {0}
+WithinHead base h (Ok at) = 4 * at ≤ 5 * (base + end_of (Ok h)) + 20

@@ -6,6 +6,7 @@ ghost use Rattle.protocol.specs.Lists.{entry_words, entry_of};
 use wire::words;
 
 // The words of an entry at the list's end, each if there is room for it.
+#[tactic(auto, using(crate::proofs::Entries::five))]
 fn put_part(list: &mut [u32], at: usize, node: u32, index: u32, start: u32, size: u32, count: u32)
     requires { at ≤ 131072 }
     ensures { list.new ≡ sets list.old at (entry_words (entry_of node index start size) count) }
@@ -17,7 +18,9 @@ fn put_part(list: &mut [u32], at: usize, node: u32, index: u32, start: u32, size
     words::put_word(list, at + 4, count);
 }
 
-// The words of an entry, as far as the list has room: mostly there is room for all, and one test says so.
+// The words of an entry, as far as the list has room: mostly there is room for all, and one test says so. Kept: plain parameters, since a
+// caller has the five numbers at hand, and a struct of words would ask five casts of each.
+#[tactic(auto, using(crate::proofs::Entries::kept_length))]
 pub fn put_entry(
     list: &mut [u32],
     at: usize,

@@ -1,48 +1,45 @@
 -- The laws of decimals and bigints.
-use mathlib.Core.Path.{◌≡◌, sym, ◌∙◌}
+use mathlib.Core.Path.{◌≡◌, refl, sym, ◌∙◌}
 use mathlib.Core.Bool.{Bool, true, false}
-use mathlib.Core.List.{List}
-use Prim.Native.Nat.{ℕ, suc, ◌+◌, ◌-◌, ◌*◌, ◌≤◌, ◌<◌}
+use mathlib.Core.List.{List, [], ◌∷◌, ◌++◌}
+use Prim.Native.Nat.{ℕ, ◌+◌, ◌-◌, ◌*◌, ◌%◌, ◌≤◌, ◌<◌}
 use native.Mathlib.Omega.{arith}
-use native.Mathlib.Decide.{dec_lt}
 use lib.Dec.{eqb, leb}
-use lib.ListN.{length, take, drop, drop_of_length-le}
-use lib.Seq.{drop-cons}
+use lib.ListN.{length, take, drop, length-append}
 use borrow.Author.Tests.{le-leb, lt-leb, leb-true, lt-ltb, le-ltb, eq-eqb, ne_eqb}
 use Rattle.wire.proofs.Picks.{both}
 use Rattle.value_scalars.proofs.Parts.{to_end}
 use Rattle.protocol.specs.Numbers.{pick, be}
 use Rattle.protocol.specs.Scalars.{half, sign, digits, decimal, no_fraction, bigint}
 
--- ---- digits, from i on
+-- ---- digits: two bytes x and then t
 
-module _ (s : List ℕ) (i : ℕ) where
-  -- one digit more: the law of the loop
-  digits_at : i + 1 < length s → digits (drop i s) ≡ pick (leb (be (take 2 (drop i s))) 9999) (digits (drop (i + 2) s)) false
-  unfolding digits
-  digits_at h =
-      let two : i + 2 ≡ suc (suc i) = omega arith in
-      let l : i < length s = omega arith in
-      let m : suc i < length s = omega arith in
-      rw (two, drop-cons s i 0 l, drop-cons s (suc i) 0 m)
+digits_front : (x t : List ℕ) → length x ≡ 2 → digits (x ++ t) ≡ pick (leb (be (take 2 x)) 9999) (digits t) false
+unfolding digits
+digits_front [] t h = absurd (omega arith)
+digits_front (a ∷ []) t h = absurd (omega arith)
+digits_front (a ∷ b ∷ []) t h = refl
+digits_front (a ∷ b ∷ c ∷ x) t h = absurd (omega arith)
 
-  module _ (n : ℕ) (e : n ≡ be (take 2 (drop i s))) (h : i + 1 < length s) where
-    pub digit_large : 9999 < n → digits (drop i s) ≡ false
+module _ (s x t : List ℕ) (e : s ≡ x ++ t) (h : length x ≡ 2) where
+  module _ (n : ℕ) (q : n ≡ be (take 2 x)) where
+    pub digit_large : 9999 < n → digits s ≡ false
     unfolding pick
-    digit_large l = digits_at h ∙ rw (← e, lt-leb n 9999 l)
+    digit_large l = rw (e, digits_front x t h, ← q, lt-leb n 9999 l)
 
-    pub digit_next : n ≤ 9999 → digits (drop i s) ≡ digits (drop (i + 2) s)
+    pub digit_next : n ≤ 9999 → digits s ≡ digits t
     unfolding pick
-    digit_next l = digits_at h ∙ rw (← e, le-leb n 9999 l)
+    digit_next l = rw (e, digits_front x t h, ← q, le-leb n 9999 l)
 
-  -- fewer than two bytes are left: none, or half a digit
-  pub digits_end : i ≤ length s → length s ≤ i + 1 → digits (drop i s) ≡ eqb i (length s)
-  unfolding digits
-  digits_end h k =
-      elim (dec_lt i (length s)) [
-        | yes l ↦ let m : length s ≤ suc i = omega arith in rw (drop-cons s i 0 l, drop_of_length-le s m) (sym (ne_eqb i (length s) (λ e. omega arith)))
-        | no l ↦ let m : length s ≤ i = omega arith in rw (drop_of_length-le s m) (sym (eq-eqb i (length s) (omega arith)))
-      ]
+  pub digits_even : length s % 2 ≡ length t % 2
+  digits_even = rw (e, length-append x t, h) (omega arith)
+
+-- fewer than two bytes are left: none, or half a digit
+pub digits_end : (s : List ℕ) → length s < 2 → eqb (length s % 2) 0 ≡ digits s
+unfolding digits
+digits_end [] h = refl
+digits_end (a ∷ []) h = refl
+digits_end (a ∷ b ∷ s) h = absurd (omega arith)
 
 -- ---- the sign
 

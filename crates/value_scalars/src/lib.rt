@@ -12,20 +12,14 @@ ghost use Rattle.protocol.specs.Scalars.{boolean, duration, local_time, json, sc
 fn bool_ok(v: &[u8]) -> bool
     ensures { result ≡ boolean v.now }
 {
-    if v.len() != 1 {
-        return false;
-    }
-    v[0] < 2
+    v.len() == 1 && v[0] < 2
 }
 
 // Whether the bytes are a duration: microseconds, any integer, and then 8 reserved bytes, all zero.
 fn duration_ok(v: &[u8]) -> bool
     ensures { result ≡ duration v.now }
 {
-    if v.len() != 16 {
-        return false;
-    }
-    wire::be::uint_at(v, 8, 8) == 0
+    v.len() == 16 && wire::be::uint_at(v, 8, 8) == 0
 }
 
 // Whether the eight bytes from `at` on are a time of day. A day has 256 times 337,500,000 microseconds, so the last byte may be anything; of a
@@ -34,33 +28,25 @@ pub fn in_day(s: &[u8], at: usize) -> bool
     requires { at + 8 ≤ length s.now }
     ensures { result ≡ local_time (take 8 (drop at s.now)) }
 {
-    if 255 < wire::be::u32_at(s, at) {
-        return false;
-    }
-    (wire::be::u32_at(s, at + 3) as u64) <= constants::MOST_LOCAL_TIME / 256
+    wire::be::u32_at(s, at) <= 255
+        && u64::from(wire::be::u32_at(s, at + 3)) <= constants::MOST_LOCAL_TIME / 256
 }
 
 // Whether the bytes are a local_time: eight bytes, a time of day.
 fn local_time_ok(v: &[u8]) -> bool
     ensures { result ≡ local_time v.now }
 {
-    if v.len() != 8 {
-        return false;
-    }
-    in_day(v, 0)
+    v.len() == 8 && in_day(v, 0)
 }
 
 // Whether the bytes are json: its encoding, of which there is one, and then text.
 fn json_ok(v: &[u8]) -> bool
     ensures { result ≡ json v.now }
 {
-    if v.len() == 0 {
-        return false;
+    match v {
+        [1, text @ ..] => wire::text::is_utf8(text),
+        _ => false,
     }
-    if v[0] != 1 {
-        return false;
-    }
-    wire::text::is_utf8(&v[1..])
 }
 
 // Whether the bytes are a value of a format that has a rule beside its size, or none; of a format that is not there none are. Bool and local_time

@@ -7,24 +7,19 @@ ghost use Rattle.protocol.specs.Scalars.{sign, digits, decimal, no_fraction, big
 fn digits_ok(s: &[u8]) -> bool
     ensures { result ≡ digits s.now }
 {
-    let mut i = 0;
-    while i + 1 < s.len() {
-        if 9999 < wire::be::u16_at(s, i) {
+    for digit in s.chunks_exact(2) {
+        if 9999 < wire::be::u16_at(digit, 0) {
             return false;
         }
-        i += 2;
     }
-    i == s.len()
+    s.len() % 2 == 0
 }
 
 // Whether a sign is one of the two, plus and minus.
 fn sign_ok(s: u32) -> bool
     ensures { result ≡ sign s }
 {
-    if s == 0 {
-        return true;
-    }
-    s == 0x4000
+    s == 0 || s == 0x4000
 }
 
 // Whether the bytes are a decimal: as many digits as ndigits says and no byte more.
@@ -35,13 +30,7 @@ pub fn decimal_ok(v: &[u8]) -> bool
         return false;
     }
     let n = wire::be::u16_at(v, 0) as usize;
-    if v.len() != 8 + 2 * n {
-        return false;
-    }
-    if !sign_ok(wire::be::u16_at(v, 4)) {
-        return false;
-    }
-    digits_ok(&v[8..])
+    v.len() == 8 + 2 * n && sign_ok(wire::be::u16_at(v, 4)) && digits_ok(&v[8..])
 }
 
 // Whether no digit stands after the decimal point: the first of n digits counts 10,000 to the power of the weight, which is signed
@@ -50,13 +39,7 @@ fn whole_ok(n: u32, weight: u32) -> bool
     requires { weight < 65536 }
     ensures { result ≡ no_fraction n weight }
 {
-    if n == 0 {
-        return true;
-    }
-    if 0x8000 <= weight {
-        return false;
-    }
-    n <= weight + 1
+    n == 0 || (weight < 0x8000 && n <= weight + 1)
 }
 
 // Whether the bytes are a bigint: a decimal with its last field zero and no digit after the point.
@@ -66,8 +49,5 @@ pub fn bigint_ok(v: &[u8]) -> bool
     if !decimal_ok(v) {
         return false;
     }
-    if wire::be::u16_at(v, 6) != 0 {
-        return false;
-    }
-    whole_ok(wire::be::u16_at(v, 0), wire::be::u16_at(v, 2))
+    wire::be::u16_at(v, 6) == 0 && whole_ok(wire::be::u16_at(v, 0), wire::be::u16_at(v, 2))
 }

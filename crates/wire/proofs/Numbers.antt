@@ -1,14 +1,15 @@
 -- The laws of big-endian numbers, over the width.
 use mathlib.Core.Path.{◌≡◌, refl, ap, sym, ◌∙◌}
 use mathlib.Core.List.{List, [], ◌∷◌, ◌++◌}
-use Prim.Native.Nat.{ℕ, zero, suc, ◌+◌, ◌*◌, ◌/◌, ◌%◌, ◌^◌, ◌<◌, ◌≤◌}
+use Prim.Native.Nat.{ℕ, zero, suc, ◌+◌, ◌-◌, ◌*◌, ◌/◌, ◌%◌, ◌^◌, ◌<◌, ◌≤◌}
 use native.Mathlib.Omega.{arith}
-use native.Mathlib.Nat.{add-zero, pow-zero, pow-suc, pow-le-pow_right}
+use native.Mathlib.Nat.{add-zero, pow-zero, pow-suc, pow-le-pow_right, div-div-eq-div-mul}
 use native.Mathlib.Numerals.{add-one}
 use lib.Dec.{lit<}
 use lib.Arith.{digits_div, digits_mod}
-use lib.ListN.{length, take, drop, get_or, length-drop, length-append}
+use lib.ListN.{length, take, drop, get_or, length-take, length-drop, length-append}
 use lib.Seq.{take-suc, get_or-drop}
+use Rattle.std.proofs.lemmas.List.{get_or-take}
 use Rattle.protocol.specs.Numbers.{be, be_from, bytes_be}
 
 from_snoc : (a : ℕ) (xs : List ℕ) (x : ℕ) → be_from a (xs ++ (x ∷ [])) ≡ be_from a xs * 256 + x
@@ -44,6 +45,21 @@ be_four s at h = omega (arith, be_two s at (omega arith), be_more s at 2 (omega 
 pub be_next : (s : List ℕ) (at n v : ℕ) → at + n < length s → v ≡ be (take n (drop at s)) → v * 256 + get_or s (at + n) 0 ≡ be (take (n + 1) (drop at s))
 be_next s at n v h e = rw add-one (omega (arith, be_more s at n h))
 
+-- the byte at i of the n bytes at a place
+pub record Part (s : List ℕ) (at n i : ℕ) : Type 0 where
+  pub below : i < n
+  pub same : get_or (take (at + n - at) (drop at s)) i 0 ≡ get_or s (at + i) 0
+
+pub part_at : (s : List ℕ) (at n i : ℕ) → at + n ≤ length s → i < length (take (at + n - at) (drop at s)) → Part s at n i
+part_at s at n i h l =
+    let b : i < n = omega (arith, length-take (at + n - at) (drop at s)) in
+    let c : i < at + n - at = omega arith in
+    record { below = b; same = get_or-take (at + n - at) (drop at s) i 0 c ∙ get_or-drop at s i 0 }
+
+-- all n are passed
+pub part_end : (s : List ℕ) (at n i : ℕ) → at + n ≤ length s → i ≤ length (take (at + n - at) (drop at s)) → length (take (at + n - at) (drop at s)) ≤ i → i ≡ n
+part_end s at n i h p q = omega (arith, length-take (at + n - at) (drop at s), length-drop at s)
+
 -- a number of i bytes and one byte more, of at most eight
 pub more_fits : (v b i : ℕ) → i < 8 → v < 256 ^ i → b < 256 → (v * 256 + b < 256 ^ (i + 1)) × (v * 256 + b < 2 ^ 64)
 more_fits v b i h p q =
@@ -75,6 +91,11 @@ pub length_bytes : (n v : ℕ) → length (bytes_be n v) ≡ n
 unfolding bytes_be
 length_bytes zero v = refl
 length_bytes (suc n) v = rw (length-append, length_bytes n (v / 256)) (add-one n)
+
+-- the four bytes of a number, as std has them
+pub bytes_four : (v : ℕ) → (v / 16777216 % 256) ∷ (v / 65536 % 256) ∷ (v / 256 % 256) ∷ (v % 256) ∷ [] ≡ bytes_be 4 v
+unfolding bytes_be
+bytes_four v = simp div-div-eq-div-mul
 
 -- bytes stand for a number of their width
 pub be_below : (s : List ℕ) (at n : ℕ) → ((i : ℕ) → get_or s i 0 < 256) → at + n ≤ length s → be (take n (drop at s)) < 256 ^ n

@@ -1,5 +1,6 @@
 -- The laws of well-formed UTF-8: a first byte by the table, a sequence a byte at a time, and runs of plain bytes.
 use mathlib.Core.Path.{◌≡◌, refl, ap, ap₂, sym, ◌∙◌}
+use Rattle.std.specs.Prelude.{Some, None}
 use mathlib.Core.Bool.{Bool, true, false}
 use mathlib.Core.List.{List, [], ◌∷◌}
 use Prim.Native.Nat.{ℕ, zero, suc, ◌+◌, ◌*◌, ◌/◌, ◌-◌, ◌<◌, ◌≤◌, min, zero-le}
@@ -49,7 +50,7 @@ row_is f l n t b p q = same_is (f b) (following utf8_table b) (each_at (λ b. sa
 
 -- the first k bytes at i begin a sequence of which n are yet to come, the first of them in r
 pub record Going (s : List ℕ) (i k n : ℕ) (r : Range) : Type 0 where
-  pub is : sequence_size (drop i s) ≡ pick (follow (ahead n r) (drop (i + k) s)) (k + n) 0
+  pub is : sequence_size (drop i s) ≡ pick (follow (ahead n r) (drop (i + k) s)) (Some (k + n)) None
 
 ahead_followers : (n : ℕ) → followers n ≡ ahead n follower
 unfolding followers ahead
@@ -93,21 +94,21 @@ module _ (s : List ℕ) (i : ℕ) where
         let f : follow (ahead n r) (drop (i + k) s) ≡ follow (ahead (n - 1) follower) (drop (i + (k + 1)) s) =
         next s (i + k) r n p h ∙ pick_yes (within r (get_or s (i + k) 0)) (follow (ahead (n - 1) follower) (drop (i + k + 1) s)) false w ∙ rw add_assoc
         in
-        record { is = g.is ∙ ap₂ (λ (t : Bool) (m : ℕ). pick t m 0) f e }
+        record { is = g.is ∙ ap₂ (λ (t : Bool) (m : ℕ). pick t (Some m) None) f e }
 
-    none : follow (ahead n r) (drop (i + k) s) ≡ false → 0 ≡ sequence_size (drop i s)
-    none f = sym (g.is ∙ pick_no (follow (ahead n r) (drop (i + k) s)) (k + n) 0 f)
+    none : follow (ahead n r) (drop (i + k) s) ≡ false → None ≡ sequence_size (drop i s)
+    none f = sym (g.is ∙ pick_no (follow (ahead n r) (drop (i + k) s)) (Some (k + n)) None f)
 
-    pub broken : 0 < n → i + k < length s → within r (get_or s (i + k) 0) ≡ false → 0 ≡ sequence_size (drop i s)
+    pub broken : 0 < n → i + k < length s → within r (get_or s (i + k) 0) ≡ false → None ≡ sequence_size (drop i s)
     broken p h w =
         none (next s (i + k) r n p h ∙ pick_no (within r (get_or s (i + k) 0)) (follow (ahead (n - 1) follower) (drop (i + k + 1) s)) false w)
 
-    pub cut : i + k ≤ length s → length s < i + k + n → 0 ≡ sequence_size (drop i s)
+    pub cut : i + k ≤ length s → length s < i + k + n → None ≡ sequence_size (drop i s)
     cut p h = none (short (ahead n r) (drop (i + k) s) (simp (length-drop, length_ahead) (omega arith)))
 
-    pub whole : n ≡ 0 → k ≡ sequence_size (drop i s)
+    pub whole : n ≡ 0 → Some k ≡ sequence_size (drop i s)
     unfolding ahead follow pick
-    whole e = sym (g.is ∙ rw e (add-zero k))
+    whole e = sym (g.is ∙ rw e (ap Some (add-zero k)))
 
 -- the first byte at i is one of the m bytes from l
 module _ (s : List ℕ) (i l m : ℕ) where
@@ -117,7 +118,7 @@ module _ (s : List ℕ) (i l m : ℕ) where
       record { inside = h; some = p; few = q; row = row_is (λ b. ahead n (second b)) l m t (get_or s i 0) f g }
 
   -- no row has it: then a range that no byte is in is to follow
-  pub stray : each (λ b. same ((1 to 0) ∷ []) (following utf8_table b)) l m ≡ true → i < length s → l ≤ get_or s i 0 → get_or s i 0 < l + m → 0 ≡ sequence_size (drop i s)
+  pub stray : each (λ b. same ((1 to 0) ∷ []) (following utf8_table b)) l m ≡ true → i < length s → l ≤ get_or s i 0 → get_or s i 0 < l + m → None ≡ sequence_size (drop i s)
   unfolding ahead followers within
   stray t h f g =
       let b = get_or s (i + 1) 0 in
@@ -145,38 +146,42 @@ follow_inside [] l e = zero-le
 follow_inside (r ∷ rs) [] e = clash e
 follow_inside (r ∷ rs) (b ∷ l) e = let h = follow_inside rs l (both (within r b) (follow rs l) e).1 in omega arith
 
-size_inside : (l : List ℕ) → sequence_size l ≤ length l
-unfolding sequence_size
-size_inside [] = zero-le
-size_inside (b ∷ l) =
-    pick_case (λ (n : ℕ). n ≤ suc (length l)) (follow (following utf8_table b) l) (suc (length (following utf8_table b))) 0
-    (λ e. let h = follow_inside (following utf8_table b) l e in omega arith)
-    (λ _. zero-le)
+-- n bytes at i are a sequence: the text goes on after them
+pub record Sequence (s : List ℕ) (i n : ℕ) : Type 0 where
+  pub some : 0 < n
+  pub inside : i + n ≤ length s
+  pub on : goes_on [] (drop i s) ≡ goes_on [] (drop (i + n) s)
 
-size_goes : (l : List ℕ) → 0 < length l → goes_on [] l ≡ pick (ltb 0 (sequence_size l)) (goes_on [] (drop (sequence_size l) l)) false
+size_some : (l : List ℕ) (n : ℕ) → Some n ≡ sequence_size l → (0 < n) × (n ≤ length l) × (goes_on [] l ≡ goes_on [] (drop n l))
 unfolding sequence_size goes_on pick
-size_goes [] h = absurd (not-suc-le-zero h)
-size_goes (b ∷ l) h = go (follow (following utf8_table b) l) refl
+size_some [] n e = cc
+size_some (b ∷ l) n e = go (follow (following utf8_table b) l) refl e
   where
-    go :
-        (t : Bool)
-        → follow (following utf8_table b) l ≡ t
-        → goes_on (following utf8_table b) l ≡ pick (ltb 0 (pick t (suc (length (following utf8_table b))) 0)) (goes_on [] (drop (pick t (suc (length (following utf8_table b))) 0) (b ∷ l))) false
-    go true e = follow_goes (following utf8_table b) l ∙ rw (e, lt-ltb 0 (suc (length (following utf8_table b))) (omega arith))
-    go false e = follow_goes (following utf8_table b) l ∙ rw e
+    go : (t : Bool) → follow (following utf8_table b) l ≡ t → Some n ≡ pick t (Some (suc (length (following utf8_table b)))) None
+        → (0 < n) × (n ≤ suc (length l)) × (goes_on (following utf8_table b) l ≡ goes_on [] (drop n (b ∷ l)))
+    go true f p =
+        let q : n ≡ suc (length (following utf8_table b)) = cc in
+        let h = follow_inside (following utf8_table b) l f in
+        rw q (omega arith, omega arith, follow_goes (following utf8_table b) l ∙ rw f)
+    go false f p = cc
 
-module _ (s : List ℕ) (i n : ℕ) (h : i < length s) (q : n ≡ sequence_size (drop i s)) where
-  same_on : goes_on [] (drop i s) ≡ pick (ltb 0 n) (goes_on [] (drop (i + n) s)) false
-  same_on = size_goes (drop i s) (rw (length-drop i s) (omega arith)) ∙ rw (← q, drop-drop)
+size_none : (l : List ℕ) → 0 < length l → None ≡ sequence_size l → goes_on [] l ≡ false
+unfolding sequence_size goes_on pick
+size_none [] h e = absurd (not-suc-le-zero h)
+size_none (b ∷ l) h e = go (follow (following utf8_table b) l) refl e
+  where
+    go : (t : Bool) → follow (following utf8_table b) l ≡ t → None ≡ pick t (Some (suc (length (following utf8_table b)))) None → goes_on (following utf8_table b) l ≡ false
+    go true f p = cc
+    go false f p = follow_goes (following utf8_table b) l ∙ rw f
 
-  pub sequence_inside : i + n ≤ length s
-  sequence_inside = let p = size_inside (drop i s) in omega (arith, length-drop i s)
+module _ (s : List ℕ) (i : ℕ) where
+  pub sequence_is : (n : ℕ) → Some n ≡ sequence_size (drop i s) → i < length s → Sequence s i n
+  sequence_is n e h =
+      let p = size_some (drop i s) n e in
+      record { some = p.0; inside = omega (arith, p.1, length-drop i s); on = p.2 ∙ rw drop-drop }
 
-  pub sequence_none : n ≡ 0 → goes_on [] (drop i s) ≡ false
-  sequence_none e = same_on ∙ pick_no (ltb 0 n) (goes_on [] (drop (i + n) s)) false (le-ltb 0 n (omega arith))
-
-  pub sequence_on : (n ≡ 0 → ⊥) → goes_on [] (drop i s) ≡ goes_on [] (drop (i + n) s)
-  sequence_on e = same_on ∙ pick_yes (ltb 0 n) (goes_on [] (drop (i + n) s)) false (lt-ltb 0 n (omega (arith, e)))
+  pub sequence_none : i < length s → None ≡ sequence_size (drop i s) → goes_on [] (drop i s) ≡ false
+  sequence_none h e = size_none (drop i s) (omega (arith, length-drop i s)) e
 
 pub ended : (s : List ℕ) (i : ℕ) → length s ≤ i → goes_on [] (drop i s) ≡ true
 unfolding goes_on

@@ -1,13 +1,14 @@
 -- The laws of stores one after the other, as far as there is room.
 use mathlib.Core.Path.{◌≡◌, refl, ap, sym, ◌∙◌}
-use mathlib.Core.List.{List, [], ◌∷◌, ◌++◌}
+use mathlib.Core.List.{List, [], ◌∷◌, ◌++◌, append_assoc}
 use Prim.Native.Nat.{ℕ, suc, ◌+◌, ◌-◌, ◌<◌, ◌≤◌, min}
 use native.Mathlib.Omega.{arith}
 use native.Mathlib.Nat.{add-zero, add-suc, suc-add}
 use native.Mathlib.Numerals.{add-one}
 use native.Mathlib.Decide.{dec_lt}
 use lib.ListN.{length, take, drop, get_or, set, length-set, take-append-drop, drop_of_length-le}
-use lib.Seq.{sets, length-sets, set_out, take-suc, length-take-le}
+use lib.Seq.{sets, sets-eq, length-sets, set_out, take-suc, length-take-le, drop-drop}
+use borrow.Rule.Slice.PartMut.{put_mid}
 
 -- two runs of stores, the second where the first ends, are one
 pub sets_append : (l : List ℕ) (k : ℕ) (ws vs : List ℕ) → sets (sets l k ws) (k + length ws) vs ≡ sets l k (ws ++ vs)
@@ -38,3 +39,7 @@ module _ (out part : List ℕ) (at : ℕ) where
         | yes l ↦ sets_out (sets out at (take k part)) (at + length (take k part)) (drop k part) (rw (length-sets, e) (omega arith))
         | no l ↦ let all : length part ≤ k = omega arith in rw (drop_of_length-le part all)
       ])
+
+-- k bytes in the place of the k bytes at n
+pub part_stored : (l vs : List ℕ) (n k : ℕ) → length vs ≡ k → n + k ≤ length l → put_mid n k l vs ≡ sets l n vs
+part_stored l vs n k e h = sym (sets-eq vs l n (omega arith) ∙ rw (e, ← drop-drop, append_assoc))

@@ -1,6 +1,7 @@
 -- Nobody has to believe these definitions: they are what the functions of src/text.rt say to each other of a scan of text, in forms of
 -- protocol's well-formed text (R2.6) that no other crate needs.
-use Rattle.std.specs.Prelude.{◌≡◌, Bool, true, false, List, [], ◌∷◌, ℕ, zero, suc, ◌+◌, ◌*◌, ◌/◌, ◌<◌, eqb, ltb, length, drop, get_or}
+use Rattle.std.specs.declared.option.Option.{Option}
+use Rattle.std.specs.Prelude.{◌≡◌, Bool, true, false, Some, None, List, [], ◌∷◌, ℕ, zero, suc, ◌+◌, ◌*◌, ◌/◌, ◌<◌, eqb, ltb, length, drop, get_or}
 use Rattle.protocol.specs.Numbers.{pick}
 use Rattle.protocol.specs.Text.{Range, ◌to◌, within, utf8_table, following}
 
@@ -43,10 +44,10 @@ follow [] s = true
 follow (r ∷ rs) [] = false
 follow (r ∷ rs) (b ∷ s) = pick (within r b) (follow rs s) false
 
--- how many bytes the sequence at the front has, by the row of its first byte; 0 where none stands there
-unfoldable pub sequence_size : List ℕ → ℕ
-sequence_size [] = 0
-sequence_size (b ∷ s) = pick (follow (following utf8_table b) s) (suc (length (following utf8_table b))) 0
+-- how many bytes the sequence at the front has, by the row of its first byte, if one stands there
+unfoldable pub sequence_size : List ℕ → Option ℕ
+sequence_size [] = None
+sequence_size (b ∷ s) = pick (follow (following utf8_table b) s) (Some (suc (length (following utf8_table b)))) None
 
 -- where the plain bytes at i end
 abbrev pub plain_end : List ℕ → ℕ → ℕ

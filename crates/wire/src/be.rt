@@ -7,7 +7,7 @@ ghost use Rattle.protocol.specs.Numbers.{be, bytes_be};
 pub fn join(a: u8, b: u8, c: u8, d: u8) -> u32
     ensures { result ≡ ((a * 256 + b) * 256 + c) * 256 + d }
 {
-    (((a as u32) * 256 + (b as u32)) * 256 + (c as u32)) * 256 + (d as u32)
+    u32::from_be_bytes([a, b, c, d])
 }
 
 // The number of the two bytes at `at`.
@@ -15,7 +15,7 @@ pub fn u16_at(s: &[u8], at: usize) -> u32
     requires { at + 2 ≤ length s.now }
     ensures { (result ≡ be (take 2 (drop at s.now))) × (result < 65536) }
 {
-    join(0, 0, s[at], s[at + 1])
+    u32::from(u16::from_be_bytes([s[at], s[at + 1]]))
 }
 
 // The number of the four bytes at `at`.
@@ -23,7 +23,7 @@ pub fn u32_at(s: &[u8], at: usize) -> u32
     requires { at + 4 ≤ length s.now }
     ensures { result ≡ be (take 4 (drop at s.now)) }
 {
-    join(s[at], s[at + 1], s[at + 2], s[at + 3])
+    u32::from_be_bytes([s[at], s[at + 1], s[at + 2], s[at + 3]])
 }
 
 // The number of the `n` bytes at `at`, of which there are at most eight.
@@ -32,10 +32,8 @@ pub fn uint_at(s: &[u8], at: usize, n: usize) -> u64
     ensures { result ≡ be (take n (drop at s.now)) }
 {
     let mut v: u64 = 0;
-    let mut i = 0;
-    while i < n {
-        v = v * 256 + (s[at + i] as u64);
-        i += 1;
+    for b in &s[at..at + n] {
+        v = v * 256 + u64::from(*b);
     }
     v
 }
@@ -45,8 +43,5 @@ pub fn put_u32(out: &mut [u8], at: usize, v: u32)
     requires { at + 4 ≤ length out.old }
     ensures { out.new ≡ sets out.old at (bytes_be 4 v) }
 {
-    out[at] = (v / 16777216 % 256) as u8;
-    out[at + 1] = (v / 65536 % 256) as u8;
-    out[at + 2] = (v / 256 % 256) as u8;
-    out[at + 3] = (v % 256) as u8;
+    out[at..at + 4].copy_from_slice(&v.to_be_bytes());
 }

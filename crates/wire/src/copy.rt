@@ -6,21 +6,15 @@ ghost use Rattle.std.proofs.lemmas.List.Edits.{sets};
 pub fn least(a: usize, b: usize) -> usize
     ensures { result ≡ min a b }
 {
-    if a < b { a } else { b }
+    a.min(b)
 }
 
-// All of `part`, stored from `at`: what would lie past the end of `out` is left out. The number of
-// stores is known before the first, so that the loop has no further test and is a plain copy.
+// All of `part`, stored from `at`: what would lie past the end of `out` is left out.
 pub fn put_bytes(part: &[u8], out: &mut [u8], at: usize)
     ensures { out.new ≡ sets out.old at part.now }
 {
-    if out.len() <= at {
-        return;
-    }
-    let n = least(part.len(), out.len() - at);
-    let mut i = 0;
-    while i < n {
-        out[at + i] = part[i];
-        i += 1;
+    if at < out.len() {
+        let n = part.len().min(out.len() - at);
+        out[at..at + n].copy_from_slice(&part[..n]);
     }
 }

@@ -7,10 +7,7 @@ ghost use Rattle.protocol.specs.Text.{◌to◌, within, well_formed};
 fn is_within(b: u8, low: u8, high: u8) -> bool
     ensures { result ≡ within (low to high) b }
 {
-    if b < low {
-        return false;
-    }
-    b <= high
+    low <= b && b <= high
 }
 
 // Whether `c` may follow the first byte `b`. Four first bytes narrow the range of what follows them: to
@@ -19,68 +16,50 @@ fn is_within(b: u8, low: u8, high: u8) -> bool
 fn may_follow(b: u8, c: u8) -> bool
     ensures { result ≡ within (second b) c }
 {
-    if b == 0xe0 {
-        return is_within(c, 0xa0, 0xbf);
+    match b {
+        0xe0 => is_within(c, 0xa0, 0xbf),
+        0xed => is_within(c, 0x80, 0x9f),
+        0xf0 => is_within(c, 0x90, 0xbf),
+        0xf4 => is_within(c, 0x80, 0x8f),
+        _ => is_within(c, 0x80, 0xbf),
     }
-    if b == 0xed {
-        return is_within(c, 0x80, 0x9f);
-    }
-    if b == 0xf0 {
-        return is_within(c, 0x90, 0xbf);
-    }
-    if b == 0xf4 {
-        return is_within(c, 0x80, 0x8f);
-    }
-    is_within(c, 0x80, 0xbf)
 }
 
-// The length of the sequence at `i`, whose first byte has `left` bytes after it, or 0 where those do
-// not stand there.
-fn rest_at(s: &[u8], i: usize, left: usize) -> usize
+// The length of the sequence at `i`, whose first byte has `left` bytes after it, if those stand there.
+fn rest_at(s: &[u8], i: usize, left: usize) -> Option<usize>
     requires { Begins s.now i left }
     ensures { result ≡ sequence_size (drop i s.now) }
 {
-    if s.len() - i <= left {
-        return 0;
-    }
-    if !may_follow(s[i], s[i + 1]) {
-        return 0;
+    if s.len() - i <= left || !may_follow(s[i], s[i + 1]) {
+        return None;
     }
     if left == 1 {
-        return 2;
+        return Some(2);
     }
     if !is_within(s[i + 2], 0x80, 0xbf) {
-        return 0;
+        return None;
     }
     if left == 2 {
-        return 3;
+        return Some(3);
     }
     if !is_within(s[i + 3], 0x80, 0xbf) {
-        return 0;
+        return None;
     }
-    4
+    Some(4)
 }
 
-// The length of the sequence at `i`, where the byte is not plain, or 0 where none stands there. Each
-// length has its own call, with a constant, so that each becomes its own short row of tests.
-fn sequence_at(s: &[u8], i: usize) -> usize
+// The length of the sequence at `i`, where the byte is not plain, if one stands there. Each length
+// has its own call, with a constant, so that each becomes its own short row of tests.
+fn sequence_at(s: &[u8], i: usize) -> Option<usize>
     requires { (i < length s.now) × (0x80 ≤ get_or s.now i 0) }
     ensures { result ≡ sequence_size (drop i s.now) }
 {
-    let b = s[i];
-    if b < 0xc2 {
-        return 0;
+    match s[i] {
+        0xc2..=0xdf => rest_at(s, i, 1),
+        0xe0..=0xef => rest_at(s, i, 2),
+        0xf0..=0xf4 => rest_at(s, i, 3),
+        _ => None,
     }
-    if b < 0xe0 {
-        return rest_at(s, i, 1);
-    }
-    if b < 0xf0 {
-        return rest_at(s, i, 2);
-    }
-    if b < 0xf5 {
-        return rest_at(s, i, 3);
-    }
-    0
 }
 
 // The first index from `from` up to `end` whose byte is not plain, or `end`.
@@ -88,14 +67,12 @@ fn plain_prefix(s: &[u8], from: usize, end: usize) -> usize
     requires { (from ≤ end) × (end ≤ length s.now) }
     ensures { result ≡ min end (plain_end s.now from) }
 {
-    let mut i = from;
-    while i < end {
+    for i in from..end {
         if 0x80 <= s[i] {
             return i;
         }
-        i += 1;
     }
-    i
+    end
 }
 
 // Whether the `n` bytes at `i` are plain. The loop looks for their greatest, and so has no way out
@@ -106,13 +83,8 @@ fn plain_block(s: &[u8], i: usize, n: usize) -> bool
     ensures { result ≡ leb n (plain_run (drop i s.now)) }
 {
     let mut high: u8 = 0;
-    let mut k = 0;
-    while k < n {
-        let b = s[i + k];
-        if high < b {
-            high = b;
-        }
-        k += 1;
+    for b in &s[i..i + n] {
+        high = high.max(*b);
     }
     high < 0x80
 }
@@ -162,10 +134,9 @@ pub fn is_utf8(s: &[u8]) -> bool
         if s[i] < 0x80 {
             i = plain_end(s, i);
         } else {
-            let n = sequence_at(s, i);
-            if n == 0 {
+            let Some(n) = sequence_at(s, i) else {
                 return false;
-            }
+            };
             i += n;
         }
     }

@@ -13,16 +13,14 @@ pub fn wide(x: u32) -> usize
 pub fn word_at(words: &[u32], at: usize) -> u32
     ensures { result ≡ get_or words.now at 0 }
 {
-    if at < words.len() {
-        return words[at];
-    }
-    0
+    words.get(at).copied().unwrap_or(0)
 }
 
 // A word at a position, if the list has it.
 pub fn put_word(list: &mut [u32], at: usize, word: u32)
     ensures { list.new ≡ set list.old at word }
 {
+    // Kept: what is stored through `get_mut` has no clause.
     if at < list.len() {
         list[at] = word;
     }
@@ -32,12 +30,12 @@ pub fn put_word(list: &mut [u32], at: usize, word: u32)
 pub fn is_cardinality(c: u32) -> bool
     ensures { result ≡ is_cardinality c }
 {
-    match c {
-        constants::CARDINALITY_NONE => true,
-        constants::CARDINALITY_AT_MOST_ONE => true,
-        constants::CARDINALITY_ONE => true,
-        constants::CARDINALITY_MANY => true,
-        constants::CARDINALITY_AT_LEAST_ONE => true,
-        _ => false,
-    }
+    matches!(
+        c,
+        constants::CARDINALITY_NONE
+            | constants::CARDINALITY_AT_MOST_ONE
+            | constants::CARDINALITY_ONE
+            | constants::CARDINALITY_MANY
+            | constants::CARDINALITY_AT_LEAST_ONE
+    )
 }

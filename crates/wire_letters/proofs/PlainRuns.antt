@@ -114,16 +114,16 @@ masked (suc n) s i k b h =
 
 -- the eight bytes at i
 pub word_highs :
-    (s : List ℕ) (i low top : ℕ)
+    (s : List ℕ) (i v : ℕ)
     → ((j : ℕ) → get_or s j 0 < 256)
     → i + 8 ≤ length s
-    → low ≡ ((get_or s (i + 3) 0 * 256 + get_or s (i + 2) 0) * 256 + get_or s (i + 1) 0) * 256 + get_or s i 0
-    → top ≡ ((get_or s (i + 7) 0 * 256 + get_or s (i + 6) 0) * 256 + get_or s (i + 5) 0) * 256 + get_or s (i + 4) 0
-    → bit_and (top * 4294967296 + low) 0x8080808080808080 ≡ highs 8 (drop i s)
+    → v ≡ get_or s i 0 + get_or s (i + 1) 0 * 256 + get_or s (i + 2) 0 * 65536 + get_or s (i + 3) 0 * 16777216 + get_or s (i + 4) 0 * 4294967296
+    + get_or s (i + 5) 0 * 1099511627776 + get_or s (i + 6) 0 * 281474976710656 + get_or s (i + 7) 0 * 72057594037927936
+    → bit_and v 0x8080808080808080 ≡ highs 8 (drop i s)
 unfolding little mask
-word_highs s i low top b h p q =
+word_highs s i v b h p =
     let z : get_or s (i + 0) 0 ≡ get_or s i 0 = ap (λ (j : ℕ). get_or s j 0) (add-zero i) in
-    let e : top * 4294967296 + low ≡ little 8 s i 0 = omega arith in
+    let e : v ≡ little 8 s i 0 = omega arith in
     rw e (masked 8 s i 0 b (omega arith) ∙ ap (λ (j : ℕ). highs 8 (drop j s)) (add-zero i))
 
 -- k zeros after a number's digits

@@ -10,10 +10,7 @@ use super::plain::plain_end;
 fn is_within(b: u8, low: u8, high: u8) -> bool
     ensures { result ≡ within (low to high) b }
 {
-    if b < low {
-        return false;
-    }
-    b <= high
+    low <= b && b <= high
 }
 
 // Whether a letter of a row of the table stands at `i`. A row whose letters are not plain has the ranges of their
@@ -62,17 +59,12 @@ fn threes_end(s: &[u8], i: usize) -> usize
     requires { (i < length s.now) × (0xe0 ≤ get_or s.now i 0) × (get_or s.now i 0 < 0xf0) }
     ensures { result ≡ letters_end s.now i }
 {
-    let b = s[i];
-    if b < 0xe1 {
-        return row_end(s, i, 0xe0, 0xe0, 0xa0, 0xbf, 2);
+    match s[i] {
+        0xe0 => row_end(s, i, 0xe0, 0xe0, 0xa0, 0xbf, 2),
+        0xe1..=0xec => row_end(s, i, 0xe1, 0xec, 0x80, 0xbf, 2),
+        0xed => row_end(s, i, 0xed, 0xed, 0x80, 0x9f, 2),
+        _ => row_end(s, i, 0xee, 0xef, 0x80, 0xbf, 2),
     }
-    if b < 0xed {
-        return row_end(s, i, 0xe1, 0xec, 0x80, 0xbf, 2);
-    }
-    if b < 0xee {
-        return row_end(s, i, 0xed, 0xed, 0x80, 0x9f, 2);
-    }
-    row_end(s, i, 0xee, 0xef, 0x80, 0xbf, 2)
 }
 
 // The same of four bytes: narrowed where a letter could be shorter (f0), and past the last letter (f4).
@@ -80,14 +72,11 @@ fn fours_end(s: &[u8], i: usize) -> usize
     requires { (i < length s.now) × (0xf0 ≤ get_or s.now i 0) × (get_or s.now i 0 < 0xf5) }
     ensures { result ≡ letters_end s.now i }
 {
-    let b = s[i];
-    if b < 0xf1 {
-        return row_end(s, i, 0xf0, 0xf0, 0x90, 0xbf, 3);
+    match s[i] {
+        0xf0 => row_end(s, i, 0xf0, 0xf0, 0x90, 0xbf, 3),
+        0xf1..=0xf3 => row_end(s, i, 0xf1, 0xf3, 0x80, 0xbf, 3),
+        _ => row_end(s, i, 0xf4, 0xf4, 0x80, 0x8f, 3),
     }
-    if b < 0xf4 {
-        return row_end(s, i, 0xf1, 0xf3, 0x80, 0xbf, 3);
-    }
-    row_end(s, i, 0xf4, 0xf4, 0x80, 0x8f, 3)
 }
 
 // The end of the letters at `i`, the first of which is not plain, that have the row of that one; `i` where no letter stands there.
@@ -96,20 +85,12 @@ pub fn letters_end(s: &[u8], i: usize) -> usize
     requires { (i < length s.now) × (0x80 ≤ get_or s.now i 0) }
     ensures { result ≡ letters_end s.now i }
 {
-    let b = s[i];
-    if b < 0xc2 {
-        return i;
+    match s[i] {
+        0xc2..=0xdf => row_end(s, i, 0xc2, 0xdf, 0x80, 0xbf, 1),
+        0xe0..=0xef => threes_end(s, i),
+        0xf0..=0xf4 => fours_end(s, i),
+        _ => i,
     }
-    if b < 0xe0 {
-        return row_end(s, i, 0xc2, 0xdf, 0x80, 0xbf, 1);
-    }
-    if b < 0xf0 {
-        return threes_end(s, i);
-    }
-    if b < 0xf5 {
-        return fours_end(s, i);
-    }
-    i
 }
 
 // Whether the bytes are well-formed UTF-8.

@@ -5,8 +5,6 @@ ghost use Rattle.wire.specs.Scan.{blocks_end, plain_run};
 ghost use Rattle.wire_letters.specs.Scan.{run_end, highs};
 ghost use Rattle.wire_letters.specs.Step.{plain_end};
 
-use wire::be::join;
-
 // A number of 64 bits has the bytes of a word.
 const WORD: usize = 8;
 // The highest bit of each byte of a word: it is set where the byte is not plain.
@@ -24,31 +22,37 @@ fn bytes_end(s: &[u8], from: usize) -> usize
     requires { from ≤ length s.now }
     ensures { result ≡ run_end s.now from }
 {
-    let mut i = from;
-    while i < s.len() {
+    for i in from..s.len() {
         if 0x80 <= s[i] {
             return i;
         }
-        i += 1;
     }
-    i
+    s.len()
 }
 
-// Of each of the eight bytes at `i` its highest bit, the first byte lowest. The sums are one load.
+// Of each of the eight bytes at `i` its highest bit, the first byte lowest.
 fn high_at(s: &[u8], i: usize) -> u64
     requires { i + 8 ≤ length s.now }
     ensures { result ≡ highs 8 (drop i s.now) }
 {
-    let low = join(s[i + 3], s[i + 2], s[i + 1], s[i]);
-    let top = join(s[i + 7], s[i + 6], s[i + 5], s[i + 4]);
-    ((top as u64) * 4294967296 + (low as u64)) & HIGH_BITS
+    let word = u64::from_le_bytes([
+        s[i],
+        s[i + 1],
+        s[i + 2],
+        s[i + 3],
+        s[i + 4],
+        s[i + 5],
+        s[i + 6],
+        s[i + 7],
+    ]);
+    word & HIGH_BITS
 }
 
 // Which byte of a word has the lowest bit that is set.
 fn first_high(high: u64) -> usize
     ensures { result ≡ count_trailing_zeros 64 high / 8 }
 {
-    (u64::trailing_zeros(high) / 8) as usize
+    (high.trailing_zeros() / 8) as usize
 }
 
 // The end of the plain bytes at `from`, by words. The last word may have bytes that were looked at
@@ -91,13 +95,8 @@ fn plain_block(s: &[u8], i: usize, n: usize) -> bool
     ensures { result ≡ leb n (plain_run (drop i s.now)) }
 {
     let mut high: u8 = 0;
-    let mut k = 0;
-    while k < n {
-        let b = s[i + k];
-        if high < b {
-            high = b;
-        }
-        k += 1;
+    for b in &s[i..i + n] {
+        high = high.max(*b);
     }
     high < 0x80
 }

@@ -1,4 +1,5 @@
 -- `c_find::find_in` meets its contract.
+use mathlib.Core.Path.{◌∙◌}
 use native.Mathlib.Omega.{arith}
 use Prim.Native.Nat.{◌+◌, ◌-◌, ◌/◌}
 use lib.ListN.{length}
@@ -8,13 +9,7 @@ use Rattle.c_find.proofs.find_in.Goals as goal
 
 pub returns : goal.returns
 returns c =
-    find_crossed _ _ _ c.requires.0
-    c.requires.1 _ _
+    c.find.ensures
+    ∙ find_crossed _ _ _ c.requires.0 c.requires.1 _ _
     (first_taken _ _ _ c.requires.2 _ c.take_both.ensures)
-    (second_taken _ _ _ c.requires.2 _
-    c.take_both.ensures
-    (length c.args.plan.now / 4
-    + length c.args.path.now / 4
-    - length c.args.plan.now / 4)
-    (omega arith)) _
-    c.find_both.ensures
+    (second_taken _ _ _ c.requires.2 _ c.take_both.ensures (length c.args.plan.now / 4 + length c.args.path.now / 4 - length c.args.plan.now / 4) (omega arith))

@@ -1,11 +1,8 @@
-use mathlib.Core.Path.{◌∙◌}
 use Rattle.c_message.proofs.Messages.{uncrossed_unknown, uncrossed_known}
 use Rattle.c_message.proofs.uncrossed_list.Goals as goal
 
-pub returns-then-start_of-ge-NONE : goal.returns-then-start_of-ge-NONE
-returns-then-start_of-ge-NONE c =
-    c.refused.ensures ∙ uncrossed_unknown _ _ _ c.start_of.ensures c.if-start_of-ge-NONE.true
+pub returns-in-None : goal.returns-in-None
+returns-in-None c = rw (c.from.ensures, c.at.ensures) (uncrossed_unknown _ _ c.in-None.ensures)
 
-pub returns : goal.returns
-returns c =
-    c.refused-2.ensures ∙ uncrossed_known _ _ _ c.start_of.ensures c.if-start_of-ge-NONE.false
+pub returns-in-Some : goal.returns-in-Some
+returns-in-Some c = rw (c.from-in-Some.ensures, c.at-in-Some.ensures) (uncrossed_known _ _ _ c.in-Some.ensures)

@@ -8,13 +8,7 @@ use Rattle.c_number.proofs.number_in.Goals as goal
 
 pub returns : goal.returns
 returns c =
-    number_crossed _ _ _ c.requires.0
-    c.requires.1 _ _
+    number_crossed _ _ _ c.requires.0 c.requires.1 _ _
     (first_taken _ _ _ c.requires.2 _ c.take_both.ensures)
-    (second_taken _ _ _ c.requires.2 _
-    c.take_both.ensures
-    (length c.args.plan.now / 4
-    + length c.args.path.now / 4
-    - length c.args.plan.now / 4)
-    (omega arith)) _
-    c.number_both.ensures
+    (second_taken _ _ _ c.requires.2 _ c.take_both.ensures (length c.args.plan.now / 4 + length c.args.path.now / 4 - length c.args.plan.now / 4) (omega arith))
+    _ c.find_number.ensures

@@ -1,14 +1,14 @@
 use mathlib.Core.Path.{sym, ◌∙◌}
+use native.Mathlib.Omega.{arith}
+use Rattle.c_words.proofs.Words.{crosses_most}
 use Rattle.c_run.proofs.Runs.{uncrossed_plan}
 use Rattle.c_run.proofs.run_value.Goals as goal
 
-pub run_few-requires : goal.run_few-requires
-run_few-requires c =
-    (sym c.whole_words.ensures ∙ c.if-whole_words.true, c.if-plan.true)
+pub returns-then-not-whole_words : goal.returns-then-not-whole_words
+returns-then-not-whole_words c =
+    rw (c.from.ensures, c.at.ensures) (uncrossed_plan _ _ _ (sym c.whole_words.ensures ∙ c.if-not-whole_words.true))
 
-pub run_many-requires : goal.run_many-requires
-run_many-requires c = sym c.whole_words.ensures ∙ c.if-whole_words.true
-
-pub returns : goal.returns
-returns c =
-    rw c.refused.ensures (uncrossed_plan _ _ _ (sym c.whole_words.ensures ∙ c.if-whole_words.false))
+pub run_crossed-requires-2 : goal.run_crossed-requires-2
+run_crossed-requires-2 c =
+    let e = sym c.whole_words.ensures ∙ c.if-not-whole_words.false in
+    (e, crosses_most _ e, omega arith)

@@ -20,19 +20,17 @@ slice_bounds-plan_ok-end c =
 pub returns-then-plan_ok : goal.returns-then-plan_ok
 returns-then-plan_ok c =
     let m = crosses_most _ c.requires in
-    c.refused.ensures
-    ∙ uncrossed_formed _ _
+    rw (c.from.ensures, c.at.ensures) (uncrossed_formed _ _
     (filled_words _ _ _ (length c.args.plan.now / 4)
     c.take_words.ensures
     (sym (length_in c.args.plan.now)) (omega (arith, m))) _
-    c.plan_ok.ensures c.if-plan_ok.true
+    c.plan_ok.ensures c.if-plan_ok.true)
 
 pub returns : goal.returns
 returns c =
     let m = crosses_most _ c.requires in
-    c.refused-2.ensures
-    ∙ uncrossed_unformed _ _
+    rw (c.from-2.ensures, c.at-2.ensures) (uncrossed_unformed _ _
     (filled_words _ _ _ (length c.args.plan.now / 4)
     c.take_words.ensures
     (sym (length_in c.args.plan.now)) (omega (arith, m))) _
-    c.plan_ok.ensures c.if-plan_ok.false
+    c.plan_ok.ensures c.if-plan_ok.false)

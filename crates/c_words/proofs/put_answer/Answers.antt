@@ -6,7 +6,7 @@ use Rattle.c_words.proofs.put_answer.Goals as goal
 
 pub returns-then-word_room-n : goal.returns-then-word_room-n
 returns-then-word_room-n c =
-    rw c.refused.ensures (out_full _ _ _ _ (rw c.word_room.ensures at c.if-word_room-n.true))
+    rw (c.from.ensures, c.at.ensures) (out_full _ _ _ _ (rw c.word_room.ensures at c.if-word_room-n.true))
 
 pub slice_bounds-put_words-end : goal.slice_bounds-put_words-end
 slice_bounds-put_words-end c =
@@ -20,4 +20,4 @@ put_words-requires c =
 pub returns : goal.returns
 returns c =
     let h = rw c.word_room.ensures at c.if-word_room-n.false in
-    out_put _ _ _ _ h (c.requires h) _ c.put_words.ensures
+    rw c.success.ensures (out_put _ _ _ _ h (c.requires h) _ c.put_words.ensures)

@@ -1,5 +1,5 @@
 use mathlib.Core.Path.{◌≡◌}
-use Prim.Native.Nat.{◌-◌, ◌*◌, ◌≤◌}
+use Prim.Native.Nat.{◌*◌}
 use lib.ListN.{length, drop}
 use lib.Seq.{sets}
 use Rattle.protocol.specs.Crossing.{bytes_out}
@@ -7,7 +7,4 @@ use Rattle.c_words.proofs.put_words.Given as goal
 
 abbrev pub invariant-loop-i : goal.invariant-loop-i
 invariant-loop-i l =
-    (l.i ≤ length l.words) × (length l.out ≡ length l.initial.out) × (sets l.initial.out 0 (bytes_out l.words) ≡ sets l.out (4 * l.i) (bytes_out (drop l.i l.words)))
-
-abbrev pub decreases-loop-i : goal.decreases-loop-i
-decreases-loop-i l = length l.words - l.i
+    (length l.out ≡ length l.initial.out) × (sets l.initial.out 0 (bytes_out l.words) ≡ sets l.out (4 * l.i) (bytes_out (drop l.i l.words)))

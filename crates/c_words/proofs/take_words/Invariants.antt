@@ -1,5 +1,5 @@
 use mathlib.Core.Path.{◌≡◌}
-use Prim.Native.Nat.{◌-◌, ◌*◌, ◌≤◌}
+use Prim.Native.Nat.{◌*◌}
 use lib.ListN.{length, drop}
 use lib.Seq.{sets}
 use Rattle.protocol.specs.Crossing.{words_in}
@@ -7,7 +7,4 @@ use Rattle.c_words.proofs.take_words.Given as goal
 
 abbrev pub invariant-loop-i : goal.invariant-loop-i
 invariant-loop-i l =
-    (l.i ≤ l.n) × (length l.words ≡ length l.initial.words) × (sets l.initial.words 0 (words_in l.bytes) ≡ sets l.words l.i (words_in (drop (4 * l.i) l.bytes)))
-
-abbrev pub decreases-loop-i : goal.decreases-loop-i
-decreases-loop-i l = l.n - l.i
+    (length l.words ≡ length l.initial.words) × (sets l.initial.words 0 (words_in l.bytes) ≡ sets l.words l.i (words_in (drop (4 * l.i) l.bytes)))

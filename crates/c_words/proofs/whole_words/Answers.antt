@@ -7,6 +7,6 @@ pub returns-then-n-eq0 : goal.returns-then-n-eq0
 unfolding crosses pick
 returns-then-n-eq0 c = simp (eq-eqb _ 0 c.if-n-eq0.true)
 
-pub returns : goal.returns
+pub returns-else-n-eq0 : goal.returns-else-n-eq0
 unfolding crosses pick
-returns c = simp (ne_eqb _ 0 c.if-n-eq0.false)
+returns-else-n-eq0 c = simp (ne_eqb _ 0 c.if-n-eq0.false)

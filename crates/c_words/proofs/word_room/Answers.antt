@@ -7,6 +7,6 @@ pub returns-then-n-le-ROOM : goal.returns-then-n-le-ROOM
 unfolding word_room pick
 returns-then-n-le-ROOM c = simp (le-leb _ _ c.if-n-le-ROOM.true)
 
-pub returns : goal.returns
+pub returns-else-n-le-ROOM : goal.returns-else-n-le-ROOM
 unfolding word_room pick
-returns c = simp (lt-leb _ _ c.if-n-le-ROOM.false)
+returns-else-n-le-ROOM c = simp (lt-leb _ _ c.if-n-le-ROOM.false)

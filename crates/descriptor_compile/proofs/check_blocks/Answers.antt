@@ -1,102 +1,26 @@
--- `descriptor_compile::check_blocks` meets its contract.
-use mathlib.Core.Path.{sym, ◌∙◌}
+use mathlib.Core.Path.{sym, ap, ◌∙◌}
 use native.Mathlib.Omega.{arith}
+use Rattle.std.proofs.lemmas.Result.{err_from_is_err_and}
 use Rattle.descriptor_fields.specs.Fields.{id_at}
-use Rattle.descriptor_names.proofs.Earlier.{found_most}
 use Rattle.descriptor_compile.proofs.Compiles.{blocks_refused, ended, blocks_rootless, blocks_planned}
 use Rattle.descriptor_compile.proofs.check_blocks.Goals as goal
 
-pub read-scan-requires : goal.read-scan-requires
-read-scan-requires c = (
-  c.requires.0,
-  c.requires.1,
-  c.requires.2,
-)
+pub returns-in_err-scanned : goal.returns-in_err-scanned
+returns-in_err-scanned c =
+    let p = err_from_is_err_and c.from_residual.result c.from_residual.ensures.1 in rw (p.1, p.2) (blocks_refused _ _ _ _ _ _ c.in_err-scanned.ensures _)
 
-pub returns-in_default : goal.returns-in_default
-returns-in_default c =
-    blocks_refused _
-    (id_at c.args.root.now 0) _ _ _ _
-    c.read-scan.ensures _ _ c.in_default.is _
-    c.refusal_of.ensures _
+pub invariant_of-earlier : goal.invariant_of-earlier
+invariant_of-earlier c = record { told = (ended _ (id_at c.args.root.now 0) _ _ _ _ c.in_ok-scanned.ensures).kept.told }
 
-pub find-i-requires : goal.find-i-requires
-find-i-requires c = (
-  (ended _
-      (id_at c.args.root.now 0) _ _ _ _
-      c.read-scan.ensures _ _
-      c.in-Done.is).kept.told,
-  c.requires.3,
-)
-
-pub has_node-requires : goal.has_node-requires
-has_node-requires c =
-    (ended _
-    (id_at
-    c.args.root.now 0)
-    _ _ _ _ c.read-scan.ensures _ _
-    c.in-Done.is).kept.told
-
-pub overflow_cast-i : goal.overflow_cast-i
-overflow_cast-i c =
-    let k =
-    (ended _
-    (id_at c.args.root.now 0) _ _ _ _
-    c.read-scan.ensures _ _
-    c.in-Done.is).kept.told.few
-    in
-    omega (arith, found_most _ _ _ _ _ c.find-i.ensures, k)
-
-pub node_at-first-requires : goal.node_at-first-requires
-node_at-first-requires c =
-    (ended _
-    (id_at c.args.root.now 0) _ _ _ _
-    c.read-scan.ensures _ _
-    c.in-Done.is).kept.told
-
-pub overflow_cast-to : goal.overflow_cast-to
-overflow_cast-to c =
-    let k =
-    (ended _
-    (id_at c.args.root.now 0) _ _ _ _
-    c.read-scan.ensures _ _
-    c.in-Done.is).kept
-    in
+pub overflow_cast-words : goal.overflow_cast-words
+overflow_cast-words c =
+    let k = (ended _ (id_at c.args.root.now 0) _ _ _ _ c.in_ok-scanned.ensures).kept in
     omega (arith, k.most, k.told.few)
 
-pub overflow_cast-result : goal.overflow_cast-result
-overflow_cast-result c =
-    let k =
-    (ended _
-    (id_at c.args.root.now 0)
-    _ _ _ _
-    c.read-scan.ensures _ _
-    c.in-Done.is).kept
-    in
-    omega (arith, k.most, k.told.few)
+pub returns-in-Some : goal.returns-in-Some
+returns-in-Some c =
+    blocks_planned _ (id_at c.args.root.now 0) _ _ _ _ c.in_ok-scanned.ensures _ c.root_node.ensures _ c.in-Some.is _ c.put_two.ensures
 
-pub returns-then-has_node : goal.returns-then-has_node
-returns-then-has_node c =
-    blocks_planned _
-    (id_at c.args.root.now 0)
-    _ _ _ _
-    c.read-scan.ensures _ _
-    c.in-Done.is _
-    c.find-i.ensures
-    (sym c.has_node.ensures ∙ c.if-has_node.true) _
-    c.node_at-first.ensures _ c.put_two.ensures
-
-pub overflow_cast-result-2 : goal.overflow_cast-result-2
-overflow_cast-result-2 c =
-    omega (
-      arith,
-      c.requires.0,
-    )
-
-pub returns : goal.returns
-returns c =
-    blocks_rootless _
-    (id_at c.args.root.now 0) _ _ _ _
-    c.read-scan.ensures _ _
-    c.in-Done.is _ c.find-i.ensures
-    (sym c.has_node.ensures ∙ c.if-has_node.false)
+pub returns-in-None : goal.returns-in-None
+returns-in-None c =
+    rw c.at.ensures (blocks_rootless _ (id_at c.args.root.now 0) _ _ _ _ c.in_ok-scanned.ensures _ c.root_node.ensures c.in-None.is)

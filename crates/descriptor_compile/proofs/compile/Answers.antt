@@ -1,17 +1,14 @@
--- `descriptor_compile::compile` meets its contract: a law for each return.
+use mathlib.Core.Path.{sym, ap, ◌∙◌}
+use Rattle.std.proofs.lemmas.Result.{err_from_is_err_and}
 use Rattle.descriptor_compile.proofs.Compiles.{gives_refused, gives_full, gives_planned}
 use Rattle.descriptor_compile.proofs.compile.Goals as goal
 
-pub returns-in_default : goal.returns-in_default
-returns-in_default c =
-    gives_refused _ _ _ _ _ c.check-answer.ensures _ _ _ c.in_default.is
+pub returns-in_err-words : goal.returns-in_err-words
+returns-in_err-words c =
+    let p = err_from_is_err_and c.from_residual.result c.from_residual.ensures.1 in rw (p.1, p.2) (gives_refused _ _ _ _ _ _ c.in_err-words.ensures)
 
 pub returns-then-plan-words : goal.returns-then-plan-words
-returns-then-plan-words c =
-    gives_full _ _ _ _ _ c.check-answer.ensures _ _ c.in-Words.is c.if-plan-words.true
+returns-then-plan-words c = rw c.at.ensures (gives_full _ _ _ _ _ _ c.in_ok-words.ensures c.if-plan-words.true)
 
 pub returns : goal.returns
-returns c =
-    gives_planned _ _ _ _ _ c.check-answer.ensures _ _
-    c.in-Words.is c.if-plan-words.false _ _
-    c.check.ensures
+returns c = gives_planned _ _ _ _ _ _ c.in_ok-words.ensures c.if-plan-words.false _ _ c.check-2.ensures

@@ -8,7 +8,7 @@ returns-then-not-has_values c =
 
 pub returns-in-3 : goal.returns-in-3
 returns-in-3 c =
-    put_leaf _ _ _ _ _ _ _ c.in-3.is c.put_two.ensures
+    put_leaf _ _ _ _ _ _ _ c.in-3.is (rw c.format_word.ensures at c.put_two.ensures)
 
 pub returns-in-7 : goal.returns-in-7
 returns-in-7 c =

@@ -4,13 +4,10 @@ use Prim.Native.Nat.{◌-◌, ◌≤◌}
 use lib.ListN.{length}
 use lib.Seq.{sets}
 use Rattle.descriptor_blocks.specs.Descriptor.{node_at}
-use Rattle.descriptor_fields.specs.Arrays.{known_of}
+use Rattle.descriptor_fields.specs.Earlier.{before}
 use Rattle.descriptor_nodes.proofs.NodeWords.{pairs_to}
 use Rattle.descriptor_nodes.proofs.put_pairs.Given as goal
 
 abbrev pub invariant-loop-k : goal.invariant-loop-k
 invariant-loop-k l =
-    (l.k ≤ l.count) × (length l.plan ≡ length l.initial.plan) × (l.plan ≡ sets l.initial.plan l.to (pairs_to (node_at (known_of l.d l.known l.n)) l.elements l.k))
-
-abbrev pub decreases-loop-k : goal.decreases-loop-k
-decreases-loop-k l = l.count - l.k
+    (length l.plan ≡ length l.initial.plan) × (l.plan ≡ sets l.initial.plan l.to (pairs_to (node_at (before l.earlier)) l.elements l.k))

@@ -24,7 +24,7 @@ bounds-known-k-3 c =
 
 pub returns : goal.returns
 returns c =
-    adds _ _ _ _ _ _ _ _ _ _ _ (join_one _ _ c.join-tag.ensures)
+    adds _ _ _ _ _ _ _ _ _ _ _ c.from-tag.ensures
     (told_more _ _ _ _ _
     (omega (
       arith,

@@ -11,69 +11,6 @@ pub loop-at-init : goal.loop-at-init
 loop-at-init c =
     (scanning_start _ _ _ c.requires.0 c.requires.1, refl, refl, refl)
 
-pub overflow_cast-result : goal.overflow_cast-result
-overflow_cast-result c =
-    omega (arith, c.loop-at-test.true, c.requires.0)
-
-pub shape_of-known-then-no-ne0 : goal.shape_of-known-then-no-ne0
-shape_of-known-then-no-ne0 c = c.loop-at.invariant.1
-
-pub shape_of-elements-then-no-ne0 : goal.shape_of-elements-then-no-ne0
-shape_of-elements-then-no-ne0 c = c.loop-at.invariant.2
-
-pub shape_of-plan-then-no-ne0 : goal.shape_of-plan-then-no-ne0
-shape_of-plan-then-no-ne0 c = c.loop-at.invariant.3
-
-pub returns-then-no-ne0 : goal.returns-then-no-ne0
-returns-then-no-ne0 c =
-    scanning_tag _ _ _ _ _ _ _ c.loop-at.invariant.0
-    c.loop-at-test.true _ (join_one _ _ c.join-tag.ensures) _
-    c.tag_fault-no.ensures c.if-no-ne0.true
-
-pub read-part-requires : goal.read-part-requires
-read-part-requires c = (
-  c.loop-at.invariant.0.kept.told,
-  record {
-    room =
-        omega (
-          arith,
-          c.requires.2,
-          c.loop-at.invariant.2,
-        );
-    few = omega arith;
-  },
-  omega (arith, c.loop-at-test.true),
-)
-
-pub overflow_cast-result-in_default : goal.overflow_cast-result-in_default
-overflow_cast-result-in_default c =
-    omega (
-      arith,
-      c.loop-at-test.true,
-      c.requires.0,
-    )
-
-pub shape_of-known-in_default : goal.shape_of-known-in_default
-shape_of-known-in_default c =
-    c.loop-at.invariant.1
-
-pub shape_of-elements-in_default : goal.shape_of-elements-in_default
-shape_of-elements-in_default c =
-    c.read-part.auto.elements ∙ c.loop-at.invariant.2
-
-pub shape_of-plan-in_default : goal.shape_of-plan-in_default
-shape_of-plan-in_default c =
-    c.loop-at.invariant.3
-
-pub returns-in_default : goal.returns-in_default
-returns-in_default c =
-    scanning_halt _ _ _ _ _ _ _
-    c.loop-at.invariant.0
-    c.loop-at-test.true _
-    (join_one _ _ c.join-tag.ensures)
-    (sym c.tag_fault-no.ensures ∙ c.if-no-ne0.false) _ _
-    c.read-part.ensures.elements_after _ c.in_default.is _ c.fault_of.ensures
-
 pub add-to-requires : goal.add-to-requires
 add-to-requires c = (
   c.loop-at.invariant.0.kept.told,
@@ -83,19 +20,18 @@ add-to-requires c = (
           arith,
           c.requires.2,
           c.loop-at.invariant.2,
-          c.read-part.auto.elements,
+          c.read.auto.elements,
         );
-    few = read_inside _ _ _ c.in-Next.is c.read-part.ensures.inside;
+    few = read_inside _ _ _ c.in-Ok-read.is c.read.ensures.inside;
   },
   scanning_most _ _ _ _ _ _ _ c.loop-at.invariant.0,
   scanning_few _ _ _ _ _ _ _
       c.loop-at.invariant.0
       c.loop-at-test.true _
-      (join_one _ _ c.join-tag.ensures)
-      (sym c.tag_fault-no.ensures
-      ∙ c.if-no-ne0.false) _ _
-      c.read-part.ensures.elements_after _
-      c.in-Next.is c.if-tag-ne-TAG_ANNOTATION.true,
+      c.from-tag.ensures
+      c.in-Ok.ensures _ _
+      c.read.ensures.elements_after _
+      c.in-Ok-read.is c.if-tag-ne-TAG_ANNOTATION.true,
   omega (
     arith,
     c.requires.1,
@@ -104,19 +40,17 @@ add-to-requires c = (
   scanning_id _ _ _ _ _ _ _
       c.loop-at.invariant.0
       c.loop-at-test.true _
-      (join_one _ _ c.join-tag.ensures)
-      (sym c.tag_fault-no.ensures
-      ∙ c.if-no-ne0.false) _ _
-      c.read-part.ensures.elements_after _
-      c.in-Next.is c.if-tag-ne-TAG_ANNOTATION.true,
+      c.from-tag.ensures
+      c.in-Ok.ensures _ _
+      c.read.ensures.elements_after _
+      c.in-Ok-read.is c.if-tag-ne-TAG_ANNOTATION.true,
   scanning_height _ _ _ _ _ _ _
       c.loop-at.invariant.0
       c.loop-at-test.true _
-      (join_one _ _ c.join-tag.ensures)
-      (sym c.tag_fault-no.ensures
-      ∙ c.if-no-ne0.false) _ _
-      c.read-part.ensures.elements_after _
-      c.in-Next.is c.if-tag-ne-TAG_ANNOTATION.true,
+      c.from-tag.ensures
+      c.in-Ok.ensures _ _
+      c.read.ensures.elements_after _
+      c.in-Ok-read.is c.if-tag-ne-TAG_ANNOTATION.true,
 )
 
 pub overflow_add-n : goal.overflow_add-n
@@ -135,12 +69,11 @@ loop-at-smaller-then-tag-ne-TAG_ANNOTATION c =
           c.loop-at.invariant.0
           c.loop-at-test.true
           _
-          (join_one _ _ c.join-tag.ensures)
-          (sym c.tag_fault-no.ensures
-          ∙ c.if-no-ne0.false)
+          c.from-tag.ensures
+          c.in-Ok.ensures
           _ _
-          c.read-part.ensures.elements_after _
-          c.in-Next.is,
+          c.read.ensures.elements_after _
+          c.in-Ok-read.is,
     )
 
 pub loop-at-preserved-then-tag-ne-TAG_ANNOTATION : goal.loop-at-preserved-then-tag-ne-TAG_ANNOTATION
@@ -148,19 +81,18 @@ loop-at-preserved-then-tag-ne-TAG_ANNOTATION c = (
   scanning_add _ _ _ _ _ _ _
       c.loop-at.invariant.0
       c.loop-at-test.true _
-      (join_one _ _ c.join-tag.ensures)
-      (sym c.tag_fault-no.ensures
-      ∙ c.if-no-ne0.false)
+      c.from-tag.ensures
+      c.in-Ok.ensures
       _ _
-      c.read-part.ensures.elements_after _
-      c.in-Next.is
+      c.read.ensures.elements_after _
+      c.in-Ok-read.is
       c.if-tag-ne-TAG_ANNOTATION.true _ _ _
       c.add-to.ensures
-      (read_inside _ _ _ c.in-Next.is
-      c.read-part.ensures.inside),
+      (read_inside _ _ _ c.in-Ok-read.is
+      c.read.ensures.inside),
   c.add-to.auto.known
       ∙ c.loop-at.invariant.1,
-  c.read-part.auto.elements
+  c.read.auto.elements
       ∙ c.loop-at.invariant.2,
   c.add-to.auto.plan
       ∙ c.loop-at.invariant.3,
@@ -174,10 +106,9 @@ loop-at-smaller c =
       scanning_past _ _ _ _ _ _ _
           c.loop-at.invariant.0
           c.loop-at-test.true _
-          (join_one _ _ c.join-tag.ensures)
-          (sym c.tag_fault-no.ensures
-          ∙ c.if-no-ne0.false) _ _
-          c.read-part.ensures.elements_after _ c.in-Next.is,
+          c.from-tag.ensures
+          c.in-Ok.ensures _ _
+          c.read.ensures.elements_after _ c.in-Ok-read.is,
     )
 
 pub loop-at-preserved : goal.loop-at-preserved
@@ -185,12 +116,11 @@ loop-at-preserved c = (
   scanning_skip _ _ _ _ _ _ _
       c.loop-at.invariant.0
       c.loop-at-test.true _
-      (join_one _ _ c.join-tag.ensures)
-      (sym c.tag_fault-no.ensures
-      ∙ c.if-no-ne0.false) _ _
-      c.read-part.ensures.elements_after _ c.in-Next.is c.if-tag-ne-TAG_ANNOTATION.false,
+      c.from-tag.ensures
+      c.in-Ok.ensures _ _
+      c.read.ensures.elements_after _ c.in-Ok-read.is c.if-tag-ne-TAG_ANNOTATION.false,
   c.loop-at.invariant.1,
-  c.read-part.auto.elements
+  c.read.auto.elements
       ∙ c.loop-at.invariant.2,
   c.loop-at.invariant.3,
 )
@@ -206,3 +136,11 @@ shape_of-plan c = c.loop-at.invariant.3
 
 pub returns : goal.returns
 returns c = scanning_end _ _ _ _ _ _ _ c.loop-at.invariant.0 c.loop-at-test.false
+
+pub returns-in-Err : goal.returns-in-Err
+returns-in-Err c = rw c.at.ensures (scanning_tag _ _ _ _ _ _ _ c.loop-at.invariant.0 c.loop-at-test.true _ c.from-tag.ensures _ c.in-Err.ensures)
+
+pub returns-in-Err-read : goal.returns-in-Err-read
+returns-in-Err-read c =
+    rw c.at-in-Err-read.ensures (scanning_halt _ _ _ _ _ _ _ c.loop-at.invariant.0 c.loop-at-test.true _ c.from-tag.ensures c.in-Ok.ensures _ _
+    c.read.ensures.elements_after _ c.in-Err-read.is)

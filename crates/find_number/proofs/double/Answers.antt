@@ -13,5 +13,5 @@ returns-then-bits-gt9218868437227405312 c = record { is = refl; proper = pattern
 pub float_from_bits-result : goal.float_from_bits-result
 float_from_bits-result c = pattern_plain binary64 _ (omega (arith, c.if-bits-gt9218868437227405312.false))
 
-pub returns : goal.returns
-returns c = gives_double _ (omega (arith, c.if-bits-gt9218868437227405312.false)) (omega (arith, c.ranges.bits))
+pub returns-else-bits-gt9218868437227405312 : goal.returns-else-bits-gt9218868437227405312
+returns-else-bits-gt9218868437227405312 c = gives_double _ (omega (arith, c.if-bits-gt9218868437227405312.false)) (omega (arith, c.ranges.bits))

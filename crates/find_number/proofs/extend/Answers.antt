@@ -1,30 +1,27 @@
 -- `find_number::extend` meets its contract.
-use mathlib.Core.Path.{refl}
+use mathlib.Core.Path.{◌≡◌, ap, ◌∙◌}
 use native.Mathlib.Omega.{arith}
 use Prim.Native.Nat.{◌^◌, ◌<◌}
-use Rattle.find_number.proofs.Bits.{extend_low, extend_high, extend_whole, last_width}
+use mir.Syntax.{w16, w32, w64}
+use mir.Val.{to_z, of_z}
+use Rattle.std.proofs.lemmas.Int.{to_z-of_z, of_z-to_z}
+use Rattle.find_number.proofs.Bits.{extend_two, extend_four, extend_whole, last_width}
 use Rattle.find_number.proofs.extend.Goals as goal
 
-pub returns-then-n-lt32768 : goal.returns-then-n-lt32768
-returns-then-n-lt32768 c = rw c.if-width-eq2.true (extend_low 2 _ 32768 refl c.if-n-lt32768.true)
+pub returns-in-2 : goal.returns-in-2
+returns-in-2 c =
+    let n : c.args.n < 2 ^ 16 = rw c.in-2.is at c.requires.1 in
+    let z : c.from.result ≡ to_z w16 c.args.n = c.from.ensures ∙ ap (to_z w16) (ap (of_z w16) c.cast_signed.ensures ∙ of_z-to_z w16 _ n) in
+    rw c.in-2.is
+    (c.cast_unsigned.ensures ∙ ap (of_z w64) (to_z-of_z w64 _ (record { sfits = c.from.type_inv }) ∙ z) ∙ extend_two _ n)
 
-pub overflow_add-result : goal.overflow_add-result
-overflow_add-result c =
-    let h : c.args.n < 256 ^ 2 = rw c.if-width-eq2.true at c.requires.1 in omega (arith, h)
+pub returns-in-4 : goal.returns-in-4
+returns-in-4 c =
+    let n : c.args.n < 2 ^ 32 = rw c.in-4.is at c.requires.1 in
+    let z : c.from-in-4.result ≡ to_z w32 c.args.n = c.from-in-4.ensures ∙ ap (to_z w32) (ap (of_z w32) c.cast_signed-in-4.ensures ∙ of_z-to_z w32 _ n) in
+    rw c.in-4.is
+    (c.cast_unsigned-in-4.ensures ∙ ap (of_z w64) (to_z-of_z w64 _ (record { sfits = c.from-in-4.type_inv }) ∙ z) ∙ extend_four _ n)
 
-pub returns-then-width-eq2 : goal.returns-then-width-eq2
-returns-then-width-eq2 c = rw c.if-width-eq2.true (extend_high 2 _ 32768 refl c.if-n-lt32768.false)
-
-pub returns-then-n-lt2147483648 : goal.returns-then-n-lt2147483648
-returns-then-n-lt2147483648 c = rw c.if-width-eq4.true (extend_low 4 _ 2147483648 refl c.if-n-lt2147483648.true)
-
-pub overflow_add-result-then-width-eq4 : goal.overflow_add-result-then-width-eq4
-overflow_add-result-then-width-eq4 c =
-    let h : c.args.n < 256 ^ 4 = rw c.if-width-eq4.true at c.requires.1 in omega (arith, h)
-
-pub returns-then-width-eq4 : goal.returns-then-width-eq4
-returns-then-width-eq4 c = rw c.if-width-eq4.true (extend_high 4 _ 2147483648 refl c.if-n-lt2147483648.false)
-
-pub returns : goal.returns
-returns c =
-    rw (last_width _ c.requires.0 c.if-width-eq2.false c.if-width-eq4.false) (extend_whole _)
+pub returns-in_default : goal.returns-in_default
+returns-in_default c =
+    rw (last_width _ c.requires.0 (λ e. omega arith) (λ e. omega arith)) (extend_whole _)

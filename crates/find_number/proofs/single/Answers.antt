@@ -13,5 +13,5 @@ returns-then-bits-gt2139095040 c = record { is = refl; proper = pattern_nan bina
 pub float_from_bits-result : goal.float_from_bits-result
 float_from_bits-result c = pattern_plain binary32 _ (omega (arith, c.if-bits-gt2139095040.false))
 
-pub returns : goal.returns
-returns c = gives_single _ (omega (arith, c.if-bits-gt2139095040.false)) (omega (arith, c.ranges.bits))
+pub returns-else-bits-gt2139095040 : goal.returns-else-bits-gt2139095040
+returns-else-bits-gt2139095040 c = gives_single _ (omega (arith, c.if-bits-gt2139095040.false)) (omega (arith, c.ranges.bits))

@@ -1,87 +1,63 @@
--- `find_path::down` meets its contract: it calls itself with the path less its first word, which is shorter (R7.2).
+use mathlib.Core.Path.{◌≡◌, sym, ◌∙◌}
+use Prim.Native.Nat.{◌+◌, ◌<◌, ◌≤◌}
 use native.Mathlib.Omega.{arith}
-use lib.ListN.{length-take, length-drop}
+use lib.ListN.{length, length-take, length-drop}
 use Rattle.plan_nodes.proofs.Nodes.{at_ref}
+use Rattle.find_path.specs.Find.{outcome}
 use Rattle.find_path.proofs.Seeks.{child_in}
-use Rattle.find_path.proofs.Descents.{finds_here, finds_lost, finds_below, rest_falls}
-use borrow.Enum.Refused.{opened as unsealed}
+use Rattle.find_path.proofs.Descents.{descend_here, descend_refused, descend_last, descend_past, descend_below, rest_is, rest_falls}
 use Rattle.find_path.proofs.+down.Goals as goal
+use Rattle.find_path.proofs.+down.Goals.{in_default-via-in-Ok-Absent+else-is_empty-2, in_default-via-in_default}
 
-pub overflow_cast-to : goal.overflow_cast-to
-overflow_cast-to t c = omega (arith, c.requires.0.small)
-
-pub overflow_cast-start : goal.overflow_cast-start
-overflow_cast-start t c = omega (arith, c.requires.1)
-
-pub returns-then-path-eq0 : goal.returns-then-path-eq0
-returns-then-path-eq0 t c = finds_here _ _ _ _ _ c.if-path-eq0.true
-
-pub bounds-path-0 : goal.bounds-path-0
-bounds-path-0 t c = omega (arith, c.if-path-eq0.false)
-
-pub overflow_cast-path : goal.overflow_cast-path
-overflow_cast-path t c = omega (arith, c.type_inv.path 0)
-
-pub child_head-head-requires : goal.child_head-head-requires
-child_head-head-requires t c =
-    (c.requires.0, omega (arith, c.requires.1))
-
-pub returns-in_default : goal.returns-in_default
-returns-in_default t c =
-    finds_lost _ _ _ _ _ c.if-path-eq0.false _ c.child_head-head.ensures (unsealed c.in_default.in_default-own.keys2) _ c.lost_number.ensures
+pub returns-then-is_empty : goal.returns-then-is_empty
+unfolding outcome
+returns-then-is_empty t c =
+    let e : length c.args.path.now ≤ 0 = grind arith in descend_here _ _ _ _ _ 0 e
 
 pub ref_of-child-requires : goal.ref_of-child-requires
-ref_of-child-requires t c = (
-  c.requires.0,
-  (child_in _ _ c.requires.0 _ _ _ c.child_head-head.ensures _ _ _ c.in-Present.is).refers,
-)
+ref_of-child-requires t c =
+    (c.requires.0, (child_in _ _ c.requires.0 _ _ _ c.in-Ok-Present.ensures _ _ _ c.in-Ok-Present.field-0-is).refers)
 
-pub overflow_add-end : goal.overflow_add-end
-overflow_add-end t c =
-    omega (
-      arith,
-      (child_in _ _ c.requires.0 _ _ _
-          c.child_head-head.ensures _ _ _ c.in-Present.is).inside,
-      c.requires.1,
-    )
+pub overflow_add-base : goal.overflow_add-base
+overflow_add-base t c =
+    let h = (child_in _ _ c.requires.0 _ _ _ c.in-Ok-Present.ensures _ _ _ c.in-Ok-Present.field-0-is).inside in omega (arith, h, c.requires.1)
 
-pub overflow_add-place : goal.overflow_add-place
-overflow_add-place t c =
-    omega (
-      arith,
-      (child_in _ _ c.requires.0 _ _ _
-          c.child_head-head.ensures _ _ _ c.in-Present.is).inside,
-      c.requires.1,
-    )
+pub overflow_add-start : goal.overflow_add-start
+overflow_add-start t c =
+    let h = (child_in _ _ c.requires.0 _ _ _ c.in-Ok-Present.ensures _ _ _ c.in-Ok-Present.field-0-is).inside in omega (arith, h, c.requires.1)
 
-pub slice_bounds-bytes-end : goal.slice_bounds-bytes-end
-slice_bounds-bytes-end t c =
-    (child_in _ _ c.requires.0 _ _ _
-    c.child_head-head.ensures _ _ _ c.in-Present.is).inside
+pub slice_bounds-down-end : goal.slice_bounds-down-end
+slice_bounds-down-end t c = (child_in _ _ c.requires.0 _ _ _ c.in-Ok-Present.ensures _ _ _ c.in-Ok-Present.field-0-is).inside
 
 pub down-requires : goal.down-requires
 down-requires t c = (
-  rest_falls c.args.path.now _
-      c.decreases
-      c.if-path-eq0.false,
+  (let l : 0 < length c.args.path.now = grind arith in rest_falls c.args.path.now _ c.decreases l),
   (
-    (at_ref _ _ _ _
-        c.requires.0
-        c.ref_of-child.ensures).0,
-    simp (length-take, length-drop) (omega (
-      arith,
-      (child_in _ _
-          c.requires.0 _ _ _
-          c.child_head-head.ensures _ _ _
-          c.in-Present.is).inside,
-      c.requires.1,
-    )),
+    (at_ref _ _ _ _ c.requires.0 c.ref_of-child.ensures).0,
+    let h = (child_in _ _ c.requires.0 _ _ _ c.in-Ok-Present.ensures _ _ _ c.in-Ok-Present.field-0-is).inside in
+        simp (length-take, length-drop) (omega (arith, h, c.requires.1)),
   ),
 )
 
-pub returns : goal.returns
-returns t c =
-    finds_below _ _ _ _ _ c.if-path-eq0.false _
-    c.child_head-head.ensures _ _ _ _
-    c.in-Present.is
-    c.ref_of-child.ensures _ _ _ _ _ c.down.ensures
+pub returns-in-Ok-Present : goal.returns-in-Ok-Present
+unfolding outcome
+returns-in-Ok-Present t c =
+    let l : 0 < length c.args.path.now = grind arith in
+    (rw (rest_is c.args.path.now) at c.down.ensures) ∙ descend_below _ _ _ _ _ 0 l _ c.in-Ok-Present.ensures _ _ _ _ c.in-Ok-Present.field-0-is c.ref_of-child.ensures
+
+pub returns-in-Ok-Absent : goal.returns-in-Ok-Absent
+unfolding outcome
+returns-in-Ok-Absent t c =
+    let l : 0 < length c.args.path.now = grind arith in
+    let n : 0 + 1 ≡ length c.args.path.now = grind (arith, length-drop) in
+    rw c.at.ensures (descend_last _ _ _ _ _ 0 l _ c.in-Ok-Absent.ensures _ _ c.in-Ok-Absent.field-0-is n)
+
+pub returns-in_default : goal.returns-in_default
+unfolding outcome
+returns-in_default t c =
+    let l : 0 < length c.args.path.now = grind arith in
+    rw c.at-in_default.ensures
+    (elim c.in_default.branch [
+      | in_default-via-in-Ok-Absent+else-is_empty-2 w ↦ descend_past _ _ _ _ _ 0 l _ w.in-Ok-Absent.ensures _ _ w.in-Ok-Absent.field-0-is (λ e. grind (arith, length-drop))
+      | in_default-via-in_default w ↦ descend_refused _ _ _ _ _ 0 l _ (sym w.in_default.is ∙ c.child_head.ensures)
+    ])

@@ -1,41 +1,32 @@
 use native.Mathlib.Omega.{arith}
+use Rattle.std.proofs.lemmas.Result.{err_from_is_err_and}
 use Rattle.message_layout.specs.Judged.{judged_all}
 use Rattle.message_read.specs.Scan.{Within}
-use Rattle.message_read.proofs.Ends.{body_refused, body_left, body_read_lem}
+use Rattle.message_read.proofs.Ends.{body_refused, body_left, body_whole}
 use Rattle.message_read.proofs.check_body.Goals as goal
 
-pub walk-step-requires : goal.walk-step-requires
-walk-step-requires c = (
-  c.requires.0,
-  c.requires.1,
-  c.requires.2,
-  omega arith,
-  c.table-table.ensures,
-)
-
-pub returns-then-at-m : goal.returns-then-at-m
-unfolding judged_all
-returns-then-at-m c =
-    body_left _ _ _ _ _ c.walk-step.ensures.list_after _ _ c.in-Reached.is c.if-at-m.true
-
-pub overflow_cast-result-in-Reached : goal.overflow_cast-result-in-Reached
+pub walk-requires : goal.walk-requires
 unfolding Within
-overflow_cast-result-in-Reached c =
-    let h = rw c.in-Reached.is at c.walk-step.ensures.within in
-    omega (arith, c.requires)
+walk-requires c = (c.requires.0, (c.requires.1, omega arith))
 
-pub overflow_cast-result-in-Reached-2 : goal.overflow_cast-result-in-Reached-2
+pub returns-in_err-reached : goal.returns-in_err-reached
+unfolding judged_all
+returns-in_err-reached c =
+    let p = err_from_is_err_and c.from_residual.result c.from_residual.ensures.1 in
+    rw (p.1, p.2) (body_refused _ _ _ _ _ c.in_err-reached.ensures.list_after)
+
+pub returns-then-reached-m : goal.returns-then-reached-m
+unfolding judged_all
+returns-then-reached-m c = rw c.at.ensures (body_left _ _ _ _ _ c.in_ok-reached.ensures.list_after c.if-reached-m.true)
+
+pub overflow_cast-result : goal.overflow_cast-result
 unfolding Within
-overflow_cast-result-in-Reached-2 c =
-    let h = rw c.in-Reached.is at c.walk-step.ensures.within in
-    omega (arith, c.requires)
+overflow_cast-result c = omega (arith, c.in_ok-reached.ensures.within, c.requires)
 
-pub returns-in-Refused : goal.returns-in-Refused
-unfolding judged_all
-returns-in-Refused c =
-    body_refused _ _ _ _ _ c.walk-step.ensures.list_after _ _ c.in-Refused.is
+pub overflow_cast-result-2 : goal.overflow_cast-result-2
+unfolding Within
+overflow_cast-result-2 c = omega (arith, c.in_ok-reached.ensures.within, c.requires)
 
-pub returns-else-at-m : goal.returns-else-at-m
+pub returns : goal.returns
 unfolding judged_all
-returns-else-at-m c =
-    body_read_lem _ _ _ _ _ c.walk-step.ensures.list_after _ _ c.in-Reached.is c.if-at-m.false
+returns c = body_whole _ _ _ _ _ c.in_ok-reached.ensures.list_after c.if-reached-m.false

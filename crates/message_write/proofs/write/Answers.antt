@@ -1,106 +1,84 @@
-use mathlib.Core.Path.{◌∙◌}
+use mathlib.Core.Path.{sym, ◌∙◌}
 use native.Mathlib.Omega.{arith}
 use lib.ListN.{length-drop, length-set, length-take}
-use lib.Seq.{length_front}
+use Rattle.std.proofs.lemmas.Result.{err_from_is_err_and}
 use Rattle.message_layout.specs.Judged.{judged_all}
-use Rattle.message_write.proofs.Puts.{led, exact, puts_unknown, puts_faulty, puts_left, puts_long, puts_full, puts_whole}
-use Rattle.message_write.proofs.Emits.{faulty_is, done_is}
+use Rattle.message_layout.proofs.Starts.{start_below, unknown, known}
+use Rattle.message_write.specs.Emitting.{Bounded}
+use Rattle.message_write.proofs.Puts.{led_is, faulty_is, exact, puts_unknown, puts_faulty, puts_left, puts_long, puts_full, puts_whole}
 use Rattle.message_write.proofs.write.Goals as goal
 
-pub returns-then-start-ge-NONE : goal.returns-then-start-ge-NONE
-returns-then-start-ge-NONE c = puts_unknown _ _ _ _ _ _ c.start_of-start.ensures c.if-start-ge-NONE.true
+pub returns-in_err-start : goal.returns-in_err-start
+returns-in_err-start c =
+    let p = err_from_is_err_and c.from_residual.result c.from_residual.ensures.1 in
+    let e = unknown _ _ _ c.ok_or.ensures.value _ c.in_err-start.was in
+    rw (p.1, p.2, e.1) (puts_unknown _ _ _ _ _ (sym e.0 ∙ c.start_of.ensures))
 
-pub emit_walk-first-requires : goal.emit_walk-first-requires
-emit_walk-first-requires c =
-    (c.if-start-ge-NONE.false, omega arith, omega arith, omega arith, c.table-table.ensures)
+pub walk-requires : goal.walk-requires
+unfolding Bounded
+walk-requires c =
+    let k = sym (known _ _ _ c.ok_or.ensures.value _ c.in_ok-start.was) ∙ c.start_of.ensures in
+    (start_below _ _ _ k, (omega arith, omega arith), omega arith)
 
-pub returns-in_default : goal.returns-in_default
+pub returns-in_err-whole : goal.returns-in_err-whole
 unfolding judged_all
-returns-in_default c =
-    puts_faulty _ _ _ _ _ _ c.start_of-start.ensures
-    c.if-start-ge-NONE.false _
-    (faulty_is _ _ _ _ c.emit_walk-first.ensures.out_after c.in_default.is)
+returns-in_err-whole c =
+    let p = err_from_is_err_and c.from_residual-in_err-whole.result c.from_residual-in_err-whole.ensures.1 in
+    let e = unknown _ _ _ c.ok_or-2.ensures.value _ c.in_err-whole.was in
+    rw (p.1, p.2, e.1)
+    (puts_faulty _ _ _ _ _ _ (sym (known _ _ _ c.ok_or.ensures.value _ c.in_ok-start.was) ∙ c.start_of.ensures) _
+    (faulty_is _ _ _ _ _ _ e.0 c.walk.ensures.out_after))
 
-pub returns-then-word-list : goal.returns-then-word-list
+pub returns-then-whole-list : goal.returns-then-whole-list
 unfolding judged_all
-returns-then-word-list c =
-    puts_left _ _ _ _ _ _ c.start_of-start.ensures
-    c.if-start-ge-NONE.false _ _
-    (led _ _ _ _ _ _ (done_is _ _ _ _ c.emit_walk-first.ensures.out_after _ _ c.in-Done.is))
+returns-then-whole-list c =
+    puts_left _ _ _ _ _ _ (sym (known _ _ _ c.ok_or.ensures.value _ c.in_ok-start.was) ∙ c.start_of.ensures) _ _
+    (led_is _ _ _ _ _ _ _ (known _ _ _ c.ok_or-2.ensures.value _ c.in_ok-whole.was) c.walk.ensures.out_after)
     (simp length-drop (omega arith))
 
-pub returns-then-at-gt-MOST_MESSAGE : goal.returns-then-at-gt-MOST_MESSAGE
+pub returns-then-len-gt-MOST_MESSAGE : goal.returns-then-len-gt-MOST_MESSAGE
 unfolding judged_all
-returns-then-at-gt-MOST_MESSAGE c =
-    puts_long _ _ _ _ _ _ c.start_of-start.ensures
-    c.if-start-ge-NONE.false _ _
-    (led _ _ _ _ _ _ (done_is _ _ _ _ c.emit_walk-first.ensures.out_after _ _ c.in-Done.is))
-    (simp length-drop (omega arith)) c.if-at-gt-MOST_MESSAGE.true
+returns-then-len-gt-MOST_MESSAGE c =
+    puts_long _ _ _ _ _ _ (sym (known _ _ _ c.ok_or.ensures.value _ c.in_ok-start.was) ∙ c.start_of.ensures) _ _
+    (led_is _ _ _ _ _ _ _ (known _ _ _ c.ok_or-2.ensures.value _ c.in_ok-whole.was) c.walk.ensures.out_after)
+    (simp length-drop (omega arith)) c.if-len-gt-MOST_MESSAGE.true
 
-pub returns-then-out-at : goal.returns-then-out-at
+pub returns-then-out-len : goal.returns-then-out-len
 unfolding judged_all
-returns-then-out-at c =
-    puts_full _ _ _ _ _ _
-    c.start_of-start.ensures
-    c.if-start-ge-NONE.false _ _
-    (led _ _ _ _ _ _ (done_is _ _ _ _ c.emit_walk-first.ensures.out_after _ _ c.in-Done.is))
-    (simp length-drop (omega arith)) c.if-at-gt-MOST_MESSAGE.false c.if-out-at.true
+returns-then-out-len c =
+    puts_full _ _ _ _ _ _ (sym (known _ _ _ c.ok_or.ensures.value _ c.in_ok-start.was) ∙ c.start_of.ensures) _ _
+    (led_is _ _ _ _ _ _ _ (known _ _ _ c.ok_or-2.ensures.value _ c.in_ok-whole.was) c.walk.ensures.out_after)
+    (simp length-drop (omega arith)) c.if-len-gt-MOST_MESSAGE.false c.if-out-len.true
 
 pub bounds-out-0 : goal.bounds-out-0
 unfolding judged_all
 bounds-out-0 c =
-    let d = led _ _ _ _ _ _ (done_is _ _ _ _ c.emit_walk-first.ensures.out_after _ _ c.in-Done.is) in
-    omega (arith, exact _ _ _ _ d c.if-at-gt-MOST_MESSAGE.false, c.if-out-at.false)
+    let d = led_is _ _ _ _ _ _ _ (known _ _ _ c.ok_or-2.ensures.value _ c.in_ok-whole.was) c.walk.ensures.out_after in
+    omega (arith, exact _ _ _ _ d c.if-len-gt-MOST_MESSAGE.false, c.if-out-len.false)
 
-pub overflow_sub-at : goal.overflow_sub-at
+pub overflow_sub-len : goal.overflow_sub-len
 unfolding judged_all
-overflow_sub-at c =
-    let d =
-    led _ _ _ _ _ _ (done_is _ _ _ _ c.emit_walk-first.ensures.out_after _ _ c.in-Done.is) in
-    omega (arith, exact _ _ _ _ d c.if-at-gt-MOST_MESSAGE.false)
+overflow_sub-len c =
+    let d = led_is _ _ _ _ _ _ _ (known _ _ _ c.ok_or-2.ensures.value _ c.in_ok-whole.was) c.walk.ensures.out_after in
+    omega (arith, exact _ _ _ _ d c.if-len-gt-MOST_MESSAGE.false)
 
 pub put_u32-requires : goal.put_u32-requires
 unfolding judged_all
 put_u32-requires c =
-    let d =
-    led _ _ _ _ _ _ (done_is _ _ _ _ c.emit_walk-first.ensures.out_after _ _ c.in-Done.is) in
-    simp length-set (omega (arith, exact _ _ _ _ d c.if-at-gt-MOST_MESSAGE.false, c.if-out-at.false))
+    let d = led_is _ _ _ _ _ _ _ (known _ _ _ c.ok_or-2.ensures.value _ c.in_ok-whole.was) c.walk.ensures.out_after in
+    simp length-set (omega (arith, exact _ _ _ _ d c.if-len-gt-MOST_MESSAGE.false, c.if-out-len.false))
 
-pub slice_bounds-emit_walk-end-4 : goal.slice_bounds-emit_walk-end-4
-slice_bounds-emit_walk-end-4 c =
-    omega (arith, c.if-out-at.false, simp length-set at c.put_u32.auto.out)
-
-pub slice_bounds-emit_walk-end-5 : goal.slice_bounds-emit_walk-end-5
-slice_bounds-emit_walk-end-5 c =
-    simp length-take (omega (arith, c.if-out-at.false, simp length-set at c.put_u32.auto.out))
-
-pub emit_walk-requires : goal.emit_walk-requires
-emit_walk-requires c = (
-  c.if-start-ge-NONE.false,
-  omega arith,
-  omega arith,
-  simp length-take (omega (arith, c.if-at-gt-MOST_MESSAGE.false)),
-  c.table-table.ensures,
-)
-
-pub shape_of-out : goal.shape_of-out
-shape_of-out c =
-    length_front c.put_u32.new.out
-    c.emit_walk.new.out
-    c.in-Done.at
-    c.emit_walk.auto.out
-    ∙ (simp length-set at c.put_u32.auto.out)
+pub walk-requires-2 : goal.walk-requires-2
+unfolding Bounded
+walk-requires-2 c =
+    let k = sym (known _ _ _ c.ok_or.ensures.value _ c.in_ok-start.was) ∙ c.start_of.ensures in
+    (start_below _ _ _ k, (omega arith, omega arith), simp length-take (omega (arith, c.if-len-gt-MOST_MESSAGE.false)))
 
 pub returns : goal.returns
 unfolding judged_all
 returns c =
-    puts_whole _ _ _ _ _ _
-    c.start_of-start.ensures
-    c.if-start-ge-NONE.false _ _
-    (led _ _ _ _ _ _
-    (done_is _ _ _ _
-    c.emit_walk-first.ensures.out_after _ _
-    c.in-Done.is))
-    (simp length-drop (omega arith)) c.if-at-gt-MOST_MESSAGE.false
-    c.if-out-at.false _ _ _ _
-    c.put_u32.ensures c.emit_walk.ensures.out_after
+    puts_whole _ _ _ _ _ _ (sym (known _ _ _ c.ok_or.ensures.value _ c.in_ok-start.was) ∙ c.start_of.ensures) _ _
+    (led_is _ _ _ _ _ _ _ (known _ _ _ c.ok_or-2.ensures.value _ c.in_ok-whole.was) c.walk.ensures.out_after)
+    (simp length-drop (omega arith)) c.if-len-gt-MOST_MESSAGE.false
+    c.if-out-len.false _ _ _ _
+    c.put_u32.ensures c.walk-2.ensures.out_after

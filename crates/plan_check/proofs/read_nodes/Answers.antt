@@ -1,155 +1,47 @@
--- `plan_check::read_nodes` meets its contract. The loop's invariant: what is left
--- of the reading leads to the same end. The measure is what is left of the plan.
-use mathlib.Core.Path.{refl}
-use Prim.Native.Nat.{◌+◌}
+-- `plan_check::read_nodes` meets its contract: a law for each way out of the loop.
+use Prim.Native.Nat.{◌+◌, ◌<◌}
 use native.Mathlib.Omega.{arith}
-use lib.ListN.{get_or, length-set}
-use Rattle.plan_nodes.proofs.Sizes.{size_most}
+use lib.ListN.{length, get_or}
 use Rattle.plan_nodes.proofs.Reading.{size_positive}
-use Rattle.plan_check.proofs.Scans.{going_start, going_end, going_many, going_short, going_bad, going_next}
+use Rattle.plan_check.proofs.Scans.{going_start, going_scanned, going_end, going_many, going_short, going_whole, going_bad, going_next}
 use Rattle.plan_check.proofs.read_nodes.Goals as goal
 
 pub loop-at-init : goal.loop-at-init
-loop-at-init c =
-    (going_start _ _ _ (omega (arith, c.requires)), refl, refl)
+loop-at-init c = going_start _ _ _ (omega arith)
 
 pub returns-then-n-ge-MOST_BLOCKS : goal.returns-then-n-ge-MOST_BLOCKS
-returns-then-n-ge-MOST_BLOCKS c =
-    let loop = c.loop-at in
-    going_many c.args.plan.now loop.starts loop.heights loop.n loop.at
-    loop.invariant.0 c.loop-at-test.true c.if-n-ge-MOST_BLOCKS.true
-
-pub size_at-size-requires : goal.size_at-size-requires
-size_at-size-requires c = c.loop-at-test.true
-
-pub overflow_add-at : goal.overflow_add-at
-overflow_add-at c =
-    let loop = c.loop-at in
-    omega (
-      arith,
-      c.requires,
-      c.loop-at-test.true,
-      c.size_at-size.ensures,
-      size_most
-          (get_or c.args.plan.now loop.at 0) (get_or c.args.plan.now (loop.at + 1) 0),
-      c.type_inv.plan (loop.at + 1),
-    )
+returns-then-n-ge-MOST_BLOCKS c = going_many _ _ _ _ _ c.loop-at.invariant c.loop-at-test.true c.if-n-ge-MOST_BLOCKS.true
 
 pub returns-then-plan-at : goal.returns-then-plan-at
 returns-then-plan-at c =
-    let loop = c.loop-at in
-    going_short c.args.plan.now loop.starts loop.heights
-    loop.n loop.at loop.invariant.0 c.loop-at-test.true c.if-n-ge-MOST_BLOCKS.false
-    c.size_at-size.result c.size_at-size.ensures c.if-plan-at.true
+    going_short _ _ _ _ _ c.loop-at.invariant c.loop-at-test.true c.if-n-ge-MOST_BLOCKS.false _ c.size_at-size.ensures
+    c.if-plan-at.true
 
-pub height_at-h-requires : goal.height_at-h-requires
-height_at-h-requires c = (
-  c.loop-at.invariant.0.scanned,
-  rw c.size_at-size.ensures at
-      c.if-plan-at.false,
-)
+pub invariant_of-before : goal.invariant_of-before
+invariant_of-before c = record { scanned = going_scanned _ _ _ _ _ c.loop-at.invariant c.loop-at-test.true }
 
-pub returns-then-h-eq0 : goal.returns-then-h-eq0
-returns-then-h-eq0 c =
-    let loop = c.loop-at in
-    going_bad c.args.plan.now
-    loop.starts loop.heights loop.n loop.at loop.invariant.0
-    c.loop-at-test.true
-    c.if-n-ge-MOST_BLOCKS.false c.size_at-size.result
-    c.size_at-size.ensures c.if-plan-at.false c.height_at-h.result
-    c.height_at-h.ensures c.if-h-eq0.true
+pub height_at-requires : goal.height_at-requires
+height_at-requires c =
+    going_whole _ _ _ _ _ c.loop-at.invariant c.loop-at-test.true c.if-n-ge-MOST_BLOCKS.false _ c.size_at-size.ensures
+    c.if-plan-at.false
 
-pub overflow_cast-starts : goal.overflow_cast-starts
-overflow_cast-starts c =
-    omega (
-      arith,
-      c.requires,
-      c.loop-at-test.true,
-    )
-
-pub offset_bounds-starts-n : goal.offset_bounds-starts-n
-offset_bounds-starts-n c =
-    omega (arith, c.if-n-ge-MOST_BLOCKS.false)
-
-pub bounds-starts-n : goal.bounds-starts-n
-bounds-starts-n c =
-    let loop = c.loop-at in
-    omega (
-      arith,
-      c.requires,
-      loop.invariant.0.low,
-      loop.invariant.1,
-      c.if-n-ge-MOST_BLOCKS.false,
-      c.loop-at-test.true,
-    )
-
-pub bounds-heights-n : goal.bounds-heights-n
-bounds-heights-n c =
-    let loop = c.loop-at in
-    omega (
-      arith,
-      c.requires,
-      loop.invariant.0.low,
-      loop.invariant.1,
-      loop.invariant.2,
-      c.if-n-ge-MOST_BLOCKS.false,
-      c.loop-at-test.true,
-    )
-
-pub overflow_add-n : goal.overflow_add-n
-overflow_add-n c =
-    omega (arith, c.if-n-ge-MOST_BLOCKS.false)
-
-pub overflow_add-at-in-loop-at : goal.overflow_add-at-in-loop-at
-overflow_add-at-in-loop-at c =
-    omega (
-      arith,
-      c.requires,
-      c.if-plan-at.false,
-    )
+pub returns-in_err-height : goal.returns-in_err-height
+returns-in_err-height c =
+    rw c.from_residual.ensures
+    (going_bad _ _ _ _ _ c.loop-at.invariant c.loop-at-test.true c.if-n-ge-MOST_BLOCKS.false _ c.size_at-size.ensures
+    c.if-plan-at.false c.in_err-height.ensures)
 
 pub loop-at-smaller : goal.loop-at-smaller
 loop-at-smaller c =
-    let loop = c.loop-at in
-    omega (
-      arith,
-      c.loop-at-test.true,
-      c.size_at-size.ensures,
-      size_positive (get_or c.args.plan.now loop.at 0)
-          (get_or c.args.plan.now (loop.at + 1) 0),
-    )
+    let at = c.loop-at.at in
+    omega (arith, c.size_at-size.ensures, size_positive (get_or c.args.plan.now at 0) (get_or c.args.plan.now (at + 1) 0))
 
 pub loop-at-preserved : goal.loop-at-preserved
 loop-at-preserved c =
-    let loop = c.loop-at in (
-      going_next c.args.plan.now loop.starts loop.heights loop.n loop.at loop.invariant.0
-          c.loop-at-test.true
-          c.if-n-ge-MOST_BLOCKS.false c.size_at-size.result
-          c.size_at-size.ensures c.if-plan-at.false c.height_at-h.result
-          c.height_at-h.ensures c.if-h-eq0.false
-          (omega (
-            arith,
-            c.requires,
-            loop.invariant.0.low,
-            loop.invariant.1,
-            c.if-n-ge-MOST_BLOCKS.false,
-            c.loop-at-test.true,
-          ))
-          (omega (
-            arith,
-            c.requires,
-            loop.invariant.0.low,
-            loop.invariant.1,
-            loop.invariant.2,
-            c.if-n-ge-MOST_BLOCKS.false,
-            c.loop-at-test.true,
-          )),
-      simp length-set loop.invariant.1,
-      simp length-set loop.invariant.2,
-    )
+    let room : c.loop-at.n < length c.loop-at.starts = omega (arith, c.loop-at.invariant.low, c.loop-at.auto.starts) in
+    let tall : c.loop-at.n < length c.loop-at.heights = omega (arith, c.loop-at.invariant.low, c.loop-at.auto.heights) in
+    going_next _ _ _ _ _ c.loop-at.invariant c.loop-at-test.true c.if-n-ge-MOST_BLOCKS.false _ c.size_at-size.ensures
+    c.if-plan-at.false _ c.in_ok-height.ensures room tall
 
 pub returns : goal.returns
-returns c =
-    let loop = c.loop-at in
-    going_end c.args.plan.now loop.starts loop.heights loop.n loop.at
-    loop.invariant.0 c.loop-at-test.false
+returns c = going_end _ _ _ _ _ c.loop-at.invariant c.loop-at-test.false

@@ -1,6 +1,5 @@
 -- `plan_check::read_nodes` meets its contract. The loop's invariant: what is left
 -- of the reading leads to the same end. The measure is what is left of the plan.
-use mathlib.Core.Path.{◌≡◌}
 use Prim.Native.Nat.{◌-◌}
 use lib.ListN.{length}
 use Rattle.plan_check.proofs.Scans.{Going}
@@ -8,7 +7,7 @@ use Rattle.plan_check.proofs.read_nodes.Given as goal
 
 abbrev pub invariant-loop-at : goal.invariant-loop-at
 invariant-loop-at l =
-    Going l.plan l.starts l.heights l.n l.at × (length l.starts ≡ length l.initial.starts) × (length l.heights ≡ length l.initial.heights)
+    Going l.plan l.starts l.heights l.n l.at
 
 abbrev pub decreases-loop-at : goal.decreases-loop-at
 decreases-loop-at l = length l.plan - l.at

@@ -1,24 +1,20 @@
--- `run_compiled::compile_and_run` meets its contract.
 use native.Mathlib.Omega.{arith}
+use Rattle.std.proofs.lemmas.Result.{err_from_is_err_and}
 use lib.ListN.{length-take}
 use Rattle.run_compiled.proofs.Follows.{written, follows_refused, follows_run}
 use Rattle.run_compiled.proofs.compile_and_run.Goals as goal
 
+pub returns-in_err-words : goal.returns-in_err-words
+returns-in_err-words c =
+    let p = err_from_is_err_and c.from_residual.result c.from_residual.ensures.1 in rw (p.1, p.2) (follows_refused _ _ _ _ _ c.in_err-words.ensures _ _)
+
 pub slice_bounds-run-end : goal.slice_bounds-run-end
 slice_bounds-run-end c =
-    let w = written _ _ _ _ _ c.compile.ensures _ c.in-Words.is in
-    omega (arith, w.room, c.compile.auto.plan)
+    let w = written _ _ _ _ _ c.in_ok-words.ensures in omega (arith, w.room, c.compile.auto.plan)
 
-pub slice_bounds-run-end-in-Words : goal.slice_bounds-run-end-in-Words
-slice_bounds-run-end-in-Words c =
-    let w = written _ _ _ _ _ c.compile.ensures _ c.in-Words.is in
-    simp length-take (omega (arith, w.room, c.compile.auto.plan))
+pub slice_bounds-run-end-2 : goal.slice_bounds-run-end-2
+slice_bounds-run-end-2 c =
+    let w = written _ _ _ _ _ c.in_ok-words.ensures in simp length-take (omega (arith, w.room, c.compile.auto.plan))
 
-pub returns-in-Refused : goal.returns-in-Refused
-returns-in-Refused c =
-    follows_refused _ _ _ _ _ c.compile.ensures _ _ _ _ c.in-Refused.is
-
-pub returns-in-Words : goal.returns-in-Words
-returns-in-Words c =
-    follows_run _ _ _ _ _ c.compile.ensures _
-    c.in-Words.is _ _ _ _ c.run.ensures
+pub returns : goal.returns
+returns c = follows_run _ _ _ _ _ c.in_ok-words.ensures _ _ _ _ c.run.ensures

@@ -7,36 +7,33 @@ use Rattle.run_plan.proofs.Runs.{early_refused, early_none, check_early, check_r
 use Rattle.plan_nodes.proofs.Roots.{few_words}
 use Rattle.run_plan.proofs.check.Goals as goal
 
-pub returns-then-no-ne0 : goal.returns-then-no-ne0
-returns-then-no-ne0 c =
-    check_early _ _ _ _ _ (early_refused _ _ _ c.early_fault-no.ensures c.if-no-ne0.true)
+pub returns-in-Err : goal.returns-in-Err
+returns-in-Err c = rw c.at.ensures (check_early _ _ _ _ _ (early_refused _ _ _ c.in-Err.ensures))
 
-pub fill-words-requires : goal.fill-words-requires
-fill-words-requires c =
-    few_words _ (early_none _ _ _ c.early_fault-no.ensures c.if-no-ne0.false).0 (λ (j : ℕ). (c.type_inv.plan j).fits)
+pub fill-count-requires : goal.fill-count-requires
+fill-count-requires c =
+    few_words _ (early_none _ _ c.in_default.ensures).0 (λ (j : ℕ). (c.type_inv.plan j).fits)
 
 pub slice_bounds-check_value-end : goal.slice_bounds-check_value-end
-slice_bounds-check_value-end c = simp length-take (omega (arith, c.fill-words.ensures.room))
+slice_bounds-check_value-end c = simp length-take (omega (arith, c.fill-count.ensures.room))
 
 pub check_value-requires : goal.check_value-requires
 check_value-requires c =
-    let h = early_none _ _ _ c.early_fault-no.ensures c.if-no-ne0.false in
-    (h.0, h.1, filled_memo _ _ _ _ c.fill-words.ensures)
+    let h = early_none _ _ c.in_default.ensures in
+    (h.0, h.1, filled_memo _ _ _ _ c.fill-count.ensures)
 
-pub returns-then-words-lt-SHORT : goal.returns-then-words-lt-SHORT
-returns-then-words-lt-SHORT c =
+pub returns-then-count-lt-SHORT : goal.returns-then-count-lt-SHORT
+returns-then-count-lt-SHORT c =
     check_rest _ _ _ _
-    (early_none _ _ _ c.early_fault-no.ensures
-    c.if-no-ne0.false).2 _
+    (early_none _ _ c.in_default.ensures).2 _
     c.check_value.ensures
 
 pub check_many-requires : goal.check_many-requires
 check_many-requires c =
-    let h = early_none _ _ _ c.early_fault-no.ensures c.if-no-ne0.false in (h.0, h.1)
+    let h = early_none _ _ c.in_default.ensures in (h.0, h.1)
 
 pub returns : goal.returns
 returns c =
     check_rest _ _ _ _
-    (early_none _ _ _ c.early_fault-no.ensures
-    c.if-no-ne0.false).2 _
+    (early_none _ _ c.in_default.ensures).2 _
     c.check_many.ensures

@@ -6,16 +6,16 @@ use Rattle.plan_nodes.proofs.Memos.{filled_memo}
 use Rattle.plan_nodes.proofs.Roots.{few_words}
 use Rattle.run_plan.proofs.check_many.Goals as goal
 
-pub fill-words-requires : goal.fill-words-requires
-fill-words-requires c =
+pub fill-count-requires : goal.fill-count-requires
+fill-count-requires c =
     few_words _ c.requires.0 (λ (j : ℕ). (c.type_inv.plan j).fits)
 
 pub slice_bounds-check_value-end : goal.slice_bounds-check_value-end
-slice_bounds-check_value-end c = simp length-take (omega (arith, c.fill-words.ensures.room))
+slice_bounds-check_value-end c = simp length-take (omega (arith, c.fill-count.ensures.room))
 
 pub check_value-requires : goal.check_value-requires
 check_value-requires c = (
   c.requires.0,
   c.requires.1,
-  filled_memo _ _ _ _ c.fill-words.ensures,
+  filled_memo _ _ _ _ c.fill-count.ensures,
 )

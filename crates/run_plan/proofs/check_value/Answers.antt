@@ -5,6 +5,8 @@ use Prim.Native.Nat.{ℕ}
 use Rattle.plan_nodes.proofs.Nodes.{at_root}
 use Rattle.run_plan.proofs.Runs.{check_nothing, check_bytes, check_refused, check_listed}
 use Rattle.plan_nodes.proofs.Roots.{two, root_some}
+use Rattle.std.proofs.lemmas.Result.{err_from_is_err_and}
+use Rattle.value_parts.specs.Walk.{Within}
 use Rattle.run_plan.proofs.check_value.Goals as goal
 
 pub bounds-plan-1 : goal.bounds-plan-1
@@ -21,9 +23,9 @@ returns-then-value-eq0 c =
 
 pub returns-then-root-eq0 : goal.returns-then-root-eq0
 returns-then-root-eq0 c =
-    check_bytes _ _ c.requires.0 _ _
+    rw c.at.ensures (check_bytes _ _ c.requires.0 _ _
     (λ (j : ℕ). (c.type_inv.plan j).fits) _ refl c.if-root-eq0.true
-    c.if-value-eq0.false
+    c.if-value-eq0.false)
 
 pub walk_value-requires : goal.walk_value-requires
 walk_value-requires c = (
@@ -36,15 +38,16 @@ walk_value-requires c = (
   c.requires.2,
 )
 
-pub returns-in-Refused : goal.returns-in-Refused
-returns-in-Refused c =
-    check_refused _ _ c.requires.0 _ _ _
-    refl c.if-root-eq0.false _
-    c.walk_value.ensures.0 _ _ c.in-Refused.is
+pub returns-in_err-words : goal.returns-in_err-words
+returns-in_err-words c =
+    let p = err_from_is_err_and c.from_residual.result c.from_residual.ensures.1 in
+    rw (p.1, p.2) (check_refused _ _ c.requires.0 _ _ _ refl c.if-root-eq0.false _ c.walk_value.ensures.0 _ c.in_err-words.was)
 
-pub returns-in-Reached : goal.returns-in-Reached
-returns-in-Reached c =
-    check_listed _ _ c.requires.0 _ _ _
-    refl c.if-root-eq0.false _
-    c.walk_value.ensures.0 _ c.in-Reached.is
-    c.walk_value.ensures.1
+pub overflow_cast-result : goal.overflow_cast-result
+unfolding Within
+overflow_cast-result c = omega (arith, c.in_ok-words.ensures.1, c.requires.1)
+
+pub returns : goal.returns
+returns c =
+    check_listed _ _ c.requires.0 _ _ _ refl c.if-root-eq0.false _
+    c.walk_value.ensures.0 _ c.in_ok-words.was c.walk_value.ensures.1

@@ -7,36 +7,33 @@ use Rattle.run_plan.proofs.Runs.{early_refused, early_none, run_early, run_rest}
 use Rattle.plan_nodes.proofs.Roots.{few_words}
 use Rattle.run_plan.proofs.run.Goals as goal
 
-pub returns-then-no-ne0 : goal.returns-then-no-ne0
-returns-then-no-ne0 c =
-    run_early _ _ _ _ _ (early_refused _ _ _ c.early_fault-no.ensures c.if-no-ne0.true)
+pub returns-in-Err : goal.returns-in-Err
+returns-in-Err c = rw c.at.ensures (run_early _ _ _ _ _ (early_refused _ _ _ c.in-Err.ensures))
 
-pub fill-words-requires : goal.fill-words-requires
-fill-words-requires c =
-    few_words _ (early_none _ _ _ c.early_fault-no.ensures c.if-no-ne0.false).0 (λ (j : ℕ). (c.type_inv.plan j).fits)
+pub fill-count-requires : goal.fill-count-requires
+fill-count-requires c =
+    few_words _ (early_none _ _ c.in_default.ensures).0 (λ (j : ℕ). (c.type_inv.plan j).fits)
 
 pub slice_bounds-run_value-end : goal.slice_bounds-run_value-end
-slice_bounds-run_value-end c = simp length-take (omega (arith, c.fill-words.ensures.room))
+slice_bounds-run_value-end c = simp length-take (omega (arith, c.fill-count.ensures.room))
 
 pub run_value-requires : goal.run_value-requires
 run_value-requires c =
-    let h = early_none _ _ _ c.early_fault-no.ensures c.if-no-ne0.false in
-    (h.0, h.1, filled_memo _ _ _ _ c.fill-words.ensures)
+    let h = early_none _ _ c.in_default.ensures in
+    (h.0, h.1, filled_memo _ _ _ _ c.fill-count.ensures)
 
-pub returns-then-words-lt-SHORT : goal.returns-then-words-lt-SHORT
-returns-then-words-lt-SHORT c =
+pub returns-then-count-lt-SHORT : goal.returns-then-count-lt-SHORT
+returns-then-count-lt-SHORT c =
     run_rest _ _ _ _ _
-    (early_none _ _ _ c.early_fault-no.ensures
-    c.if-no-ne0.false).2 _
+    (early_none _ _ c.in_default.ensures).2 _
     c.run_value.ensures
 
 pub run_many-requires : goal.run_many-requires
 run_many-requires c =
-    let h = early_none _ _ _ c.early_fault-no.ensures c.if-no-ne0.false in (h.0, h.1)
+    let h = early_none _ _ c.in_default.ensures in (h.0, h.1)
 
 pub returns : goal.returns
 returns c =
     run_rest _ _ _ _ _
-    (early_none _ _ _ c.early_fault-no.ensures
-    c.if-no-ne0.false).2 _
+    (early_none _ _ c.in_default.ensures).2 _
     c.run_many.ensures

@@ -13,7 +13,7 @@ use Rattle.supply_entries.specs.Emitting.{stand_of}
 use Rattle.supply_entries.proofs.Entries.{no_entry, entry_at, entry_inside, known_is}
 use Rattle.value_parts.proofs.Containers.{refers_inner}
 use Rattle.supply_entries.proofs.Heads.{size_few}
-use Rattle.supply_entries.proofs.Stands.{failed_is, done_is, stood}
+use Rattle.supply_entries.proofs.Stands.{built_is, stood}
 use Rattle.supply_entries.proofs.Parts.{member_absent, member_stop, member_go}
 use Rattle.supply_entries.proofs.Elements.{turn_short, turn_barred, turn_stop, turn_go, turn_unknown, done, lacks, as_many, some_left}
 use Rattle.supply_entries.proofs.Elements.{none_left, one_fewer, same_index, new_index, gathers_start, gathers_next}
@@ -22,17 +22,6 @@ use Rattle.protocol.specs.Plans.{cards_at}
 use Rattle.protocol.specs.Building.{row_order, sparse_order}
 use Rattle.supply_build.proofs.+build_member_build_row_build_sparse_build_value.Goals as goal
 
-pub build_member-kind_at-kind-requires : goal.build_member-kind_at-kind-requires
-build_member-kind_at-kind-requires t c = c.requires.0
-
-pub build_member-ref_of-child-requires : goal.build_member-ref_of-child-requires
-build_member-ref_of-child-requires t c =
-    (c.requires.0, c.requires.1)
-
-pub build_member-overflow_add-word : goal.build_member-overflow_add-word
-build_member-overflow_add-word t c =
-    omega (arith, c.requires.3)
-
 pub build_member-build_absent-requires : goal.build_member-build_absent-requires
 build_member-build_absent-requires t c = (
   c.requires.0,
@@ -40,9 +29,6 @@ build_member-build_absent-requires t c = (
   c.requires.1,
   c.requires.4,
 )
-
-pub build_member-shape_of-out-then-entry-eq-ABSENT : goal.build_member-shape_of-out-then-entry-eq-ABSENT
-build_member-shape_of-out-then-entry-eq-ABSENT t c = c.build_absent.auto.out
 
 pub build_member-returns-then-entry-eq-ABSENT : goal.build_member-returns-then-entry-eq-ABSENT
 build_member-returns-then-entry-eq-ABSENT t c =
@@ -61,8 +47,8 @@ build_member-overflow_add-from t c =
       c.requires.4,
     )
 
-pub build_member-build_value-built-requires : goal.build_member-build_value-built-requires
-build_member-build_value-built-requires t c =
+pub build_member-build_value-requires : goal.build_member-build_value-requires
+build_member-build_value-requires t c =
     let r = at_ref _ _ _ _ c.requires.0 c.ref_of-child.ensures in (
       omega (arith, c.decreases, r.1),
       (
@@ -80,38 +66,35 @@ build_member-build_value-built-requires t c =
       ),
     )
 
-pub build_member-shape_of-out-in_default : goal.build_member-shape_of-out-in_default
-build_member-shape_of-out-in_default t c = c.build_value-built.auto.out
-
-pub build_member-returns-in_default : goal.build_member-returns-in_default
+pub build_member-returns-in_err-built : goal.build_member-returns-in_err-built
 unfolding stand_of
-build_member-returns-in_default t c =
-    member_stop _ _ _
+build_member-returns-in_err-built t c =
+    rw c.from_residual.ensures
+    (member_stop _ _ _
     (refers_inner _ _ _ _ c.kind_at-kind.ensures
     c.requires.1)
     _ _ _ _ _ c.ref_of-child.ensures _ _
     c.if-entry-eq-ABSENT.false _
     c.head_size.ensures
-    (failed_is _ _ _ _ c.build_value-built.ensures c.in_default.is)
+    c.in_err-built.ensures)
 
-pub build_member-overflow_sub-end : goal.build_member-overflow_sub-end
-build_member-overflow_sub-end t c =
-    let s = stood _ _ _ _ _ _ (done_is _ _ _ _ c.build_value-built.ensures _ _ c.in-Done.is) in omega (arith, s.next)
+pub build_member-overflow_sub-built : goal.build_member-overflow_sub-built
+unfolding stand_of
+build_member-overflow_sub-built t c =
+    omega (arith, (stood _ _ _ _ _ _ c.in_ok-built.ensures).next)
 
-pub build_member-overflow_cast-end : goal.build_member-overflow_cast-end
-build_member-overflow_cast-end t c =
-    let s = stood _ _ _ _ _ _ (done_is _ _ _ _ c.build_value-built.ensures _ _ c.in-Done.is) in omega (arith, s.small)
+pub build_member-overflow_cast-built : goal.build_member-overflow_cast-built
+unfolding stand_of
+build_member-overflow_cast-built t c =
+    omega (arith, (stood _ _ _ _ _ _ c.in_ok-built.ensures).small)
 
 pub build_member-put_head-requires : goal.build_member-put_head-requires
+unfolding stand_of
 build_member-put_head-requires t c =
-    let s = stood _ _ _ _ _ _ (done_is _ _ _ _ c.build_value-built.ensures _ _ c.in-Done.is) in (
+    let s = stood _ _ _ _ _ _ c.in_ok-built.ensures in (
       omega (arith, c.requires.4),
       λ e. omega (arith, s.small),
     )
-
-pub build_member-shape_of-out : goal.build_member-shape_of-out
-build_member-shape_of-out t c =
-    c.put_head.auto.out ∙ c.build_value-built.auto.out
 
 pub build_member-returns : goal.build_member-returns
 unfolding stand_of
@@ -124,51 +107,23 @@ build_member-returns t c =
     c.ref_of-child.ensures _ _
     c.if-entry-eq-ABSENT.false _
     c.head_size.ensures _ _ _
-    (done_is _ _ _ _ c.build_value-built.ensures _ _ c.in-Done.is) _
+    c.in_ok-built.ensures _
     c.put_head.ensures
 
-pub build_row-kind_at-kind-requires : goal.build_row-kind_at-kind-requires
-build_row-kind_at-kind-requires t c = c.requires.0
-
-pub build_row-overflow_add-end : goal.build_row-overflow_add-end
-build_row-overflow_add-end t c = omega (arith, c.requires.2)
-
-pub build_row-put_leaves-row-requires : goal.build_row-put_leaves-row-requires
-build_row-put_leaves-row-requires t c = (
-  c.requires.0,
-  c.kind_at-kind.ensures,
-  c.requires.1,
-  omega arith,
-  omega (arith, c.requires.2),
-  c.requires.3,
-)
-
-pub build_row-loop-row-init : goal.build_row-loop-row-init
-build_row-loop-row-init t c =
-    (c.put_leaves-row.ensures.1, c.put_leaves-row.ensures.2, refl, refl)
-
-pub build_row-shape_of-out-in_default : goal.build_row-shape_of-out-in_default
-build_row-shape_of-out-in_default t c =
-    c.loop-row.invariant.2 ∙ c.put_leaves-row.auto.out
-
-pub build_row-returns-in_default : goal.build_row-returns-in_default
+pub build_row-returns-in_err-entry : goal.build_row-returns-in_err-entry
 unfolding stand_of
-build_row-returns-in_default t c =
-    turn_short row_order _ _ c.loop-row.row.index _ _ _ _
+build_row-returns-in_err-entry t c =
+    rw c.from_residual.ensures
+    (turn_short row_order _ _ c.loop-row.row.index _ _ _ _
     (some_left _ _ c.loop-row-test.true)
     (no_entry c.args.list.now
-    c.loop-row.row.word _ c.next_entry.ensures c.in_default.is)
+    c.loop-row.row.word _ c.next_entry.ensures c.in_err-entry.was)
     ∙ sym (as_many row_order _ _
     c.args.first _ _ _ _ _
     (add-sub_cancel_left c.args.first
     c.args.count)
     ∙ c.put_leaves-row.ensures.3
-    ∙ c.loop-row.invariant.3)
-
-pub build_row-shape_of-out-then-entry-i : goal.build_row-shape_of-out-then-entry-i
-build_row-shape_of-out-then-entry-i t c =
-    c.loop-row.invariant.2
-    ∙ c.put_leaves-row.auto.out
+    ∙ c.loop-row.invariant.3))
 
 pub build_row-returns-then-entry-i : goal.build_row-returns-then-entry-i
 unfolding stand_of
@@ -177,7 +132,7 @@ build_row-returns-then-entry-i t c =
     (some_left _ _ c.loop-row-test.true) _ _
     (entry_at c.args.list.now
     c.loop-row.row.word _
-    c.next_entry.ensures _ c.in-Whole.is)
+    c.next_entry.ensures _ c.in_ok-entry.was)
     (ne_eqb _ _ (λ e. c.if-entry-i.true (sym e)))
     ∙ sym (as_many row_order _ _
     c.args.first _ _ _ _ _
@@ -186,8 +141,8 @@ build_row-returns-then-entry-i t c =
     ∙ c.put_leaves-row.ensures.3
     ∙ c.loop-row.invariant.3)
 
-pub build_row-build_member-built-requires : goal.build_row-build_member-built-requires
-build_row-build_member-built-requires t c = (
+pub build_row-build_member-requires : goal.build_row-build_member-requires
+build_row-build_member-requires t c = (
   omega (arith, c.decreases),
   (
     c.requires.0,
@@ -195,51 +150,38 @@ build_row-build_member-built-requires t c = (
         (omega (arith, c.if-entry-i.false, c.loop-row-test.true)),
     entry_at c.args.list.now
         c.loop-row.row.word _
-        c.next_entry.ensures _ c.in-Whole.is,
+        c.next_entry.ensures _ c.in_ok-entry.was,
     entry_inside c.args.list.now
         c.loop-row.row.word _
-        c.next_entry.ensures _ c.in-Whole.is,
+        c.next_entry.ensures _ c.in_ok-entry.was,
     c.loop-row.invariant.1,
     c.requires.4,
   ),
 )
 
-pub build_row-shape_of-out-in_default-built : goal.build_row-shape_of-out-in_default-built
-build_row-shape_of-out-in_default-built t c =
-    c.build_member-built.auto.out
-    ∙ c.loop-row.invariant.2
-    ∙ c.put_leaves-row.auto.out
-
-pub build_row-returns-in_default-built : goal.build_row-returns-in_default-built
+pub build_row-returns-in_err-built : goal.build_row-returns-in_err-built
 unfolding stand_of
-build_row-returns-in_default-built t c =
-    turn_stop row_order _ _
+build_row-returns-in_err-built t c =
+    rw c.from_residual-in_err-built.ensures
+    (turn_stop row_order _ _
     c.loop-row.row.index _ _ _ _
     (some_left _ _ c.loop-row-test.true) _ _
     (entry_at c.args.list.now
     c.loop-row.row.word _
     c.next_entry.ensures _
-    c.in-Whole.is)
+    c.in_ok-entry.was)
     (eq-eqb _ _ (sym c.if-entry-i.false))
-    (failed_is _ _ _ _ c.build_member-built.ensures c.in_default-built.is)
+    c.in_err-built.ensures
     ∙ sym (as_many row_order _ _
     c.args.first _ _ _ _ _
     (add-sub_cancel_left c.args.first
     c.args.count)
     ∙ c.put_leaves-row.ensures.3
-    ∙ c.loop-row.invariant.3)
-
-pub build_row-overflow_add-i : goal.build_row-overflow_add-i
-build_row-overflow_add-i t c =
-    omega (
-      arith,
-      c.loop-row-test.true,
-      c.requires.2,
-    )
+    ∙ c.loop-row.invariant.3))
 
 pub build_row-put_leaves-row-requires-in-loop-row : goal.build_row-put_leaves-row-requires-in-loop-row
 build_row-put_leaves-row-requires-in-loop-row t c =
-    let q = done_is _ _ _ _ c.build_member-built.ensures _ _ c.in-Done.is in (
+    let q = built_is _ _ _ _ c.build_member.ensures _ c.in_ok-built.was in (
       c.requires.0,
       c.kind_at-kind.ensures,
       c.requires.1,
@@ -251,21 +193,13 @@ build_row-put_leaves-row-requires-in-loop-row t c =
       (stood _ _ _ _ _ _ q).small,
     )
 
-pub build_row-loop-row-smaller : goal.build_row-loop-row-smaller
-build_row-loop-row-smaller t c =
-    omega (
-      arith,
-      c.put_leaves-row-in-loop-row.ensures.0,
-      c.loop-row-test.true,
-    )
-
 pub build_row-loop-row-preserved : goal.build_row-loop-row-preserved
 build_row-loop-row-preserved t c =
-    let q = done_is _ _ _ _ c.build_member-built.ensures _ _ c.in-Done.is in (
+    let q = built_is _ _ _ _ c.build_member.ensures _ c.in_ok-built.was in (
       c.put_leaves-row-in-loop-row.ensures.1,
       c.put_leaves-row-in-loop-row.ensures.2,
       c.put_leaves-row-in-loop-row.auto.out
-          ∙ c.build_member-built.auto.out
+          ∙ c.build_member.auto.out
           ∙ c.loop-row.invariant.2,
       c.loop-row.invariant.3
           ∙ turn_go row_order _ _
@@ -274,15 +208,11 @@ build_row-loop-row-preserved t c =
           (entry_at c.args.list.now
           c.loop-row.row.word _
           c.next_entry.ensures _
-          c.in-Whole.is)
+          c.in_ok-entry.was)
           (eq-eqb _ _ (sym c.if-entry-i.false)) _ _ _ q _
           refl _ (one_fewer _ _)
           ∙ c.put_leaves-row-in-loop-row.ensures.3,
     )
-
-pub build_row-shape_of-out : goal.build_row-shape_of-out
-build_row-shape_of-out t c =
-    c.loop-row.invariant.2 ∙ c.put_leaves-row.auto.out
 
 pub build_row-returns : goal.build_row-returns
 unfolding stand_of
@@ -295,30 +225,24 @@ build_row-returns t c =
     ∙ c.put_leaves-row.ensures.3
     ∙ c.loop-row.invariant.3)
 
-pub build_sparse-second_at-n-requires : goal.build_sparse-second_at-n-requires
-build_sparse-second_at-n-requires t c =
-    (c.requires.0, λ e. omega (arith, c.requires.1))
-
 pub build_sparse-loop-init : goal.build_sparse-loop-init
 build_sparse-loop-init t c =
     (refl, rw sub-zero (gathers_start _ _ _ _ _ _ _ _ _ c.requires.2 c.requires.4))
 
-pub build_sparse-shape_of-out-in_default : goal.build_sparse-shape_of-out-in_default
-build_sparse-shape_of-out-in_default t c = c.loop.invariant.0
-
-pub build_sparse-returns-in_default : goal.build_sparse-returns-in_default
+pub build_sparse-returns-in_err-entry : goal.build_sparse-returns-in_err-entry
 unfolding stand_of
-build_sparse-returns-in_default t c =
-    turn_unknown c.args.plan.now
+build_sparse-returns-in_err-entry t c =
+    rw c.from_residual.ensures
+    (turn_unknown c.args.plan.now
     c.args.node _ _
     c.loop.seen.marks _ _ _ _ _ (some_left _ _ c.loop-test.true)
     c.second_at-n.ensures _ c.known_entry.ensures
-    c.in_default.is
-    ∙ sym c.loop.invariant.1.leads
+    c.in_err-entry.was
+    ∙ sym c.loop.invariant.1.leads)
 
 pub build_sparse-mark-seen-requires : goal.build_sparse-mark-seen-requires
 build_sparse-mark-seen-requires t c =
-    let k = known_is _ _ _ _ c.known_entry.ensures c.in-Whole.is in
+    let k = known_is _ _ _ _ c.known_entry.ensures c.in_ok-entry.was in
     omega (
       arith,
       k.1,
@@ -329,20 +253,17 @@ build_sparse-mark-seen-requires t c =
           (omega (arith, c.requires.1)),
     )
 
-pub build_sparse-shape_of-out-then-seen : goal.build_sparse-shape_of-out-then-seen
-build_sparse-shape_of-out-then-seen t c = c.loop.invariant.0
-
 pub build_sparse-returns-then-seen : goal.build_sparse-returns-then-seen
 unfolding stand_of
 build_sparse-returns-then-seen t c =
-    let k = known_is _ _ _ _ c.known_entry.ensures c.in-Whole.is in
+    let k = known_is _ _ _ _ c.known_entry.ensures c.in_ok-entry.was in
     turn_barred (sparse_order (cards_at c.args.plan.now
     c.args.node))
     _ _ c.loop.seen.marks _ _ _ _
     (some_left _ _ c.loop-test.true) _ _
     (entry_at c.args.list.now
-    c.loop.word _ k.0 _
-    c.in-Whole.is)
+    c.loop.built.word _ k.0 _
+    c.in_ok-entry.was)
     (same_index c.args.plan.now
     c.args.node
     c.loop.seen.marks _ _
@@ -352,7 +273,7 @@ build_sparse-returns-then-seen t c =
 
 pub build_sparse-count_given-given-requires : goal.build_sparse-count_given-given-requires
 build_sparse-count_given-given-requires t c =
-    let k = known_is _ _ _ _ c.known_entry.ensures c.in-Whole.is in (
+    let k = known_is _ _ _ _ c.known_entry.ensures c.in_ok-entry.was in (
       c.requires.0,
       c.requires.1,
       omega (arith, k.1, c.second_at-n.ensures),
@@ -361,9 +282,9 @@ build_sparse-count_given-given-requires t c =
           c.requires.1,
     )
 
-pub build_sparse-build_member-built-requires : goal.build_sparse-build_member-built-requires
-build_sparse-build_member-built-requires t c =
-    let k = known_is _ _ _ _ c.known_entry.ensures c.in-Whole.is in (
+pub build_sparse-build_member-requires : goal.build_sparse-build_member-requires
+build_sparse-build_member-requires t c =
+    let k = known_is _ _ _ _ c.known_entry.ensures c.in_ok-entry.was in (
       omega (arith, c.decreases),
       (
         c.requires.0,
@@ -378,65 +299,49 @@ build_sparse-build_member-built-requires t c =
                   c.args.node,
             )),
         entry_at c.args.list.now
-            c.loop.word _ k.0 _
-            c.in-Whole.is,
+            c.loop.built.word _ k.0 _
+            c.in_ok-entry.was,
         entry_inside c.args.list.now
-            c.loop.word _ k.0 _
-            c.in-Whole.is,
+            c.loop.built.word _ k.0 _
+            c.in_ok-entry.was,
         c.loop.invariant.1.small,
         c.requires.3,
       ),
     )
 
-pub build_sparse-shape_of-out-in_default-built : goal.build_sparse-shape_of-out-in_default-built
-build_sparse-shape_of-out-in_default-built t c =
-    c.build_member-built.auto.out
-    ∙ c.loop.invariant.0
-
-pub build_sparse-returns-in_default-built : goal.build_sparse-returns-in_default-built
+pub build_sparse-returns-in_err-built : goal.build_sparse-returns-in_err-built
 unfolding stand_of
-build_sparse-returns-in_default-built t c =
-    let k =
+build_sparse-returns-in_err-built t c =
+    rw c.from_residual-in_err-built.ensures
+    (let k =
     known_is _ _ _ _
     c.known_entry.ensures
-    c.in-Whole.is
+    c.in_ok-entry.was
     in
     turn_stop (sparse_order (cards_at c.args.plan.now
     c.args.node)) _ _
     c.loop.seen.marks _ _ _ _
     (some_left _ _ c.loop-test.true) _ _
     (entry_at c.args.list.now
-    c.loop.word _
-    k.0 _ c.in-Whole.is)
+    c.loop.built.word _
+    k.0 _ c.in_ok-entry.was)
     (new_index c.args.plan.now
     c.args.node
     c.loop.seen.marks _ _
     c.second_at-n.ensures
     k.1
     (sym c.mark-seen.ensures.0 ∙ c.if-seen.false))
-    (failed_is _ _ _ _ c.build_member-built.ensures c.in_default-built.is)
-    ∙ sym c.loop.invariant.1.leads
-
-pub build_sparse-overflow_step : goal.build_sparse-overflow_step
-build_sparse-overflow_step t c =
-    omega (
-      arith,
-      c.loop-test.true,
-      c.well_formed,
-      c.ranges,
-    )
-
-pub build_sparse-loop-smaller : goal.build_sparse-loop-smaller
-build_sparse-loop-smaller t c = omega arith
+    c.in_err-built.ensures
+    ∙ sym c.loop.invariant.1.leads)
 
 pub build_sparse-loop-preserved : goal.build_sparse-loop-preserved
 build_sparse-loop-preserved t c =
     let k =
     known_is _ _ _ _
     c.known_entry.ensures
-    c.in-Whole.is
+    c.in_ok-entry.was
     in (
-      c.build_member-built.auto.out
+      c.build_member.auto.out
           ∙ c.loop.invariant.0,
       gathers_next _ _ _ _ _ _ _ _ _ _ _ _ _ _
           c.loop.invariant.1
@@ -444,11 +349,11 @@ build_sparse-loop-preserved t c =
           c.requires.0
           c.requires.1 _ _
           (entry_at c.args.list.now
-          c.loop.word _
-          k.0 _ c.in-Whole.is)
+          c.loop.built.word _
+          k.0 _ c.in_ok-entry.was)
           (omega (arith, k.1, c.second_at-n.ensures))
           (sym c.mark-seen.ensures.0 ∙ c.if-seen.false) _ _ _
-          (done_is _ _ _ _ c.build_member-built.ensures _ _ c.in-Done.is) _
+          (built_is _ _ _ _ c.build_member.ensures _ c.in_ok-built.was) _
           c.mark-seen.ensures.1 _
           c.count_given-given.ensures _ (one_fewer _ _),
     )
@@ -460,9 +365,6 @@ build_sparse-needed_of-requires t c = (
   c.requires.3,
 )
 
-pub build_sparse-shape_of-out-then-given-needed_of : goal.build_sparse-shape_of-out-then-given-needed_of
-build_sparse-shape_of-out-then-given-needed_of t c = c.loop.invariant.0
-
 pub build_sparse-returns-then-given-needed_of : goal.build_sparse-returns-then-given-needed_of
 unfolding stand_of
 build_sparse-returns-then-given-needed_of t c =
@@ -471,9 +373,6 @@ build_sparse-returns-then-given-needed_of t c =
     c.loop.seen.marks _ _ _ _ (none_left _ _ c.loop-test.false)
     (sym (counted_end _ _ _ _ c.loop.invariant.1.counted _ c.needed_of.ensures) ∙ lt-ltb _ _ c.if-given-needed_of.true)
     ∙ sym c.loop.invariant.1.leads
-
-pub build_sparse-shape_of-out : goal.build_sparse-shape_of-out
-build_sparse-shape_of-out t c = c.loop.invariant.0
 
 pub build_sparse-returns : goal.build_sparse-returns
 unfolding stand_of
@@ -492,9 +391,6 @@ build_value-returns-then-entry-node t c =
     c.requires.1
     c.requires.2 _ _ c.if-entry-node.true
 
-pub build_value-kind_at-kind-requires : goal.build_value-kind_at-kind-requires
-build_value-kind_at-kind-requires t c = c.requires.0
-
 pub build_value-build_leaf-requires : goal.build_value-build_leaf-requires
 build_value-build_leaf-requires t c = (
   c.requires.0,
@@ -502,9 +398,6 @@ build_value-build_leaf-requires t c = (
   sym c.is_leaf.ensures ∙ c.if-is_leaf.true,
   c.requires.4,
 )
-
-pub build_value-shape_of-out-then-is_leaf : goal.build_value-shape_of-out-then-is_leaf
-build_value-shape_of-out-then-is_leaf t c = c.build_leaf.auto.out
 
 pub build_value-returns-then-is_leaf : goal.build_value-returns-then-is_leaf
 build_value-returns-then-is_leaf t c =
@@ -518,27 +411,25 @@ build_value-returns-then-is_leaf t c =
     ∙ sym c.is_leaf.ensures
     ∙ c.if-is_leaf.true)
 
-pub build_value-put_front-opened-requires : goal.build_value-put_front-opened-requires
-build_value-put_front-opened-requires t c = (
+pub build_value-put_front-requires : goal.build_value-put_front-requires
+build_value-put_front-requires t c = (
   c.requires.0,
   inner_kind _ _ _ c.kind_at-kind.ensures (sym c.is_leaf.ensures ∙ c.if-is_leaf.false),
   c.requires.4,
 )
 
-pub build_value-shape_of-out-in_default : goal.build_value-shape_of-out-in_default
-build_value-shape_of-out-in_default t c = c.put_front-opened.auto.out
-
-pub build_value-returns-in_default : goal.build_value-returns-in_default
+pub build_value-returns-in_err-opened : goal.build_value-returns-in_err-opened
 unfolding stand_of
-build_value-returns-in_default t c =
-    value_shut _ _ _
+build_value-returns-in_err-opened t c =
+    rw c.from_residual.ensures
+    (value_shut _ _ _
     c.requires.0 _ _ _
     c.requires.1
     c.requires.2 _ _
     c.if-entry-node.false _
     (inner_kind _ _ _ c.kind_at-kind.ensures
     (sym c.is_leaf.ensures ∙ c.if-is_leaf.false))
-    _ _ c.put_front-opened.ensures c.in_default.is
+    _ _ c.put_front.ensures c.in_err-opened.was)
 
 pub build_value-put_given-run-requires : goal.build_value-put_given-run-requires
 build_value-put_given-run-requires t c =
@@ -555,15 +446,9 @@ build_value-put_given-run-requires t c =
           c.requires.1
           c.requires.2 _ _
           c.if-entry-node.false _ k _ _
-          c.put_front-opened.ensures _ _
-          c.in-Open.is,
+          c.put_front.ensures _ c.in_ok-opened.was,
       omega (arith, c.requires.3),
     )
-
-pub build_value-shape_of-out-then-run : goal.build_value-shape_of-out-then-run
-build_value-shape_of-out-then-run t c =
-    c.put_given-run.auto.out
-    ∙ c.put_front-opened.auto.out
 
 pub build_value-returns-then-run : goal.build_value-returns-then-run
 unfolding stand_of
@@ -580,8 +465,7 @@ build_value-returns-then-run t c =
     c.requires.1
     c.requires.2 _ _
     c.if-entry-node.false _ k _ _
-    c.put_front-opened.ensures _ _
-    c.in-Open.is
+    c.put_front.ensures _ c.in_ok-opened.was
     c.if-kind-eq-KIND_INPUT_OBJECT.true
 
 pub build_value-build_sparse-requires : goal.build_value-build_sparse-requires
@@ -600,12 +484,6 @@ build_value-build_sparse-requires t c = (
   ),
 )
 
-pub build_value-shape_of-out-then-kind-eq-KIND_INPUT_OBJECT : goal.build_value-shape_of-out-then-kind-eq-KIND_INPUT_OBJECT
-build_value-shape_of-out-then-kind-eq-KIND_INPUT_OBJECT t c =
-    c.build_sparse.auto.out
-    ∙ c.put_given-run.auto.out
-    ∙ c.put_front-opened.auto.out
-
 pub build_value-returns-then-kind-eq-KIND_INPUT_OBJECT : goal.build_value-returns-then-kind-eq-KIND_INPUT_OBJECT
 build_value-returns-then-kind-eq-KIND_INPUT_OBJECT t c =
     let k =
@@ -621,8 +499,7 @@ build_value-returns-then-kind-eq-KIND_INPUT_OBJECT t c =
     c.requires.1
     c.requires.2 _ _
     c.if-entry-node.false _ k _ _
-    c.put_front-opened.ensures _ _
-    c.in-Open.is
+    c.put_front.ensures _ c.in_ok-opened.was
     c.if-kind-eq-KIND_INPUT_OBJECT.true
 
 pub build_value-build_row-requires : goal.build_value-build_row-requires
@@ -641,8 +518,7 @@ build_value-build_row-requires t c =
             c.requires.1
             c.requires.2 _ _
             c.if-entry-node.false _ k _ _
-            c.put_front-opened.ensures _ _
-            c.in-Open.is c.if-kind-eq-KIND_INPUT_OBJECT.false,
+            c.put_front.ensures _ c.in_ok-opened.was c.if-kind-eq-KIND_INPUT_OBJECT.false,
         omega (
           arith,
           opened_first _ _ _
@@ -650,8 +526,7 @@ build_value-build_row-requires t c =
               c.requires.1
               c.requires.2 _ _
               c.if-entry-node.false _ k _ _
-              c.put_front-opened.ensures _ _
-              c.in-Open.is c.if-kind-eq-KIND_INPUT_OBJECT.false,
+              c.put_front.ensures _ c.in_ok-opened.was c.if-kind-eq-KIND_INPUT_OBJECT.false,
           c.struct_known-2-1.given,
         ),
         opened_small _ _ _
@@ -659,15 +534,10 @@ build_value-build_row-requires t c =
             c.requires.1
             c.requires.2 _ _
             c.if-entry-node.false _ k _ _
-            c.put_front-opened.ensures _ _
-            c.in-Open.is,
+            c.put_front.ensures _ c.in_ok-opened.was,
         c.requires.5,
       ),
     )
-
-pub build_value-shape_of-out : goal.build_value-shape_of-out
-build_value-shape_of-out t c =
-    c.build_row.auto.out ∙ c.put_front-opened.auto.out
 
 pub build_value-returns : goal.build_value-returns
 build_value-returns t c =
@@ -683,5 +553,4 @@ build_value-returns t c =
     c.requires.1
     c.requires.2 _ _
     c.if-entry-node.false _ k _ _
-    c.put_front-opened.ensures _ _
-    c.in-Open.is c.if-kind-eq-KIND_INPUT_OBJECT.false
+    c.put_front.ensures _ c.in_ok-opened.was c.if-kind-eq-KIND_INPUT_OBJECT.false

@@ -31,7 +31,7 @@ decreases-build_row-loop-row l = l.end - l.row.index
 
 abbrev pub invariant-build_sparse-loop : goal.invariant-build_sparse-loop
 invariant-build_sparse-loop l =
-    (length l.out ≡ length l.initial.out) × Gathers l.src l.plan l.node l.end l.initial.seen.marks (drop l.initial.word l.list) l.initial.at l.initial.out l.seen.marks l.given (l.end - l.counter) (drop l.word l.list) l.at l.out
+    (length l.out ≡ length l.initial.out) × Gathers l.src l.plan l.node l.end l.initial.seen.marks (drop l.initial.built.word l.list) l.initial.built.at l.initial.out l.seen.marks l.given (l.end - l.counter) (drop l.built.word l.list) l.built.at l.out
 
 abbrev pub decreases-build_sparse-loop : goal.decreases-build_sparse-loop
 decreases-build_sparse-loop l = l.end - l.counter

@@ -1,5 +1,5 @@
 -- `supply_build::build_leaf` meets its contract, by its tests in their order.
-use mathlib.Core.Path.{refl}
+use native.Mathlib.Omega.{arith}
 use Rattle.supply_entries.specs.Emitting.{stand_of}
 use Rattle.supply_entries.proofs.Parts.{leaf_count, leaf_large, leaf_outside, leaf_unfit, leaf_done}
 use Rattle.supply_build.proofs.build_leaf.Goals as goal
@@ -12,20 +12,20 @@ pub returns-then-at-n-gt-MOST_VALUE : goal.returns-then-at-n-gt-MOST_VALUE
 unfolding stand_of
 returns-then-at-n-gt-MOST_VALUE c = λ ws. leaf_large _ _ _ _ _ _ c.if-entry-ne0.false c.if-at-n-gt-MOST_VALUE.true
 
-pub returns-then-src-e : goal.returns-then-src-e
+pub returns-in_err-part : goal.returns-in_err-part
 unfolding stand_of
-returns-then-src-e c =
-    λ ws. leaf_outside _ _ _ _ _ _ c.if-entry-ne0.false c.if-src-e.true
+returns-in_err-part c =
+    rw c.from_residual.ensures (λ ws. leaf_outside _ _ _ _ _ _ c.if-entry-ne0.false (omega (arith, c.in_err-part.ensures.lookup)))
 
-pub returns-then-leaf_ok : goal.returns-then-leaf_ok
+pub returns-then-not-leaf_ok : goal.returns-then-not-leaf_ok
 unfolding stand_of
-returns-then-leaf_ok c =
-    λ ws. leaf_done _ _ _ _ _ _ c.if-entry-ne0.false
-    c.if-src-e.false _ refl _
-    c.leaf_ok.ensures c.if-leaf_ok.true
-    c.if-at-n-gt-MOST_VALUE.false _ c.put_bytes.ensures
+returns-then-not-leaf_ok c =
+    let l = c.in_ok-part.ensures.lookup.0 in
+    λ ws. leaf_unfit _ _ _ _ _ _ c.if-entry-ne0.false l.1 _ l.2 _ c.leaf_ok.ensures c.if-not-leaf_ok.true
 
 pub returns : goal.returns
 unfolding stand_of
 returns c =
-    λ ws. leaf_unfit _ _ _ _ _ _ c.if-entry-ne0.false c.if-src-e.false _ refl _ c.leaf_ok.ensures c.if-leaf_ok.false
+    let l = c.in_ok-part.ensures.lookup.0 in
+    λ ws. leaf_done _ _ _ _ _ _ c.if-entry-ne0.false l.1 _ l.2 _ c.leaf_ok.ensures c.if-not-leaf_ok.false
+    c.if-at-n-gt-MOST_VALUE.false _ c.put_bytes.ensures

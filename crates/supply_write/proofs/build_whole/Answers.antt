@@ -9,9 +9,6 @@ use Rattle.supply_write.proofs.build_whole.Goals as goal
 pub bounds-plan-1 : goal.bounds-plan-1
 bounds-plan-1 c = omega (arith, two _ c.requires.0)
 
-pub overflow_cast-root : goal.overflow_cast-root
-overflow_cast-root c = omega (arith, c.type_inv.plan 1)
-
 pub returns-then-root-eq0 : goal.returns-then-root-eq0
 unfolding stand_of
 returns-then-root-eq0 c =

@@ -1,51 +1,48 @@
 -- `value_leaves::fixed_leaf` meets its contract: its tests are those of `fixed_leaf`, in its order.
+use mathlib.Core.Path.{◌≡◌, refl, ◌∙◌}
 use mathlib.Core.Bool.{true, false}
 use native.Mathlib.Omega.{arith}
-use borrow.Author.Tests.{eq-eqb, ne_eqb, lt-ltb, le-ltb}
-use Rattle.value_leaves.specs.Leaves.{fixed_leaf}
-use Rattle.value_leaves.proofs.Single.{told_time, told_any}
+use Rattle.value_leaves.specs.Leaves.{told_size, good}
+use Rattle.value_leaves.proofs.Single.{told_short, told_other, told_time, told_any}
 use Rattle.protocol.specs.Numbers.{pick}
 use Rattle.protocol.specs.Heads.{word}
 use Rattle.value_leaves.proofs.fixed_leaf.Goals as goal
+use Rattle.value_leaves.proofs.fixed_leaf.Goals.{then-part-pos-via-then-part-pos, then-part-pos-via-else-part-pos+then-u32_at-len}
 
-pub returns-then-size-eq0 : goal.returns-then-size-eq0
-unfolding fixed_leaf pick
-returns-then-size-eq0 c = rw (eq-eqb _ _ c.if-size-eq0.true)
+pub overflow_add-len : goal.overflow_add-len
+overflow_add-len c = omega (arith, c.requires.1, c.size-len.ensures)
+
+pub overflow_cast-len : goal.overflow_cast-len
+overflow_cast-len c = omega (arith, c.requires.1, c.size-len.ensures)
 
 pub returns-then-part-pos : goal.returns-then-part-pos
-unfolding fixed_leaf pick
-returns-then-part-pos c = rw (ne_eqb _ _ c.if-size-eq0.false, lt-ltb _ _ c.if-part-pos.true)
-
-pub returns-then-u32_at-size : goal.returns-then-u32_at-size
-unfolding fixed_leaf pick word
-returns-then-u32_at-size c =
-    rw (ne_eqb _ _ c.if-size-eq0.false, le-ltb _ _ c.if-part-pos.false, ← c.u32_at.ensures, ne_eqb _ _ c.if-u32_at-size.true)
+unfolding word
+returns-then-part-pos c =
+    elim c.then-part-pos.branch [
+      | then-part-pos-via-then-part-pos w ↦ told_short _ _ _ _ c.size-len.ensures w.if-part-pos.true
+      | then-part-pos-via-else-part-pos+then-u32_at-len w ↦
+          told_other _ _ _ _ c.size-len.ensures w.if-part-pos.false _ w.u32_at.ensures w.if-u32_at-len.true
+    ]
 
 pub in_day-requires : goal.in_day-requires
+unfolding told_size
 in_day-requires c =
-    omega (
-      arith,
-      c.if-part-pos.false,
-      c.requires.0,
-      c.requires.2 c.if-same.true,
-    )
+    let e : c.size-len.result ≡ 8 = c.size-len.ensures ∙ rw c.in-Time.is refl in
+    omega (arith, c.if-part-pos.false, c.requires.0)
 
-pub returns-then-not-in_day : goal.returns-then-not-in_day
-unfolding pick word
-returns-then-not-in_day c =
-    told_time _ _ _ _ _ c.if-size-eq0.false c.if-part-pos.false c.u32_at.ensures c.if-u32_at-size.false
-    c.if-same.true (c.requires.2 c.if-same.true) _ false
-    c.in_day.ensures c.if-not-in_day.true
+pub returns-in-Size : goal.returns-in-Size
+unfolding word good
+returns-in-Size c =
+    told_any _ _ _ _ c.size-len.ensures c.if-part-pos.false _ c.u32_at.ensures c.if-u32_at-len.false c.requires.0 _ c.in-Size.is
 
-pub returns-else-not-in_day : goal.returns-else-not-in_day
-unfolding pick word
-returns-else-not-in_day c =
-    told_time _ _ _ _ _ c.if-size-eq0.false c.if-part-pos.false c.u32_at.ensures c.if-u32_at-size.false
-    c.if-same.true (c.requires.2 c.if-same.true) _ true
-    c.in_day.ensures c.if-not-in_day.false
+pub returns-in-Time : goal.returns-in-Time
+unfolding word pick good
+returns-in-Time c =
+    told_time _ _ _ _ c.size-len.ensures c.if-part-pos.false _ c.u32_at.ensures c.if-u32_at-len.false c.in-Time.is _ true
+    c.in_day.ensures c.if-in_day.true
 
-pub returns-else-same : goal.returns-else-same
-unfolding word
-returns-else-same c =
-    told_any _ _ _ _ _ c.if-size-eq0.false c.if-part-pos.false c.u32_at.ensures c.if-u32_at-size.false
-    c.if-same.false c.requires.0
+pub returns-in-Time-2 : goal.returns-in-Time-2
+unfolding word pick
+returns-in-Time-2 c =
+    told_time _ _ _ _ c.size-len.ensures c.if-part-pos.false _ c.u32_at.ensures c.if-u32_at-len.false c.in-Time-2.is _ false
+    c.in_day.ensures c.if-in_day.false

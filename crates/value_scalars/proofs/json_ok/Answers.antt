@@ -1,13 +1,13 @@
 use mathlib.Core.Path.{◌∙◌}
+use native.Mathlib.Omega.{arith}
 use Rattle.value_scalars.proofs.Leaves.{json_none, json_other, json_text}
 use Rattle.value_scalars.proofs.json_ok.Goals as goal
 
-pub returns-then-v-eq0 : goal.returns-then-v-eq0
-returns-then-v-eq0 c = json_none _ c.if-v-eq0.true
+pub returns-in-1 : goal.returns-in-1
+returns-in-1 c = c.is_utf8.ensures ∙ json_text _ (omega arith) (omega arith)
 
-pub returns-then-v-ne1 : goal.returns-then-v-ne1
-returns-then-v-ne1 c = json_other _ c.if-v-eq0.false c.if-v-ne1.true
+pub returns-in_default : goal.returns-in_default
+returns-in_default c = json_none _ (omega arith)
 
-pub returns : goal.returns
-returns c =
-    c.is_utf8.ensures ∙ json_text _ c.if-v-eq0.false c.if-v-ne1.false
+pub returns-in_default-2 : goal.returns-in_default-2
+returns-in_default-2 c = json_other _ (λ e. omega arith) (λ e. omega arith)

@@ -3,7 +3,7 @@ use lib.ListN.{length}
 use mathlib.Core.Path.{◌≡◌}
 use Rattle.value_parts.specs.Walk.{led}
 use Rattle.value_parts.specs.Counted.{Counted}
-use Prim.Native.Nat.{◌+◌, ◌*◌, ◌≤◌}
+use Prim.Native.Nat.{◌+◌, ◌-◌, ◌*◌, ◌≤◌}
 use Rattle.protocol.specs.Nodes.{ref_at}
 use Rattle.protocol.specs.Values.{elements, sparse_form, value_of}
 use Rattle.protocol.specs.Plans.{look, cards_at}
@@ -24,18 +24,15 @@ decreases-walk_sparse l = 4 * l.node + 1
 abbrev pub decreases-walk_value : goal.decreases-walk_value
 decreases-walk_value l = 4 * l.node + 3
 
-abbrev pub invariant-walk_row-loop-left : goal.invariant-walk_row-loop-left
-invariant-walk_row-loop-left l = Left l.plan l.node l.base l.part l.end l.initial.left l.initial.pos l.initial.to l.initial.list l.left l.pos l.to l.list
+abbrev pub invariant-walk_row-loop-run : goal.invariant-walk_row-loop-run
+invariant-walk_row-loop-run l = Left l.plan l.node l.base l.part l.end l.initial.run.left l.initial.run.pos l.initial.run.at l.initial.list l.run.left l.run.pos l.run.at l.list
 
-abbrev pub decreases-walk_row-loop-left : goal.decreases-walk_row-loop-left
-decreases-walk_row-loop-left l = l.left
+abbrev pub decreases-walk_row-loop-run : goal.decreases-walk_row-loop-run
+decreases-walk_row-loop-run l = l.run.left
 
-abbrev pub invariant-walk_sparse-loop-left : goal.invariant-walk_sparse-loop-left
-invariant-walk_sparse-loop-left l =
+abbrev pub invariant-walk_sparse-loop : goal.invariant-walk_sparse-loop
+invariant-walk_sparse-loop l =
     (l.pos ≤ length l.part) × (4 * l.to ≤ 5 * (l.base + l.pos) + 20) × (length l.list ≡ length l.initial.list)
-    × (led (elements (sparse_form (cards_at l.plan l.node) l.part) (value_of (look l.plan)) (ref_at (look l.plan l.node)) l.base l.part l.initial.left l.initial.seen.marks l.initial.pos) l.initial.to l.initial.list
-    ≡ led (elements (sparse_form (cards_at l.plan l.node) l.part) (value_of (look l.plan)) (ref_at (look l.plan l.node)) l.base l.part l.left l.seen.marks l.pos) l.to l.list)
+    × (led (elements (sparse_form (cards_at l.plan l.node) l.part) (value_of (look l.plan)) (ref_at (look l.plan l.node)) l.base l.part l.end l.initial.seen.marks l.initial.pos) l.initial.to l.initial.list
+    ≡ led (elements (sparse_form (cards_at l.plan l.node) l.part) (value_of (look l.plan)) (ref_at (look l.plan l.node)) l.base l.part (l.end - l.counter) l.seen.marks l.pos) l.to l.list)
     × Counted l.plan l.node l.seen.marks l.given
-
-abbrev pub decreases-walk_sparse-loop-left : goal.decreases-walk_sparse-loop-left
-decreases-walk_sparse-loop-left l = l.left

@@ -1,55 +1,51 @@
 -- `descriptor_blocks::block::fields` meets its contract.
-use mathlib.Core.Path.{refl, ◌∙◌}
-use Rattle.descriptor_blocks.specs.Walks.{walk_of}
-use Rattle.descriptor_blocks.proofs.Loops.{going_start, going_inside, going_end, going_stop, going_room, going_halt, going_next, fault_inside}
+use mathlib.Core.Path.{refl}
+use Rattle.std.proofs.lemmas.Result.{err_from_is_err_and}
+use Rattle.descriptor_blocks.specs.Walks.{walk_of, Inside}
+use Rattle.descriptor_blocks.proofs.Loops.{going_start, going_inside, going_end, going_stop, going_room, going_halt, going_next}
 use Rattle.descriptor_blocks.proofs.block.fields.Goals as goal
 
-pub loop-k-init : goal.loop-k-init
-loop-k-init c =
-    going_start _ _ _ _ _ _ c.requires.2 c.requires.3
+pub loop-code-init : goal.loop-code-init
+loop-code-init c = going_start _ _ _ _ _ _ c.requires.1 c.requires.2
 
 pub shape_of-elements-then-code-eq-END : goal.shape_of-elements-then-code-eq-END
-shape_of-elements-then-code-eq-END c = c.loop-k.invariant.size
+shape_of-elements-then-code-eq-END c = c.loop-code.invariant.size
 
 pub returns-then-code-eq-END : goal.returns-then-code-eq-END
 unfolding walk_of
-returns-then-code-eq-END c = record { elements_after = going_stop _ _ _ _ _ _ _ _ _ c.loop-k.invariant c.loop-k-test.true _ refl c.if-code-eq-END.true; inside = going_inside _ _ _ _ _ _ _ _ _ c.loop-k.invariant }
-
-pub read-part-requires : goal.read-part-requires
-read-part-requires c = (
-  c.requires.0,
-  going_room _ _ _ _ _ _ _ _ _ c.loop-k.invariant c.loop-k-test.true _ refl
-      c.if-code-eq-END.false c.requires.1,
-  c.loop-k.invariant.at,
-  c.loop-k.invariant.left,
-)
-
-pub shape_of-elements-in_default : goal.shape_of-elements-in_default
-shape_of-elements-in_default c =
-    c.read-part.auto.elements ∙ c.loop-k.invariant.size
-
-pub returns-in_default : goal.returns-in_default
-returns-in_default c = record {
-  elements_after = going_halt _ _ _ _ _ _ _ _ _ c.loop-k.invariant
-      c.loop-k-test.true _ refl
-      c.if-code-eq-END.false _ _ c.read-part.ensures.elements_after _
-      c.in_default.is;
-  inside = fault_inside _ _ _ _ c.in_default.is;
+returns-then-code-eq-END c = record {
+  elements_after = going_stop _ _ _ _ _ _ _ _ _ c.loop-code.invariant c.loop-code-test.true _ refl c.if-code-eq-END.true;
+  inside = going_inside _ _ _ _ _ _ _ _ _ c.loop-code.invariant;
 }
 
-pub loop-k-preserved : goal.loop-k-preserved
-loop-k-preserved c =
-    going_next _ _ _ _ _ _ _ _ _ c.loop-k.invariant
-    c.loop-k-test.true _ refl
-    c.if-code-eq-END.false _ _
-    c.read-part.ensures.elements_after _ c.in-Next.is
-    c.read-part.ensures.inside
-    c.read-part.auto.elements
+pub read-requires : goal.read-requires
+read-requires c = (
+  going_room _ _ _ _ _ _ _ _ _ c.loop-code.invariant c.loop-code-test.true _ refl c.if-code-eq-END.false c.requires.0,
+  c.loop-code.invariant.at,
+  c.loop-code.invariant.left,
+)
+
+pub returns-in_err-y : goal.returns-in_err-y
+unfolding walk_of Inside
+returns-in_err-y c =
+    let p = err_from_is_err_and c.from_residual.result c.from_residual.ensures.1 in rw (p.1, p.2)
+    (record {
+      elements_after = going_halt _ _ _ _ _ _ _ _ _ c.loop-code.invariant c.loop-code-test.true _ refl c.if-code-eq-END.false _ _
+          c.read.ensures.elements_after _ c.in_err-y.was;
+      inside = tt;
+    })
+
+pub loop-code-preserved : goal.loop-code-preserved
+loop-code-preserved c =
+    going_next _ _ _ _ _ _ _ _ _ c.loop-code.invariant c.loop-code-test.true _ refl c.if-code-eq-END.false _ _
+    c.read.ensures.elements_after _ c.in_ok-y.was c.read.ensures.inside c.read.auto.elements
 
 pub shape_of-elements : goal.shape_of-elements
-shape_of-elements c = c.loop-k.invariant.size
+shape_of-elements c = c.loop-code.invariant.size
 
 pub returns : goal.returns
 unfolding walk_of
-returns c =
-    record { elements_after = going_end _ _ _ _ _ _ _ _ _ c.loop-k.invariant c.loop-k-test.false; inside = going_inside _ _ _ _ _ _ _ _ _ c.loop-k.invariant }
+returns c = record {
+  elements_after = going_end _ _ _ _ _ _ _ _ _ c.loop-code.invariant c.loop-code-test.false;
+  inside = going_inside _ _ _ _ _ _ _ _ _ c.loop-code.invariant;
+}

@@ -1,94 +1,34 @@
 -- `descriptor_blocks::block::read` meets its contract.
-use Rattle.descriptor_fields.specs.Arrays.{known_of}
+use Rattle.descriptor_fields.specs.Earlier.{before}
 use Rattle.descriptor_fields.proofs.Rows.{spelled_is}
-use Rattle.descriptor_blocks.proofs.Loops.{block_room, block_halt, block_next, block_done, fault_inside}
-use borrow.Author.Rules.{rules}
+use Rattle.std.proofs.lemmas.Result.{err_from_is_err_and}
+use Rattle.descriptor_blocks.specs.Walks.{walk_of, Inside}
+use Rattle.descriptor_blocks.proofs.Loops.{block_room, block_halt, block_next, block_done}
 use Rattle.descriptor_blocks.proofs.block.read.Goals as goal
 
-pub section-part-requires : goal.section-part-requires
-section-part-requires c = (
-  c.requires.0,
-  block_room c.args.d.now
-      (known_of c.args.d.now
-      c.args.known.now
-      c.args.n)
-      c.args.tag
-      c.args.at _
-      (spelled_is _ _ c.layout_of-layout.ensures)
-      c.args.elements.now
-      c.requires.1,
-  c.requires.2,
+pub section-requires : goal.section-requires
+section-requires c = (
+  block_room c.args.earlier.d.now (before c.args.earlier) c.args.tag c.args.at _ (spelled_is _ _ c.layout_of-layout.ensures) c.args.elements.now c.requires.0,
+  c.requires.1,
 )
 
-pub returns-in_default : goal.returns-in_default
-returns-in_default c = record {
-  elements_after = block_halt c.args.d.now
-      (known_of c.args.d.now
-      c.args.known.now
-      c.args.n)
-      c.args.tag
-      c.args.at _
-      (spelled_is _ _ c.layout_of-layout.ensures)
-      c.args.elements.now
-      c.requires.1 _ _
-      c.section-part.ensures.elements_after _ c.in_default.is;
-  inside = fault_inside _ _ _ _ c.in_default.is;
-}
+pub returns-in_err-y : goal.returns-in_err-y
+unfolding walk_of Inside
+returns-in_err-y c =
+    let p = err_from_is_err_and c.from_residual.result c.from_residual.ensures.1 in rw (p.1, p.2)
+    (record {
+      elements_after = block_halt c.args.earlier.d.now (before c.args.earlier) c.args.tag c.args.at _ (spelled_is _ _ c.layout_of-layout.ensures) c.args.elements.now c.requires.0 _ _ c.section.ensures.elements_after _ c.in_err-y.was;
+      inside = tt;
+    })
 
-pub slice_bounds-section-end-3 : goal.slice_bounds-section-end-3
-slice_bounds-section-end-3 c =
-    search (rules, c.layout_of-layout.type_inv)
-
-pub slice_bounds-section-end-4 : goal.slice_bounds-section-end-4
-slice_bounds-section-end-4 c =
-    search (rules, c.layout_of-layout.type_inv)
-
-pub section-requires : goal.section-requires
-section-requires c =
-    let n =
-    block_next c.args.d.now
-    (known_of c.args.d.now
-    c.args.known.now
-    c.args.n)
-    c.args.tag
-    c.args.at _
-    (spelled_is _ _ c.layout_of-layout.ensures)
-    c.args.elements.now
-    c.requires.1 _ _
-    c.section-part.ensures.elements_after _
-    c.in-Next.is
-    c.section-part.ensures.inside
-    c.section-part.auto.elements
-    in
-    (c.requires.0, n.0, n.1)
+pub section-requires-2 : goal.section-requires-2
+section-requires-2 c =
+    block_next c.args.earlier.d.now (before c.args.earlier) c.args.tag c.args.at _ (spelled_is _ _ c.layout_of-layout.ensures) c.args.elements.now c.requires.0 _ _
+    c.section.ensures.elements_after _ c.in_ok-y.was c.section.ensures.inside c.section.auto.elements
 
 pub returns : goal.returns
 returns c =
-    record {
-      elements_after = (block_done c.args.d.now
-          (known_of c.args.d.now
-          c.args.known.now
-          c.args.n)
-          c.args.tag
-          c.args.at _
-          (spelled_is _ _ c.layout_of-layout.ensures)
-          c.args.elements.now
-          c.requires.1 _ _
-          c.section-part.ensures.elements_after _
-          c.in-Next.is
-          c.section-part.ensures.inside _ _
-          c.section.ensures.elements_after c.section.ensures.inside).0;
-      inside = (block_done c.args.d.now
-          (known_of c.args.d.now
-          c.args.known.now
-          c.args.n)
-          c.args.tag
-          c.args.at _
-          (spelled_is _ _ c.layout_of-layout.ensures)
-          c.args.elements.now
-          c.requires.1 _ _
-          c.section-part.ensures.elements_after _
-          c.in-Next.is
-          c.section-part.ensures.inside _ _
-          c.section.ensures.elements_after c.section.ensures.inside).1;
-    }
+    let e =
+    block_done c.args.earlier.d.now (before c.args.earlier) c.args.tag c.args.at _ (spelled_is _ _ c.layout_of-layout.ensures) c.args.elements.now c.requires.0 _ _
+    c.section.ensures.elements_after _ c.in_ok-y.was c.section.ensures.inside _ _ c.section-2.ensures.elements_after c.section-2.ensures.inside in
+    record { elements_after = e.0; inside = e.1 }

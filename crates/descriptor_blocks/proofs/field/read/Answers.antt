@@ -1,83 +1,65 @@
 -- `descriptor_blocks::field::read` meets its contract.
-use Prim.Native.Nat.{ℕ}
 use native.Mathlib.Omega.{arith}
 use Rattle.descriptor_blocks.specs.Walks.{walk_of, Inside}
+use Rattle.std.proofs.lemmas.Result.{err_from_is_err_and}
 use Rattle.descriptor_blocks.proofs.Rules.{two}
-use Rattle.descriptor_fields.proofs.Extents.{extent_most}
 use Rattle.descriptor_blocks.proofs.Steps.{field_short, field_bad, field_good, field_inside, roomy_less, roomy_one, grown_same}
 use Rattle.descriptor_blocks.proofs.field.read.Goals as goal
 
-pub overflow_add-x : goal.overflow_add-x
-overflow_add-x c =
-    omega (
-      arith,
-      c.requires.2,
-      c.requires.0.short,
-      c.extent_of.ensures,
-      extent_most c.args.d.now c.args.code
-          c.args.x.at
-          (λ (j : ℕ). (c.type_inv.d j).fits),
-    )
-
-pub returns-then-d-x : goal.returns-then-d-x
+pub returns-then-earlier-at : goal.returns-then-earlier-at
 unfolding walk_of Inside
-returns-then-d-x c = record { elements_after = field_short _ _ _ _ _ _ _ c.extent_of.ensures c.if-d-x.true; inside = tt }
+returns-then-earlier-at c = record { elements_after = field_short _ _ _ _ _ _ _ c.extent_of.ensures.value c.if-earlier-at.true; inside = tt }
 
-pub fault-no-requires : goal.fault-no-requires
-fault-no-requires c = (
-  c.requires.0,
-  roomy_less _ _ _ c.requires.1,
-  omega (arith, c.extent_of.ensures, c.if-d-x.false),
-)
+pub check-requires : goal.check-requires
+check-requires c = (roomy_less _ _ _ c.requires.0, omega (arith, c.extent_of.ensures.value, c.if-earlier-at.false))
 
-pub returns-then-no-ne0 : goal.returns-then-no-ne0
+pub returns-in_err-check : goal.returns-in_err-check
 unfolding walk_of Inside
-returns-then-no-ne0 c =
-    record { elements_after = field_bad _ _ _ _ _ _ _ c.extent_of.ensures c.if-d-x.false _ c.fault-no.ensures c.if-no-ne0.true; inside = tt }
+returns-in_err-check c =
+    let p = err_from_is_err_and c.from_residual.result c.from_residual.ensures.1 in rw (p.1, p.2)
+    (record { elements_after = field_bad _ _ _ _ _ _ _ c.extent_of.ensures.value c.if-earlier-at.false _ c.check.ensures _ c.in_err-check.was; inside = tt })
 
 pub keep_element-requires : goal.keep_element-requires
 keep_element-requires c = (
-  c.requires.0,
-  roomy_one _ _ _ c.if-code-ge-ELEMENT.true c.requires.1,
-  c.if-code-ge-ELEMENT.true,
+  roomy_one _ _ _ c.if-field-ge-ELEMENT.true c.requires.0,
+  c.if-field-ge-ELEMENT.true,
   omega (
     arith,
-    c.extent_of.ensures,
-    c.if-d-x.false,
-    two c.args.d.now
-        c.args.code
-        c.args.x.at c.if-code-ge-ELEMENT.true,
+    c.extent_of.ensures.value,
+    c.if-earlier-at.false,
+    two c.args.earlier.d.now
+        c.args.field.code
+        c.args.field.x.at c.if-field-ge-ELEMENT.true,
   ),
 )
 
-pub returns-then-code-ge-ELEMENT : goal.returns-then-code-ge-ELEMENT
+pub returns-then-field-ge-ELEMENT : goal.returns-then-field-ge-ELEMENT
 unfolding walk_of
-returns-then-code-ge-ELEMENT c = record {
-  elements_after = field_good _ _ _ _ _ _ _ c.extent_of.ensures
-      c.if-d-x.false _
-      c.fault-no.ensures c.if-no-ne0.false _
+returns-then-field-ge-ELEMENT c = record {
+  elements_after = field_good _ _ _ _ _ _ _ c.extent_of.ensures.value
+      c.if-earlier-at.false _
+      c.check.ensures c.in_ok-check.was _
       c.keep_element.ensures.value _ c.keep_element.ensures.elements;
-  inside = field_inside _ _ _ _ _ _ _ c.extent_of.ensures
-      c.if-d-x.false _
-      c.fault-no.ensures c.if-no-ne0.false _
+  inside = field_inside _ _ _ _ _ _ _ c.extent_of.ensures.value
+      c.if-earlier-at.false _
+      c.check.ensures c.in_ok-check.was _
       c.keep_element.ensures.value
-      c.requires.3;
+      c.requires.2;
 }
 
 pub keep-requires : goal.keep-requires
 keep-requires c = (
-  c.requires.0,
-  c.if-code-ge-ELEMENT.false,
-  omega (arith, c.extent_of.ensures, c.if-d-x.false),
+  c.if-field-ge-ELEMENT.false,
+  omega (arith, c.extent_of.ensures.value, c.if-earlier-at.false),
 )
 
 pub returns : goal.returns
 unfolding walk_of
 returns c = record {
-  elements_after = field_good _ _ _ _ _ _ _ c.extent_of.ensures
-      c.if-d-x.false _ c.fault-no.ensures c.if-no-ne0.false _
-      c.keep.ensures _ (grown_same _ _ _ _ _ _ _ c.if-code-ge-ELEMENT.false c.keep.ensures);
-  inside = field_inside _ _ _ _ _ _ _ c.extent_of.ensures
-      c.if-d-x.false _ c.fault-no.ensures c.if-no-ne0.false _
-      c.keep.ensures c.requires.3;
+  elements_after = field_good _ _ _ _ _ _ _ c.extent_of.ensures.value
+      c.if-earlier-at.false _ c.check.ensures c.in_ok-check.was _
+      c.keep.ensures _ (grown_same _ _ _ _ _ _ _ c.if-field-ge-ELEMENT.false c.keep.ensures);
+  inside = field_inside _ _ _ _ _ _ _ c.extent_of.ensures.value
+      c.if-earlier-at.false _ c.check.ensures c.in_ok-check.was _
+      c.keep.ensures c.requires.2;
 }

@@ -4,9 +4,9 @@ use borrow.Author.Tests.{ne_eqb}
 use Rattle.descriptor_names.proofs.Ids.{ids_end}
 use Rattle.descriptor_names.proofs.id.same.Goals as goal
 
-pub returns : goal.returns
-returns c =
-    sym (ne_eqb _ _
+pub returns-else-u32_at : goal.returns-else-u32_at
+returns-else-u32_at c =
+    ne_eqb _ _ c.if-u32_at.false ∙ sym (ne_eqb _ _
     (λ e. c.if-u32_at.false
     (c.u32_at.ensures
     ∙ ids_end _ _ _ _ (λ (j : ℕ). (c.type_inv.s j).fits)

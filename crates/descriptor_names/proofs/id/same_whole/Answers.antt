@@ -14,9 +14,9 @@ returns-then-uint_at c =
     (sym c.uint_at.ensures ∙ c.if-uint_at.true ∙ c.uint_at-2.ensures) _ _
     c.uint_at-then-uint_at.ensures c.uint_at-then-uint_at-2.ensures
 
-pub returns : goal.returns
-returns c =
-    sym (ne_eqb _ _
+pub returns-else-uint_at : goal.returns-else-uint_at
+returns-else-uint_at c =
+    ne_eqb _ _ c.if-uint_at.false ∙ sym (ne_eqb _ _
     (λ e. c.if-uint_at.false
     (c.uint_at.ensures
     ∙ ids_low _ _ _ _ (λ (j : ℕ). (c.type_inv.s j).fits)

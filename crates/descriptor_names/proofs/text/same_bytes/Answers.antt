@@ -9,16 +9,15 @@ returns-then-a-b c = sym (unlike_lengths _ _ c.if-a-b.true)
 
 pub loop-i-init : goal.loop-i-init
 unfolding pick
-loop-i-init c = (omega arith, c.if-a-b.false, refl)
+loop-i-init c = (c.if-a-b.false, refl)
 
 pub loop-i-preserved : goal.loop-i-preserved
 loop-i-preserved c = (
-  omega arith,
-  c.loop-i.invariant.1,
-  c.loop-i.invariant.2
-      ∙ same_next _ _ _ c.loop-i-test.true (omega (arith, c.loop-i.invariant.1, c.loop-i-test.true)) c.loop-i.same,
+  c.loop-i.invariant.0,
+  c.loop-i.invariant.1
+      ∙ same_next _ _ _ c.loop-i-test.true (omega (arith, c.loop-i.invariant.0, c.loop-i-test.true)) c.loop-i.same,
 )
 
 pub returns : goal.returns
 returns c =
-    sym (c.loop-i.invariant.2 ∙ same_end _ _ _ c.loop-i-test.false (omega (arith, c.loop-i.invariant.1, c.loop-i-test.false)) c.loop-i.same)
+    sym (c.loop-i.invariant.1 ∙ same_end _ _ _ c.loop-i-test.false (omega (arith, c.loop-i.invariant.0, c.loop-i-test.false)) c.loop-i.same)

@@ -1,13 +1,8 @@
--- `plan_nodes::needs::count_required` meets its contract. The loop's invariant: what was found is how many of the elements passed are required. The
--- measure is what is left of them.
+-- `plan_nodes::needs::count_required` meets its contract. The loop's invariant: what was found is how many of the elements passed are required.
 use mathlib.Core.Path.{◌≡◌}
-use Prim.Native.Nat.{◌-◌, ◌≤◌}
 use Rattle.value_heads.specs.Heads.{needed}
 use Rattle.protocol.specs.Plans.{cards_at}
 use Rattle.plan_nodes.proofs.needs.count_required.Given as goal
 
 abbrev pub invariant-loop-i : goal.invariant-loop-i
-invariant-loop-i l = (l.i ≤ l.n) × (l.found ≡ needed (cards_at l.plan l.at) l.i)
-
-abbrev pub decreases-loop-i : goal.decreases-loop-i
-decreases-loop-i l = l.n - l.i
+invariant-loop-i l = l.found ≡ needed (cards_at l.plan l.at) l.i

@@ -16,8 +16,8 @@ loop-at-init c = filling_start _ _
 pub returns-then-plan-at : goal.returns-then-plan-at
 returns-then-plan-at c = filling_end _ _ _ _ _ c.loop-at.invariant (omega (arith, c.size_at-size.ensures, c.if-plan-at.true))
 
-pub put_pair-m-requires : goal.put_pair-m-requires
-put_pair-m-requires c = (
+pub put_need-m-requires : goal.put_need-m-requires
+put_need-m-requires c = (
   omega (arith, c.loop-at.invariant.few, c.loop-at.invariant.same),
   sparse_fits c.loop-at.at
       (get_or c.args.plan.now c.loop-at.at 0)
@@ -51,7 +51,7 @@ loop-at-preserved c =
     let w : l.at + node_size (get_or a.plan.now l.at 0) (get_or a.plan.now (l.at + 1) 0) ≤ length a.plan.now =
     omega (arith, e, c.if-plan-at.false, c.loop-at-test.true) in
     rw e
-    (elim c.if-plan-at-eq-KIND_INPUT_OBJECT.branch [ then-plan-at-eq-KIND_INPUT_OBJECT h ↦ rw (h.table-is, h.m-is) (filling_sparse a.plan.now l.at a.table.now l.table l.m l.invariant w h.if-plan-at-eq-KIND_INPUT_OBJECT.true _ _ h.put_pair-m.ensures) | else-plan-at-eq-KIND_INPUT_OBJECT h ↦ rw (h.table-is, h.m-is) (filling_other a.plan.now l.at a.table.now l.table l.m l.invariant w h.if-plan-at-eq-KIND_INPUT_OBJECT.false) ])
+    (elim c.if-plan-at-eq-KIND_INPUT_OBJECT.branch [ then-plan-at-eq-KIND_INPUT_OBJECT h ↦ rw (h.table-is, h.m-is) (filling_sparse a.plan.now l.at a.table.now l.table l.m l.invariant w h.if-plan-at-eq-KIND_INPUT_OBJECT.true _ _ h.put_need-m.ensures) | else-plan-at-eq-KIND_INPUT_OBJECT h ↦ rw (h.table-is, h.m-is) (filling_other a.plan.now l.at a.table.now l.table l.m l.invariant w h.if-plan-at-eq-KIND_INPUT_OBJECT.false) ])
 
 pub returns : goal.returns
 returns c =

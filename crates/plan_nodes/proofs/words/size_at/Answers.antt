@@ -1,24 +1,21 @@
 -- `plan_nodes::words::size_at` meets its contract: a law for each kind.
 use mathlib.Core.Path.{◌∙◌}
-use mathlib.Core.Logic.{inl, inr}
+use native.Mathlib.Omega.{arith}
+use Rattle.plan_nodes.proofs.Nodes.{five_six}
 use Rattle.plan_nodes.proofs.Sizes.{size_tuple, size_pairs, size_enum, size_other}
 use Rattle.plan_nodes.proofs.words.size_at.Goals as goal
 
-pub returns-then-kind-eq-KIND_TUPLE : goal.returns-then-kind-eq-KIND_TUPLE
-returns-then-kind-eq-KIND_TUPLE c =
-    size_tuple _ _ _ c.if-kind-eq-KIND_TUPLE.true (c.wide-n.ensures ∙ c.word_at.ensures)
+pub returns-in-4 : goal.returns-in-4
+returns-in-4 c = size_tuple _ _ _ c.in-4.is (c.wide-n.ensures ∙ c.word_at.ensures)
 
-pub returns-then-kind-eq-KIND_OUTPUT_OBJECT : goal.returns-then-kind-eq-KIND_OUTPUT_OBJECT
-returns-then-kind-eq-KIND_OUTPUT_OBJECT c =
-    size_pairs _ _ _ (inl c.if-kind-eq-KIND_OUTPUT_OBJECT.true) (c.wide-n.ensures ∙ c.word_at.ensures)
+pub returns-in-8 : goal.returns-in-8
+returns-in-8 c = size_enum _ _ c.in-8.is
 
-pub returns-then-kind-eq-KIND_INPUT_OBJECT : goal.returns-then-kind-eq-KIND_INPUT_OBJECT
-returns-then-kind-eq-KIND_INPUT_OBJECT c =
-    size_pairs _ _ _ (inr c.if-kind-eq-KIND_INPUT_OBJECT.true) (c.wide-n.ensures ∙ c.word_at.ensures)
+pub returns-in-5 : goal.returns-in-5
+returns-in-5 c = size_pairs _ _ _ (five_six _ (omega arith) (omega arith)) (c.wide-n.ensures ∙ c.word_at.ensures)
 
-pub returns-then-kind-eq-KIND_ENUMERATION : goal.returns-then-kind-eq-KIND_ENUMERATION
-returns-then-kind-eq-KIND_ENUMERATION c = size_enum _ _ c.if-kind-eq-KIND_ENUMERATION.true
+pub returns-in_default : goal.returns-in_default
+returns-in_default c = size_other _ _ (λ e. omega arith) (λ e. omega arith) (λ e. omega arith) (λ e. omega arith)
 
-pub returns : goal.returns
-returns c =
-    size_other _ _ c.if-kind-eq-KIND_TUPLE.false c.if-kind-eq-KIND_OUTPUT_OBJECT.false c.if-kind-eq-KIND_INPUT_OBJECT.false c.if-kind-eq-KIND_ENUMERATION.false
+pub returns-in_default-2 : goal.returns-in_default-2
+returns-in_default-2 c = size_other _ _ (λ e. omega arith) (λ e. omega arith) (λ e. omega arith) (λ e. omega arith)

@@ -1,23 +1,17 @@
 -- `supply_entries::head::head_size` meets its contract, by its tests.
-use borrow.Author.Tests.{eq-eqb, ne_eqb}
+use Rattle.std.proofs.Common.{rules, inl, inr}
 use Rattle.supply_entries.specs.Emitting.{head_size}
+use Rattle.supply_entries.proofs.Heads.{size_other}
 use Rattle.protocol.specs.Numbers.{pick}
 use Rattle.supply_entries.proofs.head.head_size.Goals as goal
 
-pub returns-then-kind-eq-KIND_SET_OF_ARRAYS : goal.returns-then-kind-eq-KIND_SET_OF_ARRAYS
+pub returns-in-3 : goal.returns-in-3
 unfolding head_size pick
-returns-then-kind-eq-KIND_SET_OF_ARRAYS c = simp (eq-eqb _ _ c.if-kind-eq-KIND_SET_OF_ARRAYS.true)
+returns-in-3 c = rw c.in-3.is
 
-pub returns-then-kind-eq-KIND_SET_OR_ARRAY : goal.returns-then-kind-eq-KIND_SET_OR_ARRAY
+pub returns-in-2 : goal.returns-in-2
 unfolding head_size pick
-returns-then-kind-eq-KIND_SET_OR_ARRAY c = simp (ne_eqb _ _ c.if-kind-eq-KIND_SET_OF_ARRAYS.false, eq-eqb _ _ c.if-kind-eq-KIND_SET_OR_ARRAY.true)
+returns-in-2 c = elim c.in-2.is [ inl e ↦ rw e | inr e ↦ rw e ]
 
-pub returns-then-kind-eq-KIND_RANGE : goal.returns-then-kind-eq-KIND_RANGE
-unfolding head_size pick
-returns-then-kind-eq-KIND_RANGE c =
-    simp (ne_eqb _ _ c.if-kind-eq-KIND_SET_OF_ARRAYS.false, ne_eqb _ _ c.if-kind-eq-KIND_SET_OR_ARRAY.false, eq-eqb _ _ c.if-kind-eq-KIND_RANGE.true)
-
-pub returns : goal.returns
-unfolding head_size pick
-returns c =
-    simp (ne_eqb _ _ c.if-kind-eq-KIND_SET_OF_ARRAYS.false, ne_eqb _ _ c.if-kind-eq-KIND_SET_OR_ARRAY.false, ne_eqb _ _ c.if-kind-eq-KIND_RANGE.false)
+pub returns-in_default : goal.returns-in_default
+returns-in_default c = search (rules, size_other)

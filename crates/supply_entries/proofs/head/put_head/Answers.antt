@@ -1,34 +1,21 @@
 -- `supply_entries::head::put_head` meets its contract, by its tests of the kind.
-use native.Mathlib.Omega.{arith}
-use Rattle.supply_entries.proofs.Heads.{head_envelope, head_index, head_set, head_range, head_reserved}
+use Rattle.std.proofs.Common.{rules, inl, inr}
+use Rattle.supply_entries.specs.Emitting.{head_of, with_kind}
+use Rattle.protocol.specs.Numbers.{pick}
+use Rattle.protocol.specs.Building.{head_bytes}
+use Rattle.supply_entries.proofs.Heads.{head_envelope, head_other}
 use Rattle.supply_entries.proofs.head.put_head.Goals as goal
 
-pub overflow_add-n : goal.overflow_add-n
-overflow_add-n c = omega (arith, c.requires.1 c.if-kind-eq-KIND_SET_OF_ARRAYS.true)
+pub returns-in-3 : goal.returns-in-3
+returns-in-3 c = rw c.in-3.is (head_envelope _ _ _ _ _ _ c.put_pair.ensures c.put_pair-in-3.ensures)
 
-pub returns-then-kind-eq-KIND_SET_OF_ARRAYS : goal.returns-then-kind-eq-KIND_SET_OF_ARRAYS
-returns-then-kind-eq-KIND_SET_OF_ARRAYS c =
-    head_envelope _ _ _ _ _ _ c.if-kind-eq-KIND_SET_OF_ARRAYS.true _
-    c.put_pair.ensures c.put_pair-then-kind-eq-KIND_SET_OF_ARRAYS.ensures
+pub returns-in-6 : goal.returns-in-6
+unfolding head_of pick with_kind head_bytes
+returns-in-6 c = rw c.in-6.is c.put_pair-in-6.ensures
 
-pub returns-then-kind-eq-KIND_INPUT_OBJECT : goal.returns-then-kind-eq-KIND_INPUT_OBJECT
-returns-then-kind-eq-KIND_INPUT_OBJECT c =
-    head_index _ _ _ _ _ _ c.if-kind-eq-KIND_SET_OF_ARRAYS.false c.if-kind-eq-KIND_INPUT_OBJECT.true c.put_pair-then-kind-eq-KIND_INPUT_OBJECT.ensures
+pub returns-in-2 : goal.returns-in-2
+unfolding head_of pick with_kind head_bytes
+returns-in-2 c = elim c.in-2.is [ inl e ↦ rw e c.put_word.ensures | inr e ↦ rw e c.put_word.ensures ]
 
-pub returns-then-kind-eq-KIND_SET_OR_ARRAY : goal.returns-then-kind-eq-KIND_SET_OR_ARRAY
-returns-then-kind-eq-KIND_SET_OR_ARRAY c =
-    head_set _ _ _ _ _ _ c.if-kind-eq-KIND_SET_OF_ARRAYS.false
-    c.if-kind-eq-KIND_INPUT_OBJECT.false c.if-kind-eq-KIND_SET_OR_ARRAY.true
-    c.put_word.ensures
-
-pub returns-then-kind-eq-KIND_RANGE : goal.returns-then-kind-eq-KIND_RANGE
-returns-then-kind-eq-KIND_RANGE c =
-    head_range _ _ _ _ _ _ c.if-kind-eq-KIND_SET_OF_ARRAYS.false
-    c.if-kind-eq-KIND_INPUT_OBJECT.false c.if-kind-eq-KIND_SET_OR_ARRAY.false
-    c.if-kind-eq-KIND_RANGE.true c.put_word-then-kind-eq-KIND_RANGE.ensures
-
-pub returns : goal.returns
-returns c =
-    head_reserved _ _ _ _ _ _ c.if-kind-eq-KIND_SET_OF_ARRAYS.false
-    c.if-kind-eq-KIND_INPUT_OBJECT.false c.if-kind-eq-KIND_SET_OR_ARRAY.false
-    c.if-kind-eq-KIND_RANGE.false c.put_pair-2.ensures
+pub returns-in_default : goal.returns-in_default
+returns-in_default c = search (rules, head_other)

@@ -1,13 +1,8 @@
--- `supply_entries::head::put_word` meets its contract: at the output's end the bytes go through an array.
-use mathlib.Core.Path.{sym}
-use Rattle.wire.proofs.Stores.{sets_out}
-use Rattle.supply_entries.proofs.Stores.{put_through}
-use Rattle.protocol.specs.Numbers.{bytes_be}
+-- `supply_entries::head::put_word` meets its contract: at the output's end as many bytes go out as have room.
+use mathlib.Core.Path.{ap, ◌∙◌}
+use lib.Seq.{sets}
+use Rattle.supply_entries.proofs.Stores.{four_bytes}
 use Rattle.supply_entries.proofs.head.put_word.Goals as goal
 
-pub returns-then-out-at : goal.returns-then-out-at
-returns-then-out-at c = sym (sets_out _ _ (bytes_be 4 c.args.v) c.if-out-at.true)
-
-pub returns-then-out-at-lt4 : goal.returns-then-out-at-lt4
-returns-then-out-at-lt4 c =
-    put_through _ _ _ _ _ c.put_u32.ensures c.put_bytes.ensures
+pub returns-else-at-out : goal.returns-else-at-out
+returns-else-at-out c = c.put_bytes.ensures ∙ ap (sets _ _) (c.to_be_bytes.ensures ∙ four_bytes _)

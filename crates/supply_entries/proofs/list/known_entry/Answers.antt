@@ -1,15 +1,12 @@
 -- `supply_entries::list::known_entry` meets its contract: by whether there is an entry, and by its index.
-use mathlib.Core.Path.{sym, ◌∙◌}
-use Rattle.supply_entries.proofs.Entries.{known_short, known_past, known_whole}
+use mathlib.Core.Path.{◌∙◌}
+use Rattle.supply_entries.proofs.Entries.{known_short, known_whole}
 use Rattle.supply_entries.proofs.list.known_entry.Goals as goal
 
-pub returns-in_default : goal.returns-in_default
-returns-in_default c = known_short _ _ _ c.next_entry-read.ensures c.in_default.is
-
-pub returns-then-n-entry : goal.returns-then-n-entry
-returns-then-n-entry c =
-    known_past _ _ _ _ c.next_entry-read.ensures c.in-Whole.is c.if-n-entry.true
+pub returns-in_err-entry : goal.returns-in_err-entry
+returns-in_err-entry c =
+    c.from_residual.ensures ∙ known_short _ _ c.in_err-entry.ensures
 
 pub returns : goal.returns
 returns c =
-    sym c.in-Whole.is ∙ known_whole _ _ _ _ c.next_entry-read.ensures c.in-Whole.is c.if-n-entry.false
+    c.then_some.ensures ∙ known_whole _ _ _ c.in_ok-entry.ensures

@@ -1,13 +1,14 @@
--- `value_heads::element::required` meets its contract, by its one test.
-use borrow.Author.Tests.{eq-eqb, ne_eqb}
+-- `value_heads::element::required` meets its contract, by its two tests.
+use native.Mathlib.Omega.{arith}
+use Rattle.std.proofs.lemmas.Bool.Decides.{nat_tests}
 use Rattle.protocol.specs.Numbers.{pick}
 use Rattle.protocol.specs.Heads.{requires}
 use Rattle.value_heads.proofs.element.required.Goals as goal
 
 pub returns-then-card-eq-CARDINALITY_ONE : goal.returns-then-card-eq-CARDINALITY_ONE
 unfolding requires pick
-returns-then-card-eq-CARDINALITY_ONE c = simp (eq-eqb _ _ c.if-card-eq-CARDINALITY_ONE.true)
+returns-then-card-eq-CARDINALITY_ONE c = grind (arith, nat_tests)
 
-pub returns : goal.returns
+pub returns-else-card-eq-CARDINALITY_ONE : goal.returns-else-card-eq-CARDINALITY_ONE
 unfolding requires pick
-returns c = simp (ne_eqb _ _ c.if-card-eq-CARDINALITY_ONE.false)
+returns-else-card-eq-CARDINALITY_ONE c = grind (arith, nat_tests)

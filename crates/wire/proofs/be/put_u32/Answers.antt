@@ -1,20 +1,12 @@
--- `wire::be::put_u32` meets its contract: the four stores are the four bytes, and a store keeps the length.
+-- `wire::be::put_u32` meets its contract: std's four bytes are the definition's.
+use mathlib.Core.Path.{◌∙◌}
 use native.Mathlib.Omega.{arith}
-use native.Mathlib.Nat.{div-div-eq-div-mul}
-use native.Mathlib.Numerals.{towards_suc}
-use lib.ListN.{length-set}
 use Rattle.protocol.specs.Numbers.{bytes_be}
+use Rattle.wire.proofs.Numbers.{bytes_four, length_bytes}
+use Rattle.wire.proofs.Stores.{part_stored}
 use Rattle.wire.proofs.be.put_u32.Goals as goal
 
-pub bounds-out-at-2 : goal.bounds-out-at-2
-bounds-out-at-2 c = simp length-set (omega arith)
-
-pub bounds-out-at-3 : goal.bounds-out-at-3
-bounds-out-at-3 c = simp length-set (omega arith)
-
-pub bounds-out-at-4 : goal.bounds-out-at-4
-bounds-out-at-4 c = simp length-set (omega arith)
-
 pub returns : goal.returns
-unfolding bytes_be
-returns c = simp (towards_suc, div-div-eq-div-mul)
+returns c =
+    let a = c.args in
+    rw (c.copy_from_slice.ensures.after ∙ c.to_be_bytes.ensures ∙ bytes_four a.v) (part_stored a.out.now (bytes_be 4 a.v) a.at _ (omega (arith, length_bytes 4 a.v)) (omega arith))

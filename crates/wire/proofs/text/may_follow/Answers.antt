@@ -1,31 +1,27 @@
 -- `wire::text::may_follow` meets its contract: the tests are those of `second`, in its order.
-use borrow.Author.Tests.{eq-eqb, ne_eqb}
+use native.Mathlib.Omega.{arith}
+use borrow.Author.Tests.{ne_eqb}
 use Rattle.wire.specs.Scan.{second}
 use Rattle.protocol.specs.Numbers.{pick}
 use Rattle.wire.proofs.text.may_follow.Goals as goal
 
-pub returns-then-b-eq224 : goal.returns-then-b-eq224
+pub returns-in-224 : goal.returns-in-224
 unfolding second pick
-returns-then-b-eq224 c = simp (eq-eqb _ _ c.if-b-eq224.true) c.is_within.ensures
+returns-in-224 c = rw c.in-224.is c.is_within.ensures
 
-pub returns-then-b-eq237 : goal.returns-then-b-eq237
+pub returns-in-237 : goal.returns-in-237
 unfolding second pick
-returns-then-b-eq237 c =
-    simp (ne_eqb _ _ c.if-b-eq224.false, eq-eqb _ _ c.if-b-eq237.true) c.is_within-then-b-eq237.ensures
+returns-in-237 c = rw c.in-237.is c.is_within-in-237.ensures
 
-pub returns-then-b-eq240 : goal.returns-then-b-eq240
+pub returns-in-240 : goal.returns-in-240
 unfolding second pick
-returns-then-b-eq240 c =
-    simp (ne_eqb _ _ c.if-b-eq224.false, ne_eqb _ _ c.if-b-eq237.false, eq-eqb _ _ c.if-b-eq240.true) c.is_within-then-b-eq240.ensures
+returns-in-240 c = rw c.in-240.is c.is_within-in-240.ensures
 
-pub returns-then-b-eq244 : goal.returns-then-b-eq244
+pub returns-in-244 : goal.returns-in-244
 unfolding second pick
-returns-then-b-eq244 c =
-    simp (ne_eqb _ _ c.if-b-eq224.false, ne_eqb _ _ c.if-b-eq237.false, ne_eqb _ _ c.if-b-eq240.false, eq-eqb _ _ c.if-b-eq244.true)
-    c.is_within-then-b-eq244.ensures
+returns-in-244 c = rw c.in-244.is c.is_within-in-244.ensures
 
-pub returns : goal.returns
+pub returns-in_default : goal.returns-in_default
 unfolding second pick
-returns c =
-    simp (ne_eqb _ _ c.if-b-eq224.false, ne_eqb _ _ c.if-b-eq237.false, ne_eqb _ _ c.if-b-eq240.false, ne_eqb _ _ c.if-b-eq244.false)
-    c.is_within-2.ensures
+returns-in_default c =
+    rw (ne_eqb c.args.b 224 (λ e. omega arith), ne_eqb c.args.b 237 (λ e. omega arith), ne_eqb c.args.b 240 (λ e. omega arith), ne_eqb c.args.b 244 (λ e. omega arith)) c.is_within-in_default.ensures

@@ -1,28 +1,27 @@
 -- `wire::text::plain_block` meets its contract. The invariant: `high` is plain where each byte passed is.
 use mathlib.Core.Path.{ap, sym, ◌∙◌}
-use Prim.Native.Nat.{ℕ, ◌+◌, ◌≤◌, ◌<◌, zero-le}
+use Prim.Native.Nat.{ℕ, zero-le}
 use native.Mathlib.Omega.{arith}
 use lib.Dec.{leb}
-use lib.ListN.{drop, get_or}
+use lib.ListN.{drop}
 use borrow.Author.Tests.{le-leb}
+use Rattle.wire.proofs.Numbers.{part_at, part_end}
 use Rattle.wire.proofs.Sequences.{plain_more}
 use Rattle.wire.specs.Scan.{plain_run}
 use Rattle.wire.proofs.text.plain_block.Goals as goal
-use Rattle.wire.proofs.text.plain_block.Goals.{then-high-b, else-high-b}
 
-pub loop-k-init : goal.loop-k-init
-loop-k-init c = (omega arith, sym (le-leb 0 (plain_run (drop c.args.i c.args.s.now)) zero-le))
+pub loop-b-init : goal.loop-b-init
+loop-b-init c = sym (le-leb 0 (plain_run (drop c.args.i c.args.s.now)) zero-le)
 
-pub loop-k-preserved : goal.loop-k-preserved
-loop-k-preserved c =
-    let l = c.loop-k in
+pub loop-b-preserved : goal.loop-b-preserved
+loop-b-preserved c =
+    let l = c.loop-b in
     let a = c.args in
-    let high = c.if-high-b.high in
-    let b = get_or a.s.now (a.i + l.k) 0 in
-    let up : (l.high ≤ high) × (b ≤ high) × (l.high < 0x80 → b < 0x80 → high < 0x80) =
-    elim c.if-high-b.branch [ then-high-b w ↦ (omega arith, omega arith, λ p q. omega arith) | else-high-b w ↦ (omega arith, omega arith, λ p q. omega arith) ]
-    in
-    (omega arith, plain_more a.s.now a.i l.k l.high high (omega arith) l.invariant.1 up.0 up.1 up.2)
+    let p = part_at a.s.now a.i a.n l.b-index c.requires c.loop-b-test.true in
+    plain_more a.s.now a.i l.b-index l.high _ (omega (arith, p.below)) l.invariant (omega (arith, c.max-high.ensures)) (omega (arith, c.max-high.ensures, p.same)) (λ q r. omega (arith, c.max-high.ensures, p.same))
 
 pub returns : goal.returns
-returns c = c.loop-k.invariant.1 ∙ ap (λ (k : ℕ). leb k (plain_run (drop c.args.i c.args.s.now))) (omega arith)
+returns c =
+    let l = c.loop-b in
+    let a = c.args in
+    l.invariant ∙ ap (λ (k : ℕ). leb k (plain_run (drop a.i a.s.now))) (part_end a.s.now a.i a.n l.b-index c.requires l.auto.b-index-end c.loop-b-test.false)

@@ -1,10 +1,6 @@
 -- `wire::text::plain_prefix` meets its contract. The invariant: all bytes up to `i` are plain.
-use Prim.Native.Nat.{◌-◌, ◌≤◌}
 use Rattle.wire.proofs.Sequences.{Plain}
 use Rattle.wire.proofs.text.plain_prefix.Given as goal
 
 abbrev pub invariant-loop-i : goal.invariant-loop-i
-invariant-loop-i l = (l.i ≤ l.end) × (Plain l.s l.from l.i)
-
-abbrev pub decreases-loop-i : goal.decreases-loop-i
-decreases-loop-i l = l.end - l.i
+invariant-loop-i l = Plain l.s l.from l.i

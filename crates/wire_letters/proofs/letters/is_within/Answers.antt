@@ -1,13 +1,13 @@
--- `wire_letters::letters::is_within` meets its contract, by its one test.
+-- `wire_letters::letters::is_within` meets its contract, by its first test.
 use borrow.Author.Tests.{lt-leb, le-leb}
 use Rattle.protocol.specs.Numbers.{pick}
 use Rattle.protocol.specs.Text.{within}
 use Rattle.wire_letters.proofs.letters.is_within.Goals as goal
 
-pub returns-then-b-low : goal.returns-then-b-low
+pub returns-then-low-b : goal.returns-then-low-b
 unfolding within pick
-returns-then-b-low c = simp (lt-leb _ _ c.if-b-low.true)
+returns-then-low-b c = simp (le-leb _ _ c.if-low-b.true)
 
-pub returns : goal.returns
+pub returns-else-low-b : goal.returns-else-low-b
 unfolding within pick
-returns c = simp (le-leb _ _ c.if-b-low.false)
+returns-else-low-b c = simp (lt-leb _ _ c.if-low-b.false)

@@ -5,4 +5,4 @@ use Rattle.wire_letters.proofs.plain.high_at.Goals as goal
 
 pub returns : goal.returns
 returns c =
-    word_highs c.args.s.now c.args.i c.join-low.result c.join-top.result (λ j. omega (arith, c.type_inv.s j)) c.requires c.join-low.ensures c.join-top.ensures
+    word_highs c.args.s.now c.args.i c.from_le_bytes-word.result (λ j. omega (arith, c.type_inv.s j)) c.requires (omega (arith, c.from_le_bytes-word.ensures))

@@ -1,0 +1,27 @@
+-- `c_number::number` meets its contract.
+use mathlib.Core.Path.{sym, ◌∙◌}
+use native.Mathlib.Omega.{arith}
+use Rattle.c_words.proofs.Words.{crosses_most}
+use Rattle.c_find.proofs.Findings.{find_uncrossed, find_lost}
+use Rattle.find_number.proofs.Numbers.{number_refused}
+use Rattle.protocol.specs.Crossing.{number_from}
+use Rattle.c_number.proofs.number.Goals as goal
+
+pub returns-then-not-whole_words : goal.returns-then-not-whole_words
+unfolding number_from
+returns-then-not-whole_words c =
+    rw c.at.ensures (number_refused _ _ _ (find_uncrossed _ _ _ (sym c.whole_words.ensures ∙ c.if-not-whole_words.true)))
+
+pub returns-then-not-whole_words-2 : goal.returns-then-not-whole_words-2
+unfolding number_from
+returns-then-not-whole_words-2 c =
+    number_refused _ _ _
+    (c.find_lost.ensures
+    ∙ find_lost _ _ _ (sym c.whole_words.ensures ∙ c.if-not-whole_words.false)
+    (sym c.whole_words-else-not-whole_words.ensures ∙ c.if-not-whole_words-2.true))
+
+pub number_in-requires-else-few_words : goal.number_in-requires-else-few_words
+number_in-requires-else-few_words c =
+    let a = sym c.whole_words.ensures ∙ c.if-not-whole_words.false in
+    let b = sym c.whole_words-else-not-whole_words.ensures ∙ c.if-not-whole_words-2.false in
+    (a, b, omega (arith, crosses_most _ a, crosses_most _ b))
