@@ -39,8 +39,16 @@ function antt_line(   i, indent, public) {
   }
 }
 
+# The type that a block of methods is of: impl Type {, impl<'a> Type<'a> {, impl Trait for Type {.
+function type_of(line) {
+  sub(/^impl(<[^>]*>)? /, "", line)
+  sub(/^.* for /, "", line)
+  sub(/[^A-Za-z0-9_].*/, "", line)
+  return line
+}
+
 function rt_line(   name) {
-  if ($1 == "impl") impl = "::" $2
+  if ($1 ~ /^impl(<|$)/) impl = "::" type_of($0)
   if ($0 ~ /^}/) impl = ""
   name = $0
   gsub(/^ +|pub |extern "C" /, "", name)
