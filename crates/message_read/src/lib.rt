@@ -14,10 +14,12 @@ use forms::Span;
 use forms::fault::{Fault, Refusal};
 
 // Where a walk over a layout has come: the next byte, and the words of the list so far.
+// Kept as numbers of four bytes, for speed: a refusal has two of these too, so that what a walk answers lies the same way in both cases. With
+// larger ones the compiler joined parts of the two, and each field waited for what had just been stored: twice the time of a message of short fields.
 #[derive(Clone, Copy)]
 struct Reached {
-    at: usize,
-    words: usize,
+    at: u32,
+    words: u32,
 }
 
 // The content after a length.
@@ -102,12 +104,12 @@ impl<'a> Reader<'a> {
         ensures list_after { outcome_of result list.new ≡ led (field_outcome from.at (field_at (judged self.now.judge (field_of code)) self.now.message.now from.at)) from.words list.old }
         ensures within { Within (length self.now.message.now) result }
     {
-        match self.field_at(code, from.at) {
-            Err(fault) => Err(fault.at(from.at as u32)),
+        match self.field_at(code, from.at as usize) {
+            Err(fault) => Err(fault.at(from.at)),
             Ok(field) => {
-                put_pair(list, from.words, field.start, field.len);
+                put_pair(list, from.words as usize, field.start, field.len);
                 Ok(Reached {
-                    at: field.start + field.len,
+                    at: (field.start + field.len) as u32,
                     words: from.words + 2,
                 })
             }
@@ -125,7 +127,7 @@ impl<'a> Reader<'a> {
             return self.field(code, from, list);
         }
         let mut reached = self.field(message_layout::U16, from, list)?;
-        let count = wire::be::u16_at(self.message, from.at);
+        let count = wire::be::u16_at(self.message, from.at as usize);
         let items = usize::from(code - message_layout::RUN);
         for _item in 0..count {
             reached = self.walk(items, reached, list)?;
@@ -162,7 +164,7 @@ pub struct Message {
 
 // Where a message's fields start.
 const BODY: Reached = Reached {
-    at: constants::MESSAGE_HEAD,
+    at: constants::MESSAGE_HEAD as u32,
     words: 0,
 };
 
@@ -178,12 +180,12 @@ fn check_body(m: &[u8], start: usize, scratch: &mut [u32]) -> Result<Message, Re
         judge: true,
     };
     let reached = reader.walk(start, BODY, scratch)?;
-    if reached.at < m.len() {
-        return Err(Fault::BYTES_LEFT.at(reached.at as u32));
+    if (reached.at as usize) < m.len() {
+        return Err(Fault::BYTES_LEFT.at(reached.at));
     }
     Ok(Message {
-        used: reached.at as u32,
-        words: reached.words as u32,
+        used: reached.at,
+        words: reached.words,
     })
 }
 

@@ -19,14 +19,6 @@ pub returns-then-reached-m : goal.returns-then-reached-m
 unfolding judged_all
 returns-then-reached-m c = rw c.at.ensures (body_left _ _ _ _ _ c.in_ok-reached.ensures.list_after c.if-reached-m.true)
 
-pub overflow_cast-result : goal.overflow_cast-result
-unfolding Within
-overflow_cast-result c = omega (arith, c.in_ok-reached.ensures.within, c.requires)
-
-pub overflow_cast-result-2 : goal.overflow_cast-result-2
-unfolding Within
-overflow_cast-result-2 c = omega (arith, c.in_ok-reached.ensures.within, c.requires)
-
 pub returns : goal.returns
 unfolding judged_all
 returns c = body_whole _ _ _ _ _ c.in_ok-reached.ensures.list_after c.if-reached-m.false

@@ -15,6 +15,10 @@ pub put_pair-requires : goal.put_pair-requires
 unfolding Inside Within
 put_pair-requires c = omega (arith, c.requires, c.in-Ok.ensures.inside)
 
+pub overflow_cast-result : goal.overflow_cast-result
+unfolding Inside
+overflow_cast-result c = omega (arith, c.requires, c.in-Ok.ensures.inside)
+
 pub overflow_add-result : goal.overflow_add-result
 unfolding Inside
 overflow_add-result c = omega (arith, c.requires, c.in-Ok.ensures.inside)
