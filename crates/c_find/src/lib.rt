@@ -14,18 +14,19 @@ use forms::fault::{Fault, Refusal};
 // The most words of a plan and a path together.
 pub const BOTH: usize = 2 * constants::MOST_WORDS;
 
-// What is found by a plan and a path that cross, in scratch room for the words of both.
-fn find_in<'v>(
+// What is found by a plan and a path that cross, in room of its own for N words, those of both. The room is made here and not by the caller, so
+// that the two sizes of it share their place on the stack.
+fn find_crossed<'v, const N: usize>(
     plan: &[u8],
     value: &'v [u8],
     path: &[u8],
-    scratch: &mut [u32],
 ) -> Result<Found<'v>, Refusal>
-    requires { (crosses (length plan.now) ≡ true) × (crosses (length path.now) ≡ true) × (length plan.now + length path.now ≤ 4 * length scratch.old) }
+    requires { (crosses (length plan.now) ≡ true) × (crosses (length path.now) ≡ true) × (length plan.now + length path.now ≤ 4 * N) × (N ≤ 16384) }
     ensures { outcome result ≡ find_from plan.now value.now path.now }
 {
-    c_words::take_both(plan, path, scratch);
-    let words = &scratch[..];
+    let mut room = [0u32; N];
+    c_words::take_both(plan, path, &mut room);
+    let words = &room[..];
     let n = plan.len() / 4;
     find_path::find(&words[..n], value, &words[n..n + path.len() / 4])
 }
@@ -52,9 +53,9 @@ fn find<'v>(plan: &[u8], value: &'v [u8], path: &[u8]) -> Result<Found<'v>, Refu
     } else if !c_words::whole_words(path.len()) {
         Err(find_lost(plan, value))
     } else if c_words::few_words(plan.len(), path.len()) {
-        find_in(plan, value, path, &mut [0u32; c_words::FEW])
+        find_crossed::<{ c_words::FEW }>(plan, value, path)
     } else {
-        find_in(plan, value, path, &mut [0u32; BOTH])
+        find_crossed::<BOTH>(plan, value, path)
     }
 }
 

@@ -44,18 +44,18 @@ fn number_answer(number: Result<find_number::Number, Refusal>) -> Number
     }
 }
 
-// The number by a plan and a path that cross, in scratch room for the words of both.
-fn number_in(
+// The number by a plan and a path that cross, in room of its own for N words, those of both.
+fn number_crossed<const N: usize>(
     plan: &[u8],
     value: &[u8],
     path: &[u8],
-    scratch: &mut [u32],
 ) -> Result<find_number::Number, Refusal>
-    requires { (crosses (length plan.now) ≡ true) × (crosses (length path.now) ≡ true) × (length plan.now + length path.now ≤ 4 * length scratch.old) }
+    requires { (crosses (length plan.now) ≡ true) × (crosses (length path.now) ≡ true) × (length plan.now + length path.now ≤ 4 * N) × (N ≤ 16384) }
     ensures { Gives (number_from plan.now value.now path.now) result }
 {
-    c_words::take_both(plan, path, scratch);
-    let words = &scratch[..];
+    let mut room = [0u32; N];
+    c_words::take_both(plan, path, &mut room);
+    let words = &room[..];
     let n = plan.len() / 4;
     find_number::find_number(&words[..n], value, &words[n..n + path.len() / 4])
 }
@@ -69,9 +69,9 @@ fn number(plan: &[u8], value: &[u8], path: &[u8]) -> Result<find_number::Number,
     } else if !c_words::whole_words(path.len()) {
         Err(c_find::find_lost(plan, value))
     } else if c_words::few_words(plan.len(), path.len()) {
-        number_in(plan, value, path, &mut [0u32; c_words::FEW])
+        number_crossed::<{ c_words::FEW }>(plan, value, path)
     } else {
-        number_in(plan, value, path, &mut [0u32; c_find::BOTH])
+        number_crossed::<{ c_find::BOTH }>(plan, value, path)
     }
 }
 

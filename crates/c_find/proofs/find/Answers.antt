@@ -18,8 +18,8 @@ returns-then-not-whole_words-2 c =
     ∙ find_lost _ _ _ (sym c.whole_words.ensures ∙ c.if-not-whole_words.false)
     (sym c.whole_words-else-not-whole_words.ensures ∙ c.if-not-whole_words-2.true)
 
-pub find_in-requires-else-few_words : goal.find_in-requires-else-few_words
-find_in-requires-else-few_words c =
+pub find_crossed-requires-else-few_words : goal.find_crossed-requires-else-few_words
+find_crossed-requires-else-few_words c =
     let a = sym c.whole_words.ensures ∙ c.if-not-whole_words.false in
     let b = sym c.whole_words-else-not-whole_words.ensures ∙ c.if-not-whole_words-2.false in
-    (a, b, omega (arith, crosses_most _ a, crosses_most _ b))
+    (a, b, omega (arith, crosses_most _ a, crosses_most _ b), omega arith)
