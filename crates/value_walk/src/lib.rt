@@ -109,9 +109,9 @@ fn walk_container(
     ensures { (walk_of result list.new ≡ led (value_of (look plan.now) node index base part.now) at list.old)
         × (Within (base + length part.now) result) }
 {
-    let opening = match node::open_node(plan, node, kind, part) {
-        Ok(opening) => opening,
-        Err(fault) => return Err(fault.at(base as u32)),
+    let opened = node::open_node(plan, node, kind, part);
+    let Ok(opening) = opened else {
+        return Err(opened.unwrap_err().at(base as u32));
     };
     let Opening {
         count,
@@ -158,9 +158,9 @@ fn walk_row(
     let mut run = value_leaves::walk_leaves(plan, node, count, first, base, from, part, list, at);
     while 0 < run.left {
         let i = end - run.left;
-        let head = match node::row_head(plan, node, kind, part, i, run.pos) {
-            Ok(head) => head,
-            Err(fault) => return Err(fault.at(base as u32)),
+        let read = node::row_head(plan, node, kind, part, i, run.pos);
+        let Ok(head) = read else {
+            return Err(read.unwrap_err().at(base as u32));
         };
         let next = walk_member(plan, needs, node, base, part, head, run.pos, list, run.at)?;
         let after = value_heads::parts::end_of(head);
@@ -196,18 +196,18 @@ fn walk_sparse(
     let mut pos = run.pos;
     let mut to = run.at;
     for _ in 0..run.left {
-        let i = match node::index_at(plan, node, part, pos) {
-            Ok(i) => i,
-            Err(fault) => return Err(fault.at(base as u32)),
+        let index = node::index_at(plan, node, part, pos);
+        let Ok(i) = index else {
+            return Err(index.unwrap_err().at(base as u32));
         };
         seen = seen.mark(i);
         if seen.twice {
             return Err(Fault::INDEX_TWICE.at(base as u32));
         }
         given = node::count_given(plan, node, i, given);
-        let head = match node::sparse_head(plan, node, part, i, pos) {
-            Ok(head) => head,
-            Err(fault) => return Err(fault.at(base as u32)),
+        let read = node::sparse_head(plan, node, part, i, pos);
+        let Ok(head) = read else {
+            return Err(read.unwrap_err().at(base as u32));
         };
         to = walk_member(plan, needs, node, base, part, head, pos, list, to)?;
         pos = value_heads::parts::end_of(head);
@@ -235,21 +235,20 @@ fn walk_member(
         ≡ led (element_outcome (value_of (look plan.now)) (ref_at (look plan.now node)) base part.now (Ok head)) at list.old)
         × (WithinHead base head result) }
 {
-    match head {
-        Head::Absent { index, start } => {
-            let node = plan_nodes::node::ref_of(plan, node, index);
-            Ok(walk_absent(node, index, base + start, list, at))
-        }
-        Head::Present { index, start, size } => {
-            let child = plan_nodes::node::ref_of(plan, node, index);
-            let kind = plan_nodes::node::kind_at(plan, child);
-            let end = start + size;
-            let bytes = &part[start..end];
-            let place = base + start;
-            if node::is_leaf(kind) {
-                return walk_leaf(plan, child, kind, index, place, bytes, list, at);
-            }
-            walk_value(plan, needs, child, index, place, bytes, list, at)
-        }
+    let Head::Present { index, start, size } = head else {
+        let Head::Absent { index, start } = head else {
+            unreachable!();
+        };
+        let node = plan_nodes::node::ref_of(plan, node, index);
+        return Ok(walk_absent(node, index, base + start, list, at));
+    };
+    let child = plan_nodes::node::ref_of(plan, node, index);
+    let kind = plan_nodes::node::kind_at(plan, child);
+    let end = start + size;
+    let bytes = &part[start..end];
+    let place = base + start;
+    if node::is_leaf(kind) {
+        return walk_leaf(plan, child, kind, index, place, bytes, list, at);
     }
+    walk_value(plan, needs, child, index, place, bytes, list, at)
 }

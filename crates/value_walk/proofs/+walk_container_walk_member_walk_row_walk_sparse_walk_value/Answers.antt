@@ -21,10 +21,10 @@ use Rattle.protocol.specs.Values.{row_form, sparse_form}
 use Rattle.protocol.specs.Plans.{look, cards_at}
 use Rattle.value_walk.proofs.+walk_container_walk_member_walk_row_walk_sparse_walk_value.Goals as goal
 
-pub walk_container-returns-in-Err : goal.walk_container-returns-in-Err
+pub walk_container-returns-in_default : goal.walk_container-returns-in_default
 unfolding walk_of
-walk_container-returns-in-Err t c = (
-  rw c.at.ensures (value_wrong _ _ c.requires.0 _ c.requires.5 _ _ _ _ _ _ c.open_node.ensures _ c.in-Err.is),
+walk_container-returns-in_default t c = (
+  rw c.at.ensures (value_wrong _ _ c.requires.0 _ c.requires.5 _ _ _ _ _ _ c.open_node-opened.ensures _ c.unwrap_err.ensures),
   refused_within _ _ _ refl,
 )
 
@@ -62,7 +62,7 @@ walk_container-returns-then-run t c =
       rw c.at-then-run.ensures (sym (gathers_stop _ _ _ _ _ _ _ _ _ _ _ _ _ _ _ c.sparse_leaves-run.ensures c.if-run.true)
           ∙ value_sparse _ _
           c.requires.0 _ k _ _ _ _ _ _
-          c.open_node.ensures _ c.in-Ok.is _
+          c.open_node-opened.ensures _ c.in-Ok.is _
           c.put_entry.ensures
           (sym c.requires.5.is
           ∙ c.if-kind-eq-KIND_INPUT_OBJECT.true)),
@@ -78,7 +78,7 @@ walk_container-returns-then-kind-eq-KIND_INPUT_OBJECT t c =
           ∙ value_sparse _ _
           c.requires.0
           _ k _ _ _ _ _ _
-          c.open_node.ensures _ c.in-Ok.is _
+          c.open_node-opened.ensures _ c.in-Ok.is _
           c.put_entry.ensures
           (sym c.requires.5.is
           ∙ c.if-kind-eq-KIND_INPUT_OBJECT.true),
@@ -115,7 +115,7 @@ walk_container-returns t c =
       c.walk_row.ensures.0
           ∙ value_row _ _
           c.requires.0 _ k _ _ _ _ _ _
-          c.open_node.ensures _ c.in-Ok.is _
+          c.open_node-opened.ensures _ c.in-Ok.is _
           c.put_entry.ensures
           (λ e. c.if-kind-eq-KIND_INPUT_OBJECT.false
           (c.requires.5.is ∙ e)),
@@ -125,17 +125,17 @@ walk_container-returns t c =
 pub walk_member-ref_of-node-requires : goal.walk_member-ref_of-node-requires
 walk_member-ref_of-node-requires t c = (
   c.requires.0,
-  (absent_in _ _ _ _ c.requires.2 _ _ c.in-Absent.is).0,
+  (absent_in _ _ _ _ c.requires.2 _ _ (c.in_default.is ∙ c.in-Absent.is)).0,
 )
 
 pub walk_member-overflow_add-base : goal.walk_member-overflow_add-base
 walk_member-overflow_add-base t c =
-    let f = absent_in _ _ _ _ c.requires.2 _ _ c.in-Absent.is in
+    let f = absent_in _ _ _ _ c.requires.2 _ _ (c.in_default.is ∙ c.in-Absent.is) in
     omega (arith, f.2, c.requires.1)
 
 pub walk_member-walk_absent-requires : goal.walk_member-walk_absent-requires
 walk_member-walk_absent-requires t c =
-    let f = absent_in _ _ _ _ c.requires.2 _ _ c.in-Absent.is in
+    let f = absent_in _ _ _ _ c.requires.2 _ _ (c.in_default.is ∙ c.in-Absent.is) in
     let r = at_ref _ _ _ _ c.requires.0 c.ref_of-node.ensures in (
       r.0.small,
       f.3,
@@ -149,11 +149,11 @@ walk_member-walk_absent-requires t c =
       ),
     )
 
-pub walk_member-returns-in-Absent : goal.walk_member-returns-in-Absent
-walk_member-returns-in-Absent t c = (
-  c.walk_absent.ensures.list_after ∙ member_absent _ _ _ _ _ _ _ _ _ _ c.ref_of-node.ensures c.in-Absent.is,
-  within_absent _ _ _ _ _ _ _ (ap Ok c.walk_absent.ensures.within) c.in-Absent.is
-      (absent_in _ _ _ _ c.requires.2 _ _ c.in-Absent.is).1 c.requires.3,
+pub walk_member-returns-in_default : goal.walk_member-returns-in_default
+walk_member-returns-in_default t c = (
+  c.walk_absent.ensures.list_after ∙ member_absent _ _ _ _ _ _ _ _ _ _ c.ref_of-node.ensures (c.in_default.is ∙ c.in-Absent.is),
+  within_absent _ _ _ _ _ _ _ (ap Ok c.walk_absent.ensures.within) (c.in_default.is ∙ c.in-Absent.is)
+      (absent_in _ _ _ _ c.requires.2 _ _ (c.in_default.is ∙ c.in-Absent.is)).1 c.requires.3,
 )
 
 pub walk_member-ref_of-child-requires : goal.walk_member-ref_of-child-requires
@@ -235,8 +235,8 @@ walk_member-walk_value-requires t c =
       ),
     )
 
-pub walk_member-returns-else-is_leaf : goal.walk_member-returns-else-is_leaf
-walk_member-returns-else-is_leaf t c = (
+pub walk_member-returns : goal.walk_member-returns
+walk_member-returns t c = (
   c.walk_value.ensures.0
       ∙ member_present _ _ _ _ _ _ _ _ _ _ c.ref_of-child.ensures _
       c.in-Present.is,
@@ -248,8 +248,8 @@ walk_member-returns-else-is_leaf t c = (
       c.walk_value.ensures.1,
 )
 
-pub walk_row-row_head-requires : goal.walk_row-row_head-requires
-walk_row-row_head-requires t c = (
+pub walk_row-row_head-read-requires : goal.walk_row-row_head-read-requires
+walk_row-row_head-read-requires t c = (
   c.requires.0,
   same_kind _ _ _ _ c.requires.1 c.kind_at-kind.ensures.is,
   (λ e. c.requires.2 (sym c.kind_at-kind.ensures.is ∙ e)),
@@ -258,9 +258,9 @@ walk_row-row_head-requires t c = (
   c.loop-run.invariant.1,
 )
 
-pub walk_row-returns-in-Err : goal.walk_row-returns-in-Err
-walk_row-returns-in-Err t c = (
-  turn_fault _ (single (look c.args.plan.now)) _ _ _ (row_form (look c.args.plan.now c.args.node) c.args.part.now) _ c.loop-run.run.pos _ _ _ c.loop-run-test.true _ (sym c.in-Err.ensures) _ (ap Err c.at.ensures)
+pub walk_row-returns-in_default : goal.walk_row-returns-in_default
+walk_row-returns-in_default t c = (
+  turn_fault _ (single (look c.args.plan.now)) _ _ _ (row_form (look c.args.plan.now c.args.node) c.args.part.now) _ c.loop-run.run.pos _ _ _ c.loop-run-test.true _ (sym c.row_head-read.ensures ∙ c.unwrap_err.ensures) _ (ap Err c.at.ensures)
       ∙ sym c.loop-run.invariant.4
       ∙ sym c.walk_leaves-run.ensures.leads,
   refused_within _ _ _ refl,
@@ -325,13 +325,13 @@ walk_row-returns t c = (
 pub walk_sparse-loop-init : goal.walk_sparse-loop-init
 walk_sparse-loop-init t c = (c.requires.3, c.requires.4, refl, rw sub-zero refl, c.requires.6)
 
-pub walk_sparse-index_at-requires : goal.walk_sparse-index_at-requires
-walk_sparse-index_at-requires t c = (c.requires.0, c.requires.1, c.loop.invariant.0)
+pub walk_sparse-index_at-index-requires : goal.walk_sparse-index_at-index-requires
+walk_sparse-index_at-index-requires t c = (c.requires.0, c.requires.1, c.loop.invariant.0)
 
-pub walk_sparse-returns-in-Err : goal.walk_sparse-returns-in-Err
-walk_sparse-returns-in-Err t c = (
+pub walk_sparse-returns-in_default : goal.walk_sparse-returns-in_default
+walk_sparse-returns-in_default t c = (
   turn_fault _ (single (look c.args.plan.now)) _ _ _ (sparse_form (cards_at c.args.plan.now c.args.node) c.args.part.now) c.loop.seen.marks c.loop.pos _ _ _ (omega (arith, c.loop-test.true)) _
-      (head_bad _ _ _ _ _ (sym (cards_length _ _)) _ c.in-Err.ensures) _ (ap Err c.at.ensures)
+      (head_bad _ _ _ _ _ (sym (cards_length _ _)) _ (sym c.unwrap_err.ensures ∙ c.index_at-index.ensures)) _ (ap Err c.at.ensures)
       ∙ sym c.loop.invariant.3,
   refused_within _ _ _ refl,
 )
@@ -352,16 +352,16 @@ pub walk_sparse-count_given-given-requires : goal.walk_sparse-count_given-given-
 walk_sparse-count_given-given-requires t c =
     (c.requires.0, c.requires.1, (known_in _ _ c.requires.0 c.requires.1 _ _ _ _ refl c.in-Ok.ensures c.loop.invariant.0).0, counted_few _ _ _ _ c.loop.invariant.4 c.requires.0 c.requires.1)
 
-pub walk_sparse-sparse_head-requires : goal.walk_sparse-sparse_head-requires
-walk_sparse-sparse_head-requires t c =
+pub walk_sparse-sparse_head-read-requires : goal.walk_sparse-sparse_head-read-requires
+walk_sparse-sparse_head-read-requires t c =
     let i = known_in _ _ c.requires.0 c.requires.1 _ _ _ _ refl c.in-Ok.ensures c.loop.invariant.0 in
     (c.requires.0, c.requires.1, i.0, i.2)
 
-pub walk_sparse-returns-in-Err-sparse_head : goal.walk_sparse-returns-in-Err-sparse_head
-walk_sparse-returns-in-Err-sparse_head t c = (
+pub walk_sparse-returns-in_default-read : goal.walk_sparse-returns-in_default-read
+walk_sparse-returns-in_default-read t c = (
   turn_fault _ (single (look c.args.plan.now)) _ _ _ (sparse_form (cards_at c.args.plan.now c.args.node) c.args.part.now) c.loop.seen.marks c.loop.pos _ _ _ (omega (arith, c.loop-test.true)) _
-      (sym (sparse_new _ _ c.requires.0 c.requires.1 _ _ _ _ refl c.in-Ok.ensures c.loop.seen.marks (sym c.mark-seen.ensures.0 ∙ c.if-seen.false) _ c.in-Err-sparse_head.ensures)) _
-      (ap Err c.at-in-Err-sparse_head.ensures)
+      (sym (sparse_new _ _ c.requires.0 c.requires.1 _ _ _ _ refl c.in-Ok.ensures c.loop.seen.marks (sym c.mark-seen.ensures.0 ∙ c.if-seen.false) _ (sym c.unwrap_err-in_default-read.ensures ∙ c.sparse_head-read.ensures))) _
+      (ap Err c.at-in_default-read.ensures)
       ∙ sym c.loop.invariant.3,
   refused_within _ _ _ refl,
 )
@@ -369,12 +369,12 @@ walk_sparse-returns-in-Err-sparse_head t c = (
 pub walk_sparse-walk_member-requires : goal.walk_sparse-walk_member-requires
 walk_sparse-walk_member-requires t c = (
   omega (arith, c.decreases),
-  (c.requires.0, c.requires.2, (sparse_turn _ _ c.requires.0 c.requires.1 _ _ _ _ refl c.in-Ok.ensures c.loop.seen.marks (sym c.mark-seen.ensures.0 ∙ c.if-seen.false) _ c.in-Ok-sparse_head.ensures c.loop.invariant.0).inside, c.loop.invariant.1, c.requires.5),
+  (c.requires.0, c.requires.2, (sparse_turn _ _ c.requires.0 c.requires.1 _ _ _ _ refl c.in-Ok.ensures c.loop.seen.marks (sym c.mark-seen.ensures.0 ∙ c.if-seen.false) _ c.in-Ok-read.ensures c.loop.invariant.0).inside, c.loop.invariant.1, c.requires.5),
 )
 
 pub walk_sparse-returns-in_err-to : goal.walk_sparse-returns-in_err-to
 walk_sparse-returns-in_err-to t c =
-    let r = sparse_turn _ _ c.requires.0 c.requires.1 _ _ _ _ refl c.in-Ok.ensures c.loop.seen.marks (sym c.mark-seen.ensures.0 ∙ c.if-seen.false) _ c.in-Ok-sparse_head.ensures c.loop.invariant.0 in
+    let r = sparse_turn _ _ c.requires.0 c.requires.1 _ _ _ _ refl c.in-Ok.ensures c.loop.seen.marks (sym c.mark-seen.ensures.0 ∙ c.if-seen.false) _ c.in-Ok-read.ensures c.loop.invariant.0 in
     let p = err_from_is_err_and c.from_residual.result c.from_residual.ensures.1 in
     rw (p.1, p.2) (
       turn_stop _ (single (look c.args.plan.now)) _ _ _ (sparse_form (cards_at c.args.plan.now c.args.node) c.args.part.now) c.loop.seen.marks c.loop.pos _ _ _ (omega (arith, c.loop-test.true)) _ r.is _ _ c.in_err-to.ensures.0 _ refl ∙ sym c.loop.invariant.3,
@@ -383,14 +383,14 @@ walk_sparse-returns-in_err-to t c =
 
 pub walk_sparse-end_of-pos-requires : goal.walk_sparse-end_of-pos-requires
 walk_sparse-end_of-pos-requires t c =
-    let r = sparse_turn _ _ c.requires.0 c.requires.1 _ _ _ _ refl c.in-Ok.ensures c.loop.seen.marks (sym c.mark-seen.ensures.0 ∙ c.if-seen.false) _ c.in-Ok-sparse_head.ensures c.loop.invariant.0 in
+    let r = sparse_turn _ _ c.requires.0 c.requires.1 _ _ _ _ refl c.in-Ok.ensures c.loop.seen.marks (sym c.mark-seen.ensures.0 ∙ c.if-seen.false) _ c.in-Ok-read.ensures c.loop.invariant.0 in
     omega (arith, end_in _ _ _ _ r.inside, c.requires.2)
 
 pub walk_sparse-loop-preserved : goal.walk_sparse-loop-preserved
 walk_sparse-loop-preserved t c =
     let i = known_in _ _ c.requires.0 c.requires.1 _ _ _ _ refl c.in-Ok.ensures c.loop.invariant.0 in
     let w = reached_in _ _ _ _ refl c.in_ok-to.ensures.1 in
-    let r = sparse_turn _ _ c.requires.0 c.requires.1 _ _ _ _ refl c.in-Ok.ensures c.loop.seen.marks (sym c.mark-seen.ensures.0 ∙ c.if-seen.false) _ c.in-Ok-sparse_head.ensures c.loop.invariant.0 in
+    let r = sparse_turn _ _ c.requires.0 c.requires.1 _ _ _ _ refl c.in-Ok.ensures c.loop.seen.marks (sym c.mark-seen.ensures.0 ∙ c.if-seen.false) _ c.in-Ok-read.ensures c.loop.invariant.0 in
     let z : c.args.run.left - (c.loop.counter + 1) ≡ c.args.run.left - c.loop.counter - 1 = omega arith in (
       rw c.end_of-pos.ensures (end_in _ _ _ _ r.inside),
       rw c.end_of-pos.ensures w,
