@@ -68,15 +68,22 @@ module _ (p : List ℕ) (k kind : ℕ) (c : Container p k kind) (i n : ℕ) wher
   head_length =
       by_kind p k kind c (λ m v. length (head_bytes v i n) ≡ head_size m) (length_bytes 4 n) envelope reserved reserved (pair i n) (length_bytes 4 n)
 
-pub size_few : (kind : ℕ) → head_size kind ≤ 16
+-- a head has from 4 to 16 bytes
+size_between : (kind : ℕ) → (4 ≤ head_size kind) × (head_size kind ≤ 16)
 unfolding head_size pick
-size_few kind = go (eqb kind 3) (eqb kind 2) (eqb kind 7)
+size_between kind = go (eqb kind 3) (eqb kind 2) (eqb kind 7)
   where
-    go : (a b c : Bool) → pick a 16 (pick b 4 (pick c 4 8)) ≤ 16
-    go true b c = omega arith
-    go false true c = omega arith
-    go false false true = omega arith
-    go false false false = omega arith
+    go : (a b c : Bool) → (4 ≤ pick a 16 (pick b 4 (pick c 4 8))) × (pick a 16 (pick b 4 (pick c 4 8)) ≤ 16)
+    go true b c = (omega arith, omega arith)
+    go false true c = (omega arith, omega arith)
+    go false false true = (omega arith, omega arith)
+    go false false false = (omega arith, omega arith)
+
+pub size_some : (kind : ℕ) → 4 ≤ head_size kind
+size_some kind = (size_between kind).0
+
+pub size_few : (kind : ℕ) → head_size kind ≤ 16
+size_few kind = (size_between kind).1
 
 -- ---- an element that may be absent
 

@@ -1,11 +1,11 @@
 -- The laws of stores that come before others in the output and after them in time.
 use mathlib.Core.Path.{◌≡◌, refl, ap, sym, ◌∙◌}
-use mathlib.Core.List.{List, [], ◌∷◌, ◌++◌, append_assoc}
+use mathlib.Core.List.{List, [], ◌∷◌, ◌++◌, append-nil, append_assoc}
 use Prim.Native.Nat.{ℕ, suc, ◌+◌, ◌/◌, ◌%◌, ◌<◌}
 use native.Mathlib.Omega.{arith}
 use native.Mathlib.Nat.{add-zero, div-div-eq-div-mul}
-use lib.ListN.{length, set, length-append}
-use lib.Seq.{sets, set_comm}
+use lib.ListN.{length, set, drop, length-append, drop_of_length-le}
+use lib.Seq.{sets, set_comm, sets-eq}
 use Rattle.wire.proofs.Numbers.{length_bytes}
 use Rattle.wire.proofs.Stores.{sets_append}
 use Rattle.protocol.specs.Numbers.{bytes_be}
@@ -29,6 +29,12 @@ sets_before l k (h ∷ hs) bs =
 pub put_after : (n : ℕ) (l l' l'' : List ℕ) (at : ℕ) (fs bs : List ℕ) → length fs ≡ n → l' ≡ sets l at fs → l'' ≡ sets l' (at + n) bs → l'' ≡ sets l at (fs ++ bs)
 put_after n l l' l'' at fs bs e f g =
     g ∙ ap (λ (k : List ℕ). sets k (at + n) bs) f ∙ ap (λ (k : ℕ). sets (sets l at fs) (at + k) bs) (sym e) ∙ sets_append l at fs bs
+
+-- stores that fill a list
+pub sets_all : (l vs : List ℕ) → length l ≡ length vs → sets l 0 vs ≡ vs
+sets_all l vs e =
+    let d : drop (0 + length vs) l ≡ [] = drop_of_length-le l {i = 0 + length vs} (omega arith) in
+    sets-eq vs l 0 (omega arith) ∙ ap (λ (k : List ℕ). vs ++ k) d ∙ append-nil vs
 
 -- a number of four bytes, or two, and what comes after
 pub put_four : (l l' l'' : List ℕ) (at a : ℕ) (bs : List ℕ) → l' ≡ sets l at (bytes_be 4 a) → l'' ≡ sets l' (at + 4) bs → l'' ≡ sets l at (bytes_be 4 a ++ bs)
